@@ -1,0 +1,36 @@
+use Rattle.maps.proofs.Laws.{there-yes, there-no-member, there-no-chunk}
+use Rattle.maps.specs.Map.{dirty}
+use Rattle.laws.specs.Words.{bit}
+use native.Mathlib.Omega.{arith}
+use borrow.Author.Needs.{needs}
+use Rattle.maps.proofs.dirty_bit.Statement.{statement}
+use Rattle.maps.proofs.dirty_bit.Tie as tie
+
+returns : tie.Need-returns
+unfolding dirty
+returns c = rw (there-no-member (c .before .before .args .m) (c .before .before .args .c) (c .if1 .taken))
+
+returns-2 : tie.Need-returns-2
+unfolding dirty
+returns-2 c = rw (there-no-chunk (c .before .before .before .args .m) (c .before .before .before .args .c) (c .if2 .taken))
+
+place-requires : tie.Need-place-requires
+place-requires c κs = search needs
+
+get-requires : tie.Need-get-requires
+get-requires c κs = search needs
+
+cast-result : tie.Need-cast-result
+cast-result c = search needs
+
+shr-result : tie.Need-shr-result
+shr-result c = search needs
+
+returns-3 : tie.Need-returns-3
+unfolding dirty bit
+returns-3 c = let a = c .before .before .before .before .before .args in rw (there-yes (a .m) (a .c) (omega arith) (omega arith), c .get .ensures, c .before .place .ensures)
+
+pub dirty-bit-spec : {M : Type 1} → statement M
+dirty-bit-spec =
+    tie.close
+    (tie.spec returns returns-2 place-requires get-requires cast-result shr-result returns-3)
