@@ -1,0 +1,82 @@
+// How every client event ends.
+ghost use mathlib.Core.Path.{_≡_};
+ghost use Rattle.exits.specs.Exit.{refused, numberOf, accepted, triedAfter, haltedIf};
+use state::Answer;
+use state::Effect;
+use state::Message;
+use state::Outcome;
+use state::Pool;
+use state::Sent;
+use state::Told;
+use state::Turn;
+
+pub fn refuse(p: Pool, n: u64) -> Turn
+    ensures { λ r. ⌜ r ≡ refused p n ⌝ }
+{
+    Turn {
+        answer: Answer::Refused(n),
+        pool: p,
+        effect: Effect::Keep,
+    }
+}
+
+fn number_of(m: Message, n: u32) -> u32
+    ensures { λ r. ⌜ r ≡ numberOf m n ⌝ }
+{
+    match m {
+        Message::Nothing => 0,
+        Message::GetVersion(to) => n,
+        Message::Ready(to, keep) => n,
+        Message::Send(from, to) => n,
+        Message::Done(to, enable, version, members) => n,
+        Message::LastIo(to, chosen) => n,
+        Message::Enable(to, version, members) => n,
+        Message::Leave(to, mode) => n,
+        Message::Info(to, op, member) => n,
+    }
+}
+
+// The one exit of every accepted event.
+pub fn accept(
+    before: Pool,
+    after: Pool,
+    outcome: Outcome,
+    told: Told,
+    awaited: Message,
+    effect: Effect,
+) -> Turn
+    ensures { λ r. ⌜ r ≡ accepted before after outcome told awaited effect ⌝ }
+{
+    let number = number_of(awaited, after.number);
+    let sent = Sent {
+        outcome: outcome,
+        told: told,
+        awaited: awaited,
+        number: number,
+    };
+    Turn {
+        answer: Answer::Done(sent),
+        pool: after,
+        effect: effect,
+    }
+}
+
+// The same, recovery being tried after it.
+pub fn try_after(before: Pool, after: Pool, outcome: Outcome, told: Told) -> Turn
+    ensures { λ r. ⌜ r ≡ triedAfter before after outcome told ⌝ }
+{
+    let tried = recovery::try_recovery(after);
+    let next = tried.pool;
+    let awaited = tried.awaited;
+    accept(before, next, outcome, told, awaited, Effect::Keep)
+}
+
+// A removal whose awaited peer is lost halts.
+pub fn halt_if(lost: bool, p: Pool) -> Pool
+    ensures { λ r. ⌜ r ≡ haltedIf lost p ⌝ }
+{
+    if lost {
+        return recovery::end(p);
+    }
+    p
+}

@@ -1,0 +1,68 @@
+-- The awaited message of a job: its sending, the end of a job, recovery tried.
+use mathlib.Core.Bool.{Bool, true, false}
+use Prim.Native.Nat.{ℕ, _+_, _%_}
+use lib.Dec.{eqb}
+use Rattle.laws.specs.Words.{pick}
+use Rattle.state.specs.declared.Roster.{Roster}
+use Rattle.state.specs.declared.Run.{Run}
+use Rattle.state.specs.declared.Job.{Job}
+use Rattle.state.specs.declared.Pool.{Pool}
+use Rattle.state.specs.declared.Message.{Message}
+use Rattle.state.specs.declared.Told.{Told}
+use Rattle.run.specs.declared.Who.{Who}
+use Rattle.run.specs.declared.Next.{Next}
+use Rattle.run.specs.Run.{awaitedIn}
+use Rattle.recovery.specs.declared.Posted.{Posted}
+use Rattle.recovery.specs.Cases.{begun}
+
+-- Awaited messages are numbered from 1, modulo 2^32: one counter for runs and removals, never restarted.
+abbrev pub nextNumber : ℕ → ℕ
+nextNumber n = (n + 1) % 4294967296
+
+-- the pool with these sessions
+abbrev pub withRoster : Pool → Roster → Pool
+withRoster p ro = record { roster = ro; job = p .job; number = p .number; chunks = p .chunks }
+
+-- The awaited message of a job is sent: the one place where a message is numbered.
+unfoldable pub posted : Pool → Job → Message → Posted
+posted p j m =
+    record {
+      pool = record { roster = p .roster; job = j; number = nextNumber (p .number); chunks = p .chunks };
+      awaited = m;
+    }
+
+-- nothing is sent, and nothing changes
+abbrev pub quiet : Pool → Posted
+quiet p = record { pool = p; awaited = Message.Nothing }
+
+-- No job is in hand any more: the one end of every run, finished, failed or cut off, and of every removal.
+abbrev pub over : Pool → Pool
+over p = record { roster = p .roster; job = Job.Idle; number = p .number; chunks = p .chunks }
+
+-- a run sends the message that it awaits
+abbrev pub sentBy : Pool → Run → Posted
+sentBy p r = posted p (Job.Running r) (awaitedIn (p .roster .members) (p .roster .version) r)
+
+-- a run goes on, or is over
+abbrev pub goneOn : Next → Pool → Posted
+goneOn Next.Over p = quiet (over p)
+goneOn (Next.On r) p = sentBy p r
+
+-- a run begins, or nothing changes
+abbrev pub beginning : Next → Pool → Posted
+beginning Next.Over p = quiet p
+beginning (Next.On r) p = sentBy p r
+
+-- Recovery is tried.
+unfoldable pub tried : Pool → Posted
+tried p = beginning (begun (p .roster)) p
+
+-- MAP_DISABLE to one session or none
+abbrev pub disabling : Who → Told
+disabling Who.Nobody = Told.Nothing
+disabling (Who.One id) = Told.Disable id
+
+-- the same, but not to this session
+abbrev pub disablingBut : ℕ → Who → Told
+disablingBut id Who.Nobody = Told.Nothing
+disablingBut id (Who.One x) = pick (eqb x id) Told.Nothing (Told.Disable x)

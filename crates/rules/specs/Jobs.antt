@@ -1,0 +1,40 @@
+-- The job in hand: whether there is one, and who is awaited in a removal.
+use mathlib.Core.Bool.{Bool, true, false, _&&_}
+use Prim.Native.Nat.{ℕ}
+use lib.Dec.{eqb}
+use Rattle.state.specs.declared.Stage.{Stage}
+use Rattle.state.specs.declared.Removal.{Removal}
+use Rattle.state.specs.declared.Job.{Job}
+
+-- no job is in hand
+abbrev pub isIdle : Job → Bool
+isIdle Job.Idle = true
+isIdle (Job.Running r) = false
+isIdle (Job.Removing m) = false
+
+-- a run is in hand
+abbrev pub isRunning : Job → Bool
+isRunning Job.Idle = false
+isRunning (Job.Running r) = true
+isRunning (Job.Removing m) = false
+
+-- who is awaited in the removal of id: itself for LEAVE_POOL, the peer for POOL_INFO
+abbrev pub peerAt : Stage → ℕ → ℕ
+peerAt Stage.Leave id = id
+peerAt (Stage.Info peer) id = peer
+
+abbrev pub isLeave : Stage → Bool
+isLeave Stage.Leave = true
+isLeave (Stage.Info peer) = false
+
+-- id is the awaited peer of the removal in hand
+abbrev pub isPeer : Job → ℕ → Bool
+isPeer Job.Idle id = false
+isPeer (Job.Running r) id = false
+isPeer (Job.Removing m) id = eqb (peerAt (m .stage) (m .id)) id
+
+-- id is awaited for its own LEAVE_POOL
+abbrev pub isLeaving : Job → ℕ → Bool
+isLeaving Job.Idle id = false
+isLeaving (Job.Running r) id = false
+isLeaving (Job.Removing m) id = isLeave (m .stage) && eqb (m .id) id

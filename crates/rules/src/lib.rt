@@ -1,0 +1,127 @@
+// The client's state rules.
+pub mod jobs;
+
+ghost use mathlib.Core.Path.{_≡_};
+ghost use mathlib.Core.Bool.{_&&_, _||_, not};
+ghost use Prim.Native.Nat.{_+_};
+ghost use lib.Dec.{eqb, leb};
+ghost use Rattle.laws.specs.Words.{pick};
+ghost use Rattle.refusals.specs.Limits.{versionTop};
+ghost use Rattle.rules.specs.Rules.{rosterOk, allAsked, oneAsked, sourceOk, handOk, runOk, jobOk, validPool};
+use roster::Kind;
+use state::Job;
+use state::Phase;
+use state::Pool;
+use state::Roster;
+use state::Run;
+
+// Whether a + b <= limit, where the sum may not fit.
+fn within(a: u64, b: u64, limit: u64) -> bool
+    ensures { λ r. ⌜ r ≡ leb (a + b) limit ⌝ }
+{
+    if limit < a {
+        return false;
+    }
+    b <= limit - a
+}
+
+fn roster_ok(ro: Roster) -> bool
+    ensures { λ r. ⌜ r ≡ rosterOk ro ⌝ }
+{
+    let normals = roster::ids(Kind::Normals, ro);
+    let marked = roster::ids(Kind::Marked, ro);
+    let count = sets::choose(ro.sync, 0, sets::size(normals));
+    (ro.count == count)
+        & ((sets::size(marked) <= 1)
+            & (((marked == 0) | (normals == 0))
+                & ((1 <= ro.version)
+                    & (within(ro.version, ro.count, refusals::VERSION_TOP)
+                        & ((ro.members < 65536)
+                            & ((!ro.sync | (ro.members == 0))
+                                & (roster::ids(Kind::Odd, ro) == 0)))))))
+}
+
+fn all_asked(ro: Roster, source: u64) -> bool
+    ensures { λ r. ⌜ r ≡ allAsked ro source ⌝ }
+{
+    let members = ro.members;
+    (roster::ids(Kind::Normals, ro) == 0)
+        & ((roster::ids(Kind::Strays(members), ro) == 0) & sets::has(members, source))
+}
+
+fn one_asked(ro: Roster, source: u64) -> bool
+    ensures { λ r. ⌜ r ≡ oneAsked ro source ⌝ }
+{
+    let s = roster::session(ro, source);
+    (roster::ids(Kind::Normals, ro) == 0) & state::is_candidate(s)
+}
+
+fn source_ok(p: Phase, ro: Roster, source: u64, left: u64) -> bool
+    ensures { λ r. ⌜ r ≡ sourceOk p ro source left ⌝ }
+{
+    match p {
+        Phase::Versions(best) => all_asked(ro, source),
+        Phase::Base(s) => all_asked(ro, source) & !sets::has(left, source),
+        Phase::LastIo => all_asked(ro, source),
+        Phase::Gather(s) => all_asked(ro, source) & !sets::has(left, source),
+        Phase::Enable => one_asked(ro, source) & !sets::has(left, source),
+        Phase::Spread(s) => {
+            let spreads = roster::session(ro, source);
+            let st = spreads.state;
+            state::is_normal(st)
+        }
+    }
+}
+
+fn hand_ok(p: Phase, left: u64) -> bool
+    ensures { λ r. ⌜ r ≡ handOk p left ⌝ }
+{
+    match p {
+        Phase::Versions(best) => !(left == 0),
+        Phase::Base(s) => !(left == 0),
+        Phase::LastIo => !(left == 0),
+        Phase::Gather(s) => !(left == 0),
+        Phase::Enable => true,
+        Phase::Spread(s) => !(left == 0),
+    }
+}
+
+fn run_ok(ro: Roster, r: Run) -> bool
+    ensures { λ b. ⌜ b ≡ runOk ro r ⌝ }
+{
+    let p = r.phase;
+    let source = r.source;
+    let left = r.left;
+    let hand = hand_ok(p, left);
+    let strays = roster::ids(Kind::Strays(left), ro);
+    let sound = source_ok(p, ro, source, left);
+    let most = within(r.taken, run::still::possible(ro.members, r), 168);
+    !ro.sync
+        & ((ro.version <= refusals::VERSION_LIMIT)
+            & ((left < 65536) & (hand & ((strays == 0) & (sound & most)))))
+}
+
+fn job_ok(j: Job, ro: Roster) -> bool
+    ensures { λ b. ⌜ b ≡ jobOk j ro ⌝ }
+{
+    match j {
+        Job::Idle => true,
+        Job::Running(r) => run_ok(ro, r),
+        Job::Removing(m) => {
+            let s = roster::session(ro, m.id);
+            let st = s.state;
+            state::is_removing(st)
+        }
+    }
+}
+
+// Whether the state value keeps every rule.
+pub fn valid(p: Pool) -> bool
+    ensures { λ r. ⌜ r ≡ validPool p ⌝ }
+{
+    let ro = p.roster;
+    let j = p.job;
+    let numbers = roster_ok(ro);
+    let work = job_ok(j, ro);
+    (1 <= p.chunks) & ((p.chunks <= refusals::CHUNK_LIMIT) & (numbers & work))
+}

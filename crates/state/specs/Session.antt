@@ -1,0 +1,112 @@
+-- One session record: the tests on its state, and the ways to change it.
+use mathlib.Core.Bool.{Bool, true, false, _&&_, _||_, not}
+use Rattle.state.specs.declared.Mode.{Mode}
+use Rattle.state.specs.declared.State.{State}
+use Rattle.state.specs.declared.Session.{Session}
+
+-- the id has no session
+abbrev pub isFree : State → Bool
+isFree State.Free = true
+isFree State.Created = false
+isFree State.Normal = false
+isFree State.Failed = false
+isFree State.Reconnecting = false
+isFree (State.Removing m owed) = false
+
+abbrev pub isCreated : State → Bool
+isCreated State.Free = false
+isCreated State.Created = true
+isCreated State.Normal = false
+isCreated State.Failed = false
+isCreated State.Reconnecting = false
+isCreated (State.Removing m owed) = false
+
+abbrev pub isNormal : State → Bool
+isNormal State.Free = false
+isNormal State.Created = false
+isNormal State.Normal = true
+isNormal State.Failed = false
+isNormal State.Reconnecting = false
+isNormal (State.Removing m owed) = false
+
+abbrev pub isFailed : State → Bool
+isFailed State.Free = false
+isFailed State.Created = false
+isFailed State.Normal = false
+isFailed State.Failed = true
+isFailed State.Reconnecting = false
+isFailed (State.Removing m owed) = false
+
+abbrev pub isReconnecting : State → Bool
+isReconnecting State.Free = false
+isReconnecting State.Created = false
+isReconnecting State.Normal = false
+isReconnecting State.Failed = false
+isReconnecting State.Reconnecting = true
+isReconnecting (State.Removing m owed) = false
+
+abbrev pub isRemoving : State → Bool
+isRemoving State.Free = false
+isRemoving State.Created = false
+isRemoving State.Normal = false
+isRemoving State.Failed = false
+isRemoving State.Reconnecting = false
+isRemoving (State.Removing m owed) = true
+
+abbrev pub isDelete : Mode → Bool
+isDelete Mode.Delete = true
+isDelete Mode.Disassemble = false
+
+-- being deleted: REMOVING in delete mode, its removal in hand or halted
+abbrev pub isDeleting : State → Bool
+isDeleting State.Free = false
+isDeleting State.Created = false
+isDeleting State.Normal = false
+isDeleting State.Failed = false
+isDeleting State.Reconnecting = false
+isDeleting (State.Removing m owed) = isDelete m
+
+-- REMOVING, and LEAVE_POOL is still owed
+abbrev pub isOwed : State → Bool
+isOwed State.Free = false
+isOwed State.Created = false
+isOwed State.Normal = false
+isOwed State.Failed = false
+isOwed State.Reconnecting = false
+isOwed (State.Removing m owed) = owed
+
+-- a session that POOL_INFO goes to: there is one, and it is not FAILED or REMOVING
+abbrev pub isTold : State → Bool
+isTold State.Free = false
+isTold State.Created = true
+isTold State.Normal = true
+isTold State.Failed = false
+isTold State.Reconnecting = true
+isTold (State.Removing m owed) = false
+
+-- candidate: RECONNECTING, not in maintenance
+abbrev pub candidate : Session → Bool
+candidate s = isReconnecting (s .state) && not (s .maintenance)
+
+-- the record of a session that begins in this state
+abbrev pub newSession : State → Session
+newSession st = record { state = st; maintenance = false; mark = false }
+
+-- no session
+abbrev pub free : Session
+free = newSession State.Free
+
+-- The record in another state. The maintenance flag and the mark stand on FAILED and RECONNECTING only.
+abbrev pub moved : Session → State → Session
+moved s to =
+    record {
+      state = to;
+      maintenance = s .maintenance && (isFailed to || isReconnecting to);
+      mark = s .mark && (isFailed to || isReconnecting to);
+    }
+
+abbrev pub flagged : Session → Bool → Session
+flagged s on = record { state = s .state; maintenance = on; mark = s .mark }
+
+abbrev pub marked : Session → Bool → Session
+marked s on = record { state = s .state; maintenance = s .maintenance; mark = on }

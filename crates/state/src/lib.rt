@@ -1,0 +1,349 @@
+// The compute client's types, and the tests on one session record. A value that no event can make is made impossible by its type where that is cheap;
+// what is left is tested by the state rules.
+ghost use mathlib.Core.Path.{_≡_};
+ghost use mathlib.Core.Bool.{_&&_, not};
+ghost use Rattle.state.specs.Session.{isFree, isCreated, isNormal, isFailed, isReconnecting, isRemoving, isDelete, isDeleting, isOwed, isTold, candidate, newSession, moved, flagged, marked};
+
+// Delete takes the member out for good; disassemble leaves it a member.
+pub enum Mode {
+    Delete,
+    Disassemble,
+}
+
+// A session's state. Free: the id has no session. REMOVING carries its mode, and whether LEAVE_POOL is still owed.
+pub enum State {
+    Free,
+    Created,
+    Normal,
+    Failed,
+    Reconnecting,
+    Removing(Mode, bool),
+}
+
+pub struct Session {
+    pub state: State,
+    pub maintenance: bool,
+    pub mark: bool,
+}
+
+// The sixteen sessions, with the numbers that follow them. count is the NORMAL count.
+pub struct Roster {
+    pub sessions: [Session; 16],
+    pub count: u64,
+    pub version: u64,
+    pub members: u64,
+    pub sync: bool,
+}
+
+// The three messages of a spread to one receiver.
+pub enum Step {
+    Ready,
+    Send,
+    Done,
+}
+
+// The phase of a recovery run. Versions carries the highest version so far. Base is the spread without enable, Spread the one with it.
+pub enum Phase {
+    Versions(u64),
+    Base(Step),
+    LastIo,
+    Gather(Step),
+    Enable,
+    Spread(Step),
+}
+
+// A recovery run: the source (in case 3 the chosen), who is left in its phase, and the awaited answers taken so far. In hand is the lowest of left.
+pub struct Run {
+    pub phase: Phase,
+    pub source: u64,
+    pub left: u64,
+    pub taken: u64,
+}
+
+// What a removal awaits: LEAVE_POOL of its own session, or POOL_INFO of a peer.
+pub enum Stage {
+    Leave,
+    Info(u64),
+}
+
+pub struct Removal {
+    pub id: u64,
+    pub stage: Stage,
+}
+
+pub enum Job {
+    Idle,
+    Running(Run),
+    Removing(Removal),
+}
+
+// The client's whole state. number is that of the last awaited message.
+pub struct Pool {
+    pub roster: Roster,
+    pub job: Job,
+    pub number: u32,
+    pub chunks: u64,
+}
+
+// What a POOL_INFO says of its member.
+pub enum Op {
+    AddCreate,
+    AddAssemble,
+    RemoveDelete,
+    RemoveDisassemble,
+}
+
+// The awaited message: to whom, and what it carries. Ready: keep. Send: the receiver. Done: enable, version, set. LastIo: the chosen. Enable: version, set.
+pub enum Message {
+    Nothing,
+    GetVersion(u64),
+    Ready(u64, bool),
+    Send(u64, u64),
+    Done(u64, bool, u64, u64),
+    LastIo(u64, u64),
+    Enable(u64, u64, u64),
+    Leave(u64, Mode),
+    Info(u64, Op, u64),
+}
+
+// The messages that are not awaited; an event sends at most one kind. Marks: to each of a set, chunk, list, version. Clears: to each of a set, member,
+// chunk. Infos: to each of a set, what, member. Disable: MAP_DISABLE. Off: ENABLE 0.
+pub enum Told {
+    Nothing,
+    Marks(u64, u64, u64, u64),
+    Clears(u64, u64, u64),
+    Infos(u64, Op, u64),
+    Disable(u64),
+    Off(u64),
+}
+
+// What an accepted event reports beside its messages. Taken: the awaited answers taken so far in the run. Written: acknowledged or not, and the mark list.
+pub enum Outcome {
+    Plain,
+    Taken(u64),
+    Written(bool, u64),
+}
+
+// All that an accepted event hands back. number is the awaited message's, 0 beside Nothing.
+pub struct Sent {
+    pub outcome: Outcome,
+    pub told: Told,
+    pub awaited: Message,
+    pub number: u32,
+}
+
+pub enum Answer {
+    Refused(u64),
+    Done(Sent),
+}
+
+// What a good answer brings.
+pub enum Brought {
+    Nothing,
+    Version(u64),
+}
+
+// An awaited answer.
+pub enum Reply {
+    Failed,
+    Good(Brought),
+}
+
+// What is to be done to the client map: nothing, mark a set at a chunk, zero a member's row, zero all.
+pub enum Effect {
+    Keep,
+    Mark(u64, u64),
+    ZeroRow(u64),
+    ZeroAll,
+}
+
+// An event on values, without maps: the answer, the next state, and what is to be done to the client map.
+pub struct Turn {
+    pub answer: Answer,
+    pub pool: Pool,
+    pub effect: Effect,
+}
+
+pub fn is_free(s: State) -> bool
+    ensures { λ r. ⌜ r ≡ isFree s ⌝ }
+{
+    match s {
+        State::Free => true,
+        State::Created => false,
+        State::Normal => false,
+        State::Failed => false,
+        State::Reconnecting => false,
+        State::Removing(m, owed) => false,
+    }
+}
+
+pub fn is_created(s: State) -> bool
+    ensures { λ r. ⌜ r ≡ isCreated s ⌝ }
+{
+    match s {
+        State::Free => false,
+        State::Created => true,
+        State::Normal => false,
+        State::Failed => false,
+        State::Reconnecting => false,
+        State::Removing(m, owed) => false,
+    }
+}
+
+pub fn is_normal(s: State) -> bool
+    ensures { λ r. ⌜ r ≡ isNormal s ⌝ }
+{
+    match s {
+        State::Free => false,
+        State::Created => false,
+        State::Normal => true,
+        State::Failed => false,
+        State::Reconnecting => false,
+        State::Removing(m, owed) => false,
+    }
+}
+
+pub fn is_failed(s: State) -> bool
+    ensures { λ r. ⌜ r ≡ isFailed s ⌝ }
+{
+    match s {
+        State::Free => false,
+        State::Created => false,
+        State::Normal => false,
+        State::Failed => true,
+        State::Reconnecting => false,
+        State::Removing(m, owed) => false,
+    }
+}
+
+pub fn is_reconnecting(s: State) -> bool
+    ensures { λ r. ⌜ r ≡ isReconnecting s ⌝ }
+{
+    match s {
+        State::Free => false,
+        State::Created => false,
+        State::Normal => false,
+        State::Failed => false,
+        State::Reconnecting => true,
+        State::Removing(m, owed) => false,
+    }
+}
+
+pub fn is_removing(s: State) -> bool
+    ensures { λ r. ⌜ r ≡ isRemoving s ⌝ }
+{
+    match s {
+        State::Free => false,
+        State::Created => false,
+        State::Normal => false,
+        State::Failed => false,
+        State::Reconnecting => false,
+        State::Removing(m, owed) => true,
+    }
+}
+
+// REMOVING in delete mode: the member is being deleted.
+pub fn is_deleting(s: State) -> bool
+    ensures { λ r. ⌜ r ≡ isDeleting s ⌝ }
+{
+    match s {
+        State::Free => false,
+        State::Created => false,
+        State::Normal => false,
+        State::Failed => false,
+        State::Reconnecting => false,
+        State::Removing(m, owed) => is_delete(m),
+    }
+}
+
+fn is_delete(m: Mode) -> bool
+    ensures { λ r. ⌜ r ≡ isDelete m ⌝ }
+{
+    match m {
+        Mode::Delete => true,
+        Mode::Disassemble => false,
+    }
+}
+
+// Whether LEAVE_POOL is still owed to a REMOVING session.
+pub fn is_owed(s: State) -> bool
+    ensures { λ r. ⌜ r ≡ isOwed s ⌝ }
+{
+    match s {
+        State::Free => false,
+        State::Created => false,
+        State::Normal => false,
+        State::Failed => false,
+        State::Reconnecting => false,
+        State::Removing(m, owed) => owed,
+    }
+}
+
+// A session that POOL_INFO goes to: there is one, and it is not FAILED or REMOVING.
+pub fn is_told(s: State) -> bool
+    ensures { λ r. ⌜ r ≡ isTold s ⌝ }
+{
+    match s {
+        State::Free => false,
+        State::Created => true,
+        State::Normal => true,
+        State::Failed => false,
+        State::Reconnecting => true,
+        State::Removing(m, owed) => false,
+    }
+}
+
+// A session that a recovery run may bring back.
+pub fn is_candidate(s: Session) -> bool
+    ensures { λ r. ⌜ r ≡ candidate s ⌝ }
+{
+    let st = s.state;
+    is_reconnecting(st) & !s.maintenance
+}
+
+// The one constructor of a record, and the one setter of its state: a session keeps its flag and its mark while it is FAILED or RECONNECTING, and
+// loses both on any other way.
+impl Session {
+    pub fn new(state: State) -> Session
+        ensures { λ r. ⌜ r ≡ newSession state ⌝ }
+    {
+        Session {
+            state: state,
+            maintenance: false,
+            mark: false,
+        }
+    }
+
+    pub fn moved(self, to: State) -> Session
+        ensures { λ r. ⌜ r ≡ moved self to ⌝ }
+    {
+        let keeps = is_failed(to) | is_reconnecting(to);
+        Session {
+            state: to,
+            maintenance: self.maintenance & keeps,
+            mark: self.mark & keeps,
+        }
+    }
+
+    pub fn flagged(self, on: bool) -> Session
+        ensures { λ r. ⌜ r ≡ flagged self on ⌝ }
+    {
+        let st = self.state;
+        Session {
+            state: st,
+            maintenance: on,
+            mark: self.mark,
+        }
+    }
+
+    pub fn marked(self, on: bool) -> Session
+        ensures { λ r. ⌜ r ≡ marked self on ⌝ }
+    {
+        let st = self.state;
+        Session {
+            state: st,
+            maintenance: self.maintenance,
+            mark: on,
+        }
+    }
+}
