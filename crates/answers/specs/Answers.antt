@@ -1,0 +1,57 @@
+-- The answer to an awaited message.
+use mathlib.Core.Bool.{Bool, true, false, _&&_, not}
+use mathlib.Core.List.{List, [], _∷_}
+use Prim.Native.Nat.{ℕ}
+use lib.Dec.{eqb}
+use Rattle.laws.specs.Words.{pick}
+use Rattle.refusals.specs.Refusals.{test, refusal}
+use Rattle.state.specs.declared.Roster.{Roster}
+use Rattle.state.specs.declared.Run.{Run}
+use Rattle.state.specs.declared.Job.{Job}
+use Rattle.state.specs.declared.Pool.{Pool}
+use Rattle.state.specs.declared.Outcome.{Outcome}
+use Rattle.state.specs.declared.Reply.{Reply}
+use Rattle.state.specs.declared.Effect.{Effect}
+use Rattle.state.specs.declared.Turn.{Turn}
+use Rattle.roster.specs.Roster.{entered}
+use Rattle.run.specs.declared.Who.{Who}
+use Rattle.run.specs.declared.Move.{Move}
+use Rattle.run.specs.Run.{takes}
+use Rattle.rules.specs.Rules.{validPool}
+use Rattle.rules.specs.Jobs.{isIdle}
+use Rattle.exits.specs.Exit.{refused, accepted}
+use Rattle.recovery.specs.declared.Posted.{Posted}
+use Rattle.recovery.specs.Recovery.{withRoster, goneOn, disabling}
+use Rattle.removal.specs.Removal as removal
+use Rattle.removal.specs.Remove.{gone}
+
+-- something is awaited, and this is its number
+abbrev pub awaits : Pool → ℕ → Bool
+awaits p number = not (isIdle (p .job)) && eqb number (p .number)
+
+-- `sound`: the lent client map is whole, with no bit past the chunk count
+unfoldable pub answerRefusal : Pool → Bool → ℕ → ℕ
+answerRefusal p sound number =
+    refusal (test 1 (not (validPool p)) ∷ test 2 (not sound) ∷ test 13 (not (awaits p number)) ∷ [])
+
+-- who became NORMAL, if one did
+abbrev pub enteredBy : Who → Roster → Roster
+enteredBy Who.Nobody ro = ro
+enteredBy (Who.One id) ro = entered ro id
+
+-- what an answer did to the run, done to the pool: who became NORMAL, and the next message or the end
+unfoldable pub moved : Pool → Move → Posted
+moved p m = goneOn (m .next) (withRoster p (enteredBy (m .normal) (p .roster)))
+
+-- an answer in a run: MAP_DISABLE if one gets it, and the answers taken so far, this one with them
+abbrev pub reported : Pool → Move → Turn
+reported p m = accepted p (moved p m .pool) (Outcome.Taken (m .taken)) (disabling (m .disable)) (moved p m .awaited) Effect.Keep
+
+abbrev pub answered : Job → Pool → Reply → Turn
+answered Job.Idle p a = refused p 13
+answered (Job.Running r) p a = reported p (takes (p .roster .members) (p .roster .version) r a)
+answered (Job.Removing m) p a = gone p (removal.answered m p a)
+
+unfoldable pub answer : Pool → Bool → ℕ → Reply → Turn
+answer p sound number a =
+    pick (eqb (answerRefusal p sound number) 0) (answered (p .job) p a) (refused p (answerRefusal p sound number))

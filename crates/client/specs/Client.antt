@@ -1,0 +1,67 @@
+-- The client's face: the fresh client, what an event hands back, and what it does to the client map.
+use mathlib.Core.Bool.{Bool}
+use mathlib.Core.List.{List}
+use Prim.Native.Nat.{ℕ, zero, suc}
+use lib.Dec.{eqb}
+use lib.ListN.{replicate}
+use Rattle.laws.specs.Words.{pick}
+use Rattle.sets.specs.Sets.{with}
+use Rattle.maps.specs.Map.{dirty, markedFor, zeroRow, zeroed, sound}
+use Rattle.state.specs.declared.Mode.{Mode}
+use Rattle.state.specs.declared.Reply.{Reply}
+use Rattle.state.specs.declared.Job.{Job}
+use Rattle.state.specs.declared.Effect.{Effect}
+use Rattle.state.specs.declared.Turn.{Turn}
+use Rattle.state.specs.Session.{free}
+use Rattle.removal.specs.Remove.{remove}
+use Rattle.writes.specs.Writes.{writeEnded, synced}
+use Rattle.answers.specs.Answers.{answer}
+use Rattle.client.specs.declared.Client.{Client}
+use Rattle.client.specs.declared.Out.{Out}
+
+-- a fresh client of a pool that is sync or not: no session, no member, version 1, nothing awaited
+abbrev pub fresh : Bool → ℕ → Client
+fresh sync chunks =
+    record {
+      pool =
+          record {
+            roster = record { sessions = replicate 16 free; count = 0; version = 1; members = 0; sync = sync };
+            job = Job.Idle;
+            number = 0;
+            chunks = chunks;
+          };
+    }
+
+-- what an event hands back: the answer, and the next client
+abbrev pub handed : Turn → Out
+handed t = record { answer = t .answer; client = record { pool = t .pool } }
+
+-- what is done to the client map
+abbrev pub carried : Effect → List ℕ → List ℕ
+carried Effect.Keep xs = xs
+carried (Effect.Mark s c) xs = markedFor xs s c
+carried (Effect.ZeroRow m) xs = zeroRow m xs
+carried Effect.ZeroAll xs = zeroed xs
+
+-- ---- the events that a map is lent to: what they do, judged by the lent map's soundness
+
+abbrev pub soundFor : Client → List ℕ → Bool
+soundFor c xs = sound (c .pool .chunks) xs
+
+unfoldable pub removeTurn : Client → List ℕ → ℕ → Mode → Turn
+removeTurn c xs id mode = remove (c .pool) (soundFor c xs) id mode
+
+unfoldable pub writeTurn : Client → List ℕ → ℕ → ℕ → Turn
+writeTurn c xs chunk reached = writeEnded (c .pool) (soundFor c xs) chunk reached
+
+unfoldable pub answerTurn : Client → List ℕ → ℕ → Reply → Turn
+answerTurn c xs number a = answer (c .pool) (soundFor c xs) number a
+
+-- the ids below m for which chunk c is clean in a map
+unfoldable pub cleanTo : List ℕ → ℕ → ℕ → ℕ
+cleanTo xs c zero = 0
+cleanTo xs c (suc m) = pick (eqb (dirty xs m c) 1) (cleanTo xs c m) (with (cleanTo xs c m) m)
+
+-- the map lent to synced is a NORMAL node's, and is only read
+unfoldable pub syncedTurn : Client → List ℕ → ℕ → ℕ → Turn
+syncedTurn c xs member chunk = synced (c .pool) (soundFor c xs) member chunk (cleanTo xs chunk 16)

@@ -1,0 +1,222 @@
+// The compute client: its state, and one method for each event, which takes the state and hands the next one back with the answer. Ids, chunks, sets,
+// versions and answer numbers may be anything; a lent map may have any length.
+ghost use mathlib.Core.Path.{_≡_};
+ghost use lib.Dec.{eqb};
+ghost use Rattle.laws.specs.Words.{pick};
+ghost use Rattle.sets.specs.Sets.{with};
+ghost use Rattle.maps.specs.Map.{dirty};
+ghost use Rattle.joins.specs.Joins.{joinCreate, joinAssemble};
+ghost use Rattle.links.specs.Links.{enable, maintenance, linkDown, storeCheck, tryRun};
+ghost use Rattle.client.specs.Client.{fresh, handed, carried, removeTurn, writeTurn, answerTurn, cleanTo, syncedTurn};
+use state::Answer;
+use state::Effect;
+use state::Job;
+use state::Mode;
+use state::Pool;
+use state::Reply;
+use state::Roster;
+use state::Session;
+use state::State;
+use state::Turn;
+
+pub struct Client {
+    pub pool: Pool,
+}
+
+// What an event hands back.
+pub struct Out {
+    pub answer: Answer,
+    pub client: Client,
+}
+
+impl Client {
+    pub const MEMBERS: u64 = 16;
+
+    pub const CHUNK_LIMIT: u64 = 4096;
+
+    pub const MAP_BYTES: usize = 8192;
+
+    pub const VERSION_LIMIT: u64 = 9223372036854775775;
+
+    // A fresh client. A chunk count outside 1 to 4,096 gives a value that every event refuses.
+    pub fn fresh(sync: bool, chunks: u64) -> Client
+        ensures { λ r. ⌜ r ≡ fresh sync chunks ⌝ }
+    {
+        let none = Session::new(State::Free);
+        let sessions = [none; 16];
+        let roster = Roster {
+            sessions: sessions,
+            count: 0,
+            version: 1,
+            members: 0,
+            sync: sync,
+        };
+        let pool = Pool {
+            roster: roster,
+            job: Job::Idle,
+            number: 0,
+            chunks: chunks,
+        };
+        Client { pool: pool }
+    }
+
+    pub fn join_create(self, id: u64) -> Out
+        ensures { λ r. ⌜ r ≡ handed (joinCreate (self .pool) id) ⌝ }
+    {
+        let p = self.pool;
+        hand(joins::join_create(p, id))
+    }
+
+    pub fn join_assemble(self, id: u64, set: u64, version: u64) -> Out
+        ensures { λ r. ⌜ r ≡ handed (joinAssemble (self .pool) id set version) ⌝ }
+    {
+        let p = self.pool;
+        hand(joins::join_assemble(p, id, set, version))
+    }
+
+    pub fn enable(mut self, id: u64) -> Out
+        ensures { λ r. ⌜ r ≡ handed (enable (self .pool) id) ⌝ }
+    {
+        let p = self.pool;
+        let t = links::enable(p, id);
+        let answer = t.answer;
+        let next = t.pool;
+        self.pool = next;
+        Out {
+            answer: answer,
+            client: self,
+        }
+    }
+
+    pub fn maintenance(self, id: u64) -> Out
+        ensures { λ r. ⌜ r ≡ handed (maintenance (self .pool) id) ⌝ }
+    {
+        let p = self.pool;
+        hand(links::maintenance(p, id))
+    }
+
+    pub fn link_down(mut self, id: u64) -> Out
+        ensures { λ r. ⌜ r ≡ handed (linkDown (self .pool) id) ⌝ }
+    {
+        let p = self.pool;
+        let t = links::link_down(p, id);
+        let answer = t.answer;
+        let next = t.pool;
+        self.pool = next;
+        Out {
+            answer: answer,
+            client: self,
+        }
+    }
+
+    pub fn store_check(self, id: u64) -> Out
+        ensures { λ r. ⌜ r ≡ handed (storeCheck (self .pool) id) ⌝ }
+    {
+        let p = self.pool;
+        hand(links::store_check(p, id))
+    }
+
+    // Recovery is tried, on request.
+    pub fn try_run(self) -> Out
+        ensures { λ r. ⌜ r ≡ handed (tryRun (self .pool)) ⌝ }
+    {
+        let p = self.pool;
+        hand(links::try_run(p))
+    }
+
+    pub fn remove(self, map: &mut [u8], id: u64, mode: Mode) -> Out
+        ensures { λ r. ⌜ r ≡ handed (removeTurn self (now (map .entry)) id mode) ⌝ }
+        ensures { λ r. ⌜ now (map .exit) ≡ carried (removeTurn self (now (map .entry)) id mode .effect) (now (map .entry)) ⌝ }
+    {
+        let p = self.pool;
+        let whole = maps::is_sound(map, p.chunks);
+        let t = removal::event::remove(p, whole, id, mode);
+        let effect = t.effect;
+        carry(map, effect);
+        hand(t)
+    }
+
+    pub fn write(mut self, map: &mut [u8], chunk: u64, reached: u64) -> Out
+        ensures { λ r. ⌜ r ≡ handed (writeTurn self (now (map .entry)) chunk reached) ⌝ }
+        ensures { λ r. ⌜ now (map .exit) ≡ carried (writeTurn self (now (map .entry)) chunk reached .effect) (now (map .entry)) ⌝ }
+    {
+        let p = self.pool;
+        let whole = maps::is_sound(map, p.chunks);
+        let t = writes::write_ended(p, whole, chunk, reached);
+        let effect = t.effect;
+        carry(map, effect);
+        let answer = t.answer;
+        let next = t.pool;
+        self.pool = next;
+        Out {
+            answer: answer,
+            client: self,
+        }
+    }
+
+    // The map lent is a NORMAL node's; it is only read.
+    pub fn synced(self, map: &[u8], member: u64, chunk: u64) -> Out
+        ensures { λ r. ⌜ r ≡ handed (syncedTurn self (now (map .entry)) member chunk) ⌝ }
+    {
+        let p = self.pool;
+        let whole = maps::is_sound(map, p.chunks);
+        let clean = clean_ids(map, chunk);
+        hand(writes::synced(p, whole, member, chunk, clean))
+    }
+
+    pub fn answer(mut self, map: &mut [u8], number: u64, a: Reply) -> Out
+        ensures { λ r. ⌜ r ≡ handed (answerTurn self (now (map .entry)) number a) ⌝ }
+        ensures { λ r. ⌜ now (map .exit) ≡ carried (answerTurn self (now (map .entry)) number a .effect) (now (map .entry)) ⌝ }
+    {
+        let p = self.pool;
+        let whole = maps::is_sound(map, p.chunks);
+        let t = answers::answer(p, whole, number, a);
+        let effect = t.effect;
+        carry(map, effect);
+        let answer = t.answer;
+        let next = t.pool;
+        self.pool = next;
+        Out {
+            answer: answer,
+            client: self,
+        }
+    }
+}
+
+fn hand(t: Turn) -> Out
+    ensures { λ r. ⌜ r ≡ handed t ⌝ }
+{
+    let answer = t.answer;
+    let pool = t.pool;
+    Out {
+        answer: answer,
+        client: Client { pool: pool },
+    }
+}
+
+// Does to the client map what the event says.
+fn carry(map: &mut [u8], effect: Effect)
+    ensures { λ _. ⌜ now (map .exit) ≡ carried effect (now (map .entry)) ⌝ }
+{
+    match effect {
+        Effect::Keep => {}
+        Effect::Mark(set, chunk) => maps::mark_for(map, set, chunk),
+        Effect::ZeroRow(m) => maps::zero_row(map, m),
+        Effect::ZeroAll => maps::zero(map),
+    }
+}
+
+// The ids for which the chunk is clean in the map.
+fn clean_ids(map: &[u8], chunk: u64) -> u64
+    ensures { λ r. ⌜ r ≡ cleanTo (now (map .entry)) chunk 16 ⌝ }
+{
+    let mut ids: u64 = 0;
+    let mut m: u64 = 0;
+    while m < 16 {
+        let dirty = maps::test(map, m, chunk);
+        let more = sets::with(ids, m);
+        ids = sets::choose(dirty, ids, more);
+        m += 1;
+    }
+    ids
+}

@@ -1,0 +1,191 @@
+-- Joins, accepted or refused: the state rules are kept; a session's state changes only by the table, and the version never falls; the other sessions' records
+-- stay.
+use mathlib.Core.Path.{_≡_, refl, sym, ap, _∙_, subst}
+use mathlib.Core.Bool.{Bool, true, false, not, _&&_, _||_}
+use mathlib.Core.Logic.{_≢_}
+use Prim.Native.Nat.{ℕ, _≤_, _<_, max}
+use native.Mathlib.Omega.{arith}
+use lib.Dec.{eqb, ltb}
+use borrow.Author.Tests.{eqb-true, ltb-false, not-false}
+use Rattle.laws.specs.Words.{pick}
+use Rattle.laws.specs.Tests.{by-cases, clash, passed}
+use Rattle.refusals.specs.Limits.{versionLimit}
+use Rattle.sets.specs.Sets.{has, with}
+use Rattle.sets.proofs.Laws.{has-with-same}
+use Rattle.state.specs.declared.State.{State}
+use Rattle.state.specs.declared.Session.{Session}
+use Rattle.state.specs.declared.Roster.{Roster}
+use Rattle.state.specs.declared.Job.{Job}
+use Rattle.state.specs.declared.Pool.{Pool}
+use Rattle.state.specs.declared.Turn.{Turn}
+use Rattle.state.specs.Session.{isFree, isNormal, newSession, moved}
+use Rattle.roster.specs.Roster.{sessionAt, begun, went, memberEntered, takenOver}
+use Rattle.recovery.specs.Recovery.{withRoster, tried}
+use Rattle.exits.specs.Exit.{refused}
+use Rattle.exits.proofs.Laws.{picked, turned}
+use Rattle.rules.specs.Rules.{validPool, jobOk}
+use Rattle.rules.specs.Jobs.{isIdle}
+use Rattle.kept.specs.Ids.{Long, stored-same, stored-other, stored-long}
+use Rattle.kept.specs.Rosters.{Ok}
+use Rattle.kept.specs.Pools.{Valid}
+use Rattle.kept.specs.Links.{reconnects-keeps}
+use Rattle.kept.specs.Joins.{entered-keeps, taken-keeps, begun-keeps, sync-begun}
+use Rattle.kept.specs.Tried.{idle-valid, tried-keeps, tried-roster}
+use Rattle.kept.specs.Legal.{changes, Moves, begins, moves-none, moves-one}
+use Rattle.joins.specs.Joins.{createRefusal, created, createDone, joinCreate, setBars, assembleRefusal, assembled, assembleDone, joinAssemble}
+
+-- one roster or the other
+chosen : (P : Roster → Type 0) (b : Bool) (x y : Roster) → (b ≡ true → P x) → (b ≡ false → P y) → P (pick b x y)
+chosen P true x y f g = f refl
+chosen P false x y f g = g refl
+
+-- ---- join, create
+
+pub record Creates (p : Pool) (id : ℕ) : Type 0 where
+  pub below : id < 16
+  pub idle : isIdle (p .job) ≡ true
+  pub none : isFree (sessionAt (p .roster) id .state) ≡ true
+
+pub create-passed : (p : Pool) (id : ℕ) → createRefusal p id ≡ 0 → Creates p id
+unfolding createRefusal
+create-passed p id e =
+    let a = passed (not (validPool p)) 1 _ (λ h. omega arith) e in
+    let b = passed (ltb 15 id) 3 _ (λ h. omega arith) (a .1) in
+    let c = passed (not (isIdle (p .job))) 6 _ (λ h. omega arith) (b .1) in
+    let d = passed (not (isFree (sessionAt (p .roster) id .state))) 8 _ (λ h. omega arith) (c .1) in
+    record { below = omega (arith, ltb-false 15 id (b .0)); idle = not-false _ (c .0); none = not-false _ (d .0) }
+
+created-keeps : (p : Pool) (id : ℕ) → Valid p → Creates p id → Ok (created (p .roster) id)
+unfolding created
+created-keeps p id v h =
+    chosen Ok (p .roster .sync) (begun (p .roster) id State.Normal) (memberEntered (begun (p .roster) id State.Created) id)
+    (λ e. sync-begun (p .roster) id (v .ok) (h .below) e)
+    (λ e. begun-keeps (memberEntered (p .roster) id) id State.Created (entered-keeps (p .roster) id (v .ok) e (h .below)) (h .below) e (h .none) refl (has-with-same (p .roster .members) id (h .below)))
+
+pub create-keeps : (p : Pool) (id : ℕ) → Valid p → Valid (joinCreate p id .pool)
+unfolding joinCreate createDone
+create-keeps p id v =
+    turned Valid (createRefusal p id) (createDone p id) p v
+    (λ e. let h = create-passed p id e in idle-valid p (created (p .roster) id) v (h .idle) (created-keeps p id v h))
+
+created-other : (ro : Roster) (id j : ℕ) → j ≢ id → sessionAt (created ro id) j ≡ sessionAt ro j
+unfolding created
+created-other ro id j ne =
+    chosen (λ x. sessionAt x j ≡ sessionAt ro j) (ro .sync) (begun ro id State.Normal) (memberEntered (begun ro id State.Created) id)
+    (λ e. stored-other ro id (newSession State.Normal) j ne)
+    (λ e. stored-other ro id (newSession State.Created) j ne)
+
+created-moves : (p : Pool) (id : ℕ) → Long (p .roster) → Creates p id → Moves (p .roster) (created (p .roster) id)
+unfolding created
+created-moves p id l h =
+    chosen (Moves (p .roster)) (p .roster .sync) (begun (p .roster) id State.Normal) (memberEntered (begun (p .roster) id State.Created) id)
+    (λ e. moves-one (p .roster) (begun (p .roster) id State.Normal) id (λ j ne. ap (λ (x : Session). x .state) (stored-other (p .roster) id (newSession State.Normal) j ne))
+    (rw (stored-same (p .roster) id (newSession State.Normal) l (h .below)) (begins (p .roster .sync) (sessionAt (p .roster) id .state) State.Normal (h .none) refl)) (omega arith))
+    (λ e. moves-one (p .roster) (memberEntered (begun (p .roster) id State.Created) id) id (λ j ne. ap (λ (x : Session). x .state) (stored-other (p .roster) id (newSession State.Created) j ne))
+    (rw (stored-same (p .roster) id (newSession State.Created) l (h .below)) (begins (p .roster .sync) (sessionAt (p .roster) id .state) State.Created (h .none) refl)) (omega arith))
+
+pub create-moves : (p : Pool) (id : ℕ) → Long (p .roster) → Moves (p .roster) (joinCreate p id .pool .roster)
+unfolding joinCreate createDone
+create-moves p id l =
+    turned (λ q. Moves (p .roster) (q .roster)) (createRefusal p id) (createDone p id) p (moves-none (p .roster)) (λ e. created-moves p id l (create-passed p id e))
+
+pub create-others : (p : Pool) (id j : ℕ) → j ≢ id → sessionAt (joinCreate p id .pool .roster) j ≡ sessionAt (p .roster) j
+unfolding joinCreate createDone
+create-others p id j ne =
+    turned (λ q. sessionAt (q .roster) j ≡ sessionAt (p .roster) j) (createRefusal p id) (createDone p id) p refl (λ e. created-other (p .roster) id j ne)
+
+-- ---- join, assemble
+
+pub record Assembles (p : Pool) (id set version : ℕ) : Type 0 where
+  pub below : id < 16
+  pub small : set < 65536
+  pub plain : p .roster .sync ≡ false
+  pub idle : isIdle (p .job) ≡ true
+  pub none : isFree (sessionAt (p .roster) id .state) ≡ true
+  pub held : setBars (p .roster .members) set id ≡ false
+  pub low : version ≤ versionLimit
+
+or-parts : (a b : Bool) → (a || b) ≡ false → (a ≡ false) × (b ≡ false)
+or-parts true b e = clash refl e
+or-parts false b e = (refl, e)
+
+pub assemble-passed : (p : Pool) (id set version : ℕ) → assembleRefusal p id set version ≡ 0 → Assembles p id set version
+unfolding assembleRefusal
+assemble-passed p id set version e =
+    let a = passed (not (validPool p)) 1 _ (λ h. omega arith) e in
+    let b = passed (ltb 15 id || ltb 65535 set) 3 _ (λ h. omega arith) (a .1) in
+    let b′ = or-parts (ltb 15 id) (ltb 65535 set) (b .0) in
+    let c = passed (p .roster .sync) 5 _ (λ h. omega arith) (b .1) in
+    let d = passed (not (isIdle (p .job))) 6 _ (λ h. omega arith) (c .1) in
+    let f = passed (not (isFree (sessionAt (p .roster) id .state))) 8 _ (λ h. omega arith) (d .1) in
+    let g = passed (setBars (p .roster .members) set id) 10 _ (λ h. omega arith) (f .1) in
+    let k = passed (ltb versionLimit version) 14 _ (λ h. omega arith) (g .1) in
+    record {
+      below = omega (arith, ltb-false 15 id (b′ .0));
+      small = omega (arith, ltb-false 65535 set (b′ .1));
+      plain = c .0;
+      idle = not-false _ (d .0);
+      none = not-false _ (f .0);
+      held = g .0;
+      low = ltb-false versionLimit version (k .0);
+    }
+
+-- the set that stands after it holds the id
+held-at : (members set id : ℕ) (h : Bool) → has set id ≡ h → (b : Bool) → eqb members 0 ≡ b → (c : Bool) → eqb set members ≡ c → (not h || (not b && not c)) ≡ false → has (pick b set members) id ≡ true
+held-at members set id false e b f c g z = clash refl z
+held-at members set id true e true f c g z = e
+held-at members set id true e false f true g z = rw (sym (eqb-true set members g)) e
+held-at members set id true e false f false g z = clash refl z
+
+holds : (members set id : ℕ) → setBars members set id ≡ false → has (pick (eqb members 0) set members) id ≡ true
+unfolding setBars
+holds members set id e = held-at members set id (has set id) refl (eqb members 0) refl (eqb set members) refl e
+
+assembled-keeps : (p : Pool) (id set version : ℕ) → Valid p → Assembles p id set version → Ok (assembled (p .roster) id set version)
+unfolding assembled
+assembled-keeps p id set version v h =
+    let ro = takenOver (p .roster) set version in
+    let ok = taken-keeps (p .roster) set version (v .ok) (h .plain) (h .small) (h .low) in
+    let here : sessionAt (begun (takenOver (p .roster) set version) id State.Created) id ≡ newSession State.Created = stored-same (takenOver (p .roster) set version) id (newSession State.Created) (v .ok .long) (h .below) in
+    reconnects-keeps (begun (takenOver (p .roster) set version) id State.Created) id
+    (begun-keeps (takenOver (p .roster) set version) id State.Created ok (h .below) (h .plain) (h .none) refl (holds (p .roster .members) set id (h .held)))
+    (h .below) (h .plain) (rw here refl) (rw here refl)
+
+assembled-sync : (ro : Roster) (id set version : ℕ) → assembled ro id set version .sync ≡ ro .sync
+unfolding assembled went
+assembled-sync ro id set version = refl
+
+pub assemble-keeps : (p : Pool) (id set version : ℕ) → Valid p → Valid (joinAssemble p id set version .pool)
+unfolding joinAssemble assembleDone
+assemble-keeps p id set version v =
+    turned Valid (assembleRefusal p id set version) (assembleDone p id set version) p v
+    (λ e. let h = assemble-passed p id set version e in
+    tried-keeps (withRoster p (assembled (p .roster) id set version))
+    (idle-valid p (assembled (p .roster) id set version) v (h .idle) (assembled-keeps p id set version v h))
+    (assembled-sync (p .roster) id set version ∙ h .plain))
+
+assembled-other : (ro : Roster) (id set version j : ℕ) → j ≢ id → sessionAt (assembled ro id set version) j ≡ sessionAt ro j
+unfolding assembled went
+assembled-other ro id set version j ne =
+    stored-other (begun (takenOver ro set version) id State.Created) id (moved (sessionAt (begun (takenOver ro set version) id State.Created) id) State.Reconnecting) j ne
+    ∙ stored-other (takenOver ro set version) id (newSession State.Created) j ne
+
+assembled-moves : (p : Pool) (id set version : ℕ) → Long (p .roster) → Assembles p id set version → Moves (p .roster) (assembled (p .roster) id set version)
+unfolding assembled went
+assembled-moves p id set version l h =
+    moves-one (p .roster) (assembled (p .roster) id set version) id (λ j ne. ap (λ (x : Session). x .state) (assembled-other (p .roster) id set version j ne))
+    (rw (stored-same (begun (takenOver (p .roster) set version) id State.Created) id (moved (sessionAt (begun (takenOver (p .roster) set version) id State.Created) id) State.Reconnecting) (stored-long (takenOver (p .roster) set version) id (newSession State.Created) l) (h .below), h .plain)
+    (begins false (sessionAt (p .roster) id .state) State.Reconnecting (h .none) refl))
+    (omega arith)
+
+pub assemble-moves : (p : Pool) (id set version : ℕ) → Long (p .roster) → Moves (p .roster) (joinAssemble p id set version .pool .roster)
+unfolding joinAssemble assembleDone
+assemble-moves p id set version l =
+    turned (λ q. Moves (p .roster) (q .roster)) (assembleRefusal p id set version) (assembleDone p id set version) p (moves-none (p .roster))
+    (λ e. rw (tried-roster (withRoster p (assembled (p .roster) id set version))) (assembled-moves p id set version l (assemble-passed p id set version e)))
+
+pub assemble-others : (p : Pool) (id set version j : ℕ) → j ≢ id → sessionAt (joinAssemble p id set version .pool .roster) j ≡ sessionAt (p .roster) j
+unfolding joinAssemble assembleDone
+assemble-others p id set version j ne =
+    turned (λ q. sessionAt (q .roster) j ≡ sessionAt (p .roster) j) (assembleRefusal p id set version) (assembleDone p id set version) p refl
+    (λ e. rw (tried-roster (withRoster p (assembled (p .roster) id set version))) (assembled-other (p .roster) id set version j ne))

@@ -1,0 +1,34 @@
+use Rattle.links.specs.Links.{drops}
+use borrow.Author.Needs.{needs}
+use Rattle.links.proofs.may_drop.Statement.{statement}
+use Rattle.links.proofs.may_drop.Tie as tie
+
+is-created-requires : tie.Need-is-created-requires
+is-created-requires c κs = search needs
+
+is-normal-requires : tie.Need-is-normal-requires
+is-normal-requires c κs = search needs
+
+is-reconnecting-requires : tie.Need-is-reconnecting-requires
+is-reconnecting-requires c κs = search needs
+
+is-removing-requires : tie.Need-is-removing-requires
+is-removing-requires c κs = search needs
+
+is-leaving-requires : tie.Need-is-leaving-requires
+is-leaving-requires c κs = search needs
+
+returns : tie.Need-returns
+unfolding drops
+returns c = cc
+
+pub may-drop-spec : {M : Type 1} → statement M
+may-drop-spec =
+    tie.close
+    (tie.spec
+    is-created-requires
+    is-normal-requires
+    is-reconnecting-requires
+    is-removing-requires
+    is-leaving-requires
+    returns)

@@ -1,0 +1,132 @@
+-- Worked removals, by computation: the messages, the effects on the client map, and what halts and starts over.
+use mathlib.Core.Path.{_≡_, refl}
+use mathlib.Core.Bool.{Bool, true, false, _&&_, not}
+use mathlib.Core.List.{List, [], _∷_, map}
+use Prim.Native.Nat.{ℕ}
+use lib.Dec.{eqb}
+use lib.ListN.{replicate}
+use Rattle.state.specs.declared.Mode.{Mode}
+use Rattle.state.specs.declared.State.{State}
+use Rattle.state.specs.declared.Session.{Session}
+use Rattle.state.specs.declared.Roster.{Roster}
+use Rattle.state.specs.declared.Stage.{Stage}
+use Rattle.state.specs.declared.Removal.{Removal}
+use Rattle.state.specs.declared.Job.{Job}
+use Rattle.state.specs.declared.Pool.{Pool}
+use Rattle.state.specs.declared.Op.{Op}
+use Rattle.state.specs.declared.Message.{Message}
+use Rattle.state.specs.declared.Told.{Told}
+use Rattle.state.specs.declared.Outcome.{Outcome}
+use Rattle.state.specs.declared.Brought.{Brought}
+use Rattle.state.specs.declared.Reply.{Reply}
+use Rattle.state.specs.declared.Answer.{Answer}
+use Rattle.state.specs.declared.Effect.{Effect}
+use Rattle.state.specs.declared.Turn.{Turn}
+use Rattle.state.specs.Session.{newSession}
+use Rattle.laws.specs.Words.{bit}
+use Rattle.sets.specs.Sets.{has, with, without, size, lowest}
+use Rattle.roster.specs.declared.Kind.{Kind}
+use Rattle.roster.specs.Roster.{idsOf, sessionAt, entered, left, failed, went, removing}
+use Rattle.recovery.specs.Recovery.{posted}
+use Rattle.rules.specs.Rules.{rosterOk, runOk, validPool}
+use Rattle.removal.specs.declared.Gone.{Gone}
+use Rattle.removal.specs.Removal.{due, freedFrom, onward, departed, started, answered}
+use Rattle.removal.specs.Remove.{removeRefusal, remove}
+
+-- sessions 0 to 2: NORMAL, NORMAL, FAILED; or sync and NORMAL alone
+abbrev three : Pool
+three =
+    record {
+      roster =
+          record {
+            sessions = newSession State.Normal ∷ newSession State.Normal ∷ newSession State.Failed ∷ replicate 13 (newSession State.Free);
+            count = 2;
+            version = 1;
+            members = 7;
+            sync = false;
+          };
+      job = Job.Idle;
+      number = 4294967295;
+      chunks = 4096;
+    }
+
+abbrev lone : Pool
+lone =
+    record {
+      roster =
+          record {
+            sessions = newSession State.Failed ∷ replicate 15 (newSession State.Free);
+            count = 0;
+            version = 1;
+            members = 1;
+            sync = false;
+          };
+      job = Job.Idle;
+      number = 0;
+      chunks = 4096;
+    }
+
+abbrev synced : Pool
+synced =
+    record {
+      roster =
+          record {
+            sessions = newSession State.Failed ∷ replicate 15 (newSession State.Free);
+            count = 0;
+            version = 1;
+            members = 0;
+            sync = true;
+          };
+      job = Job.Idle;
+      number = 0;
+      chunks = 4096;
+    }
+
+abbrev fine : Reply
+fine = Reply.Good Brought.Nothing
+
+-- delete of 1: LEAVE to it, then POOL_INFO to 0; 2 is FAILED
+abbrev leaving : Turn
+leaving = remove three true 1 Mode.Delete
+
+abbrev telling : Gone
+telling = answered (record { id = 1; stage = Stage.Leave }) (leaving .pool) fine
+
+abbrev over : Gone
+over = answered (record { id = 1; stage = Stage.Info 0 }) (telling .posted .pool) fine
+
+-- its POOL_INFO failed: halted, and a repeat tells 0 again, without LEAVE
+abbrev again : Turn
+again = remove (answered (record { id = 1; stage = Stage.Info 0 }) (telling .posted .pool) Reply.Failed .posted .pool) true 1 Mode.Delete
+
+abbrev done : Message → ℕ → Answer
+done m n = Answer.Done (record { outcome = Outcome.Plain; told = Told.Nothing; awaited = m; number = n })
+
+-- The message numbers go 2^32 - 1, 0, 1.
+deletes :
+    (leaving .answer ≡ done (Message.Leave 1 Mode.Delete) 0)
+    × (leaving .effect ≡ Effect.Keep)
+    × (leaving .pool .roster .count ≡ 1)
+    × (telling .posted .awaited ≡ Message.Info 0 Op.RemoveDelete 1)
+    × (telling .effect ≡ Effect.ZeroRow 1)
+    × (telling .posted .pool .roster .members ≡ 5)
+    × (over .posted .awaited ≡ Message.Nothing)
+    × (over .effect ≡ Effect.Keep)
+    × (idsOf Kind.Present (over .posted .pool .roster) ≡ 5)
+    × (again .answer ≡ done (Message.Info 0 Op.RemoveDelete 1) 2)
+    × (again .effect ≡ Effect.ZeroRow 1)
+unfolding bit has with without size lowest idsOf left went removing posted rosterOk validPool due freedFrom onward departed started removeRefusal remove
+deletes = (refl, refl, refl, refl, refl, refl, refl, refl, refl, refl, refl)
+
+-- the last session, FAILED: freed at once, and the client map is zeroed; a sync pool has none
+at-once :
+    (remove lone true 0 Mode.Disassemble .answer ≡ done Message.Nothing 0)
+    × (remove lone true 0 Mode.Disassemble .effect ≡ Effect.ZeroAll)
+    × (remove lone true 0 Mode.Disassemble .pool .roster .members ≡ 1)
+    × (idsOf Kind.Present (remove lone true 0 Mode.Disassemble .pool .roster) ≡ 0)
+    × (remove synced true 0 Mode.Delete .effect ≡ Effect.Keep)
+    × (remove (leaving .pool) true 1 Mode.Delete .answer ≡ Answer.Refused 6)
+    × (remove three true 3 Mode.Delete .answer ≡ Answer.Refused 7)
+    × (remove three false 16 Mode.Delete .answer ≡ Answer.Refused 2)
+unfolding bit has with without size lowest idsOf left went removing posted rosterOk validPool due freedFrom onward departed started removeRefusal remove
+at-once = (refl, refl, refl, refl, refl, refl, refl, refl)

@@ -1,0 +1,106 @@
+-- Write ended, synced.
+use mathlib.Core.Bool.{Bool, true, false, _&&_, _||_, not}
+use mathlib.Core.List.{List, [], _∷_}
+use Prim.Native.Nat.{ℕ}
+use lib.Dec.{eqb, ltb}
+use Rattle.laws.specs.Words.{pick}
+use Rattle.laws.specs.Loops.{runAt}
+use Rattle.refusals.specs.Refusals.{refusal, test}
+use Rattle.sets.specs.Sets.{has}
+use Rattle.state.specs.declared.Roster.{Roster}
+use Rattle.state.specs.declared.Job.{Job}
+use Rattle.state.specs.declared.Removal.{Removal}
+use Rattle.state.specs.declared.Pool.{Pool}
+use Rattle.state.specs.declared.Message.{Message}
+use Rattle.state.specs.declared.Told.{Told}
+use Rattle.state.specs.declared.Outcome.{Outcome}
+use Rattle.state.specs.declared.Effect.{Effect}
+use Rattle.state.specs.declared.Turn.{Turn}
+use Rattle.state.specs.Session.{isFree, isNormal}
+use Rattle.roster.specs.declared.Kind.{Kind}
+use Rattle.roster.specs.declared.Cause.{Cause}
+use Rattle.roster.specs.Roster.{sessionAt, idsOf, failed}
+use Rattle.recovery.specs.Recovery.{withRoster}
+use Rattle.exits.specs.Exit.{refused, accepted, haltedIf}
+use Rattle.rules.specs.Rules.{validPool}
+use Rattle.rules.specs.Jobs.{isRunning, peerAt}
+
+-- ---- write ended: a chunk, and the set of the sessions that it reached. sound: the lent client map is.
+
+-- no session is NORMAL, or the reached set names an id that is not
+unfoldable pub reachBars : Roster → ℕ → Bool
+reachBars ro reached = eqb (idsOf Kind.Normals ro) 0 || not (eqb (idsOf (Kind.Abnormal reached) ro) 0)
+
+unfoldable pub writeRefusal : Pool → Bool → ℕ → ℕ → ℕ
+writeRefusal p sound chunk reached =
+    refusal
+    (test 1 (not (validPool p))
+    ∷ test 2 (not sound)
+    ∷ test 3 (ltb 65535 reached)
+    ∷ test 4 (not (ltb chunk (p .chunks)))
+    ∷ test 5 (p .roster .sync)
+    ∷ test 6 (isRunning (p .job))
+    ∷ test 11 (reachBars (p .roster) reached)
+    ∷ [])
+
+-- NORMAL sessions not reached become FAILED, ascending.
+unfoldable pub missStep : ℕ → ℕ → Roster → Roster
+missStep reached i ro = pick (isNormal (sessionAt ro i .state) && not (has reached i)) (failed ro i Cause.Write) ro
+
+unfoldable pub missed : Roster → ℕ → Roster
+missed ro reached = runAt (missStep reached) 16 0 ro
+
+-- A write that did not reach the awaited peer of a removal is its failed answer: that peer, NORMAL before, became FAILED.
+abbrev pub loses : Job → Roster → ℕ → Bool
+loses Job.Idle ro reached = false
+loses (Job.Running r) ro reached = false
+loses (Job.Removing m) ro reached = has (idsOf (Kind.Unreached reached) ro) (peerAt (m .stage) (m .id))
+
+-- If any was reached, the write is acknowledged, and the mark list is every member that is not NORMAL, save one being deleted: client map and each reached
+-- node mark it, the node being sent the version after these changes. Reached by none: neither.
+unfoldable pub marks : Pool → Pool → ℕ → ℕ → Turn
+marks before after chunk reached =
+    pick (eqb reached 0)
+    (accepted before after (Outcome.Written false 0) Told.Nothing Message.Nothing Effect.Keep)
+    (accepted before after
+    (Outcome.Written true (idsOf Kind.Listed (after .roster)))
+    (Told.Marks reached chunk (idsOf Kind.Listed (after .roster)) (after .roster .version))
+    Message.Nothing
+    (Effect.Mark (idsOf Kind.Listed (after .roster)) chunk))
+
+unfoldable pub writeDone : Pool → ℕ → ℕ → Turn
+writeDone p chunk reached = marks p (haltedIf (loses (p .job) (p .roster) reached) (withRoster p (missed (p .roster) reached))) chunk reached
+
+unfoldable pub writeEnded : Pool → Bool → ℕ → ℕ → Turn
+writeEnded p sound chunk reached =
+    pick (eqb (writeRefusal p sound chunk reached) 0) (writeDone p chunk reached) (refused p (writeRefusal p sound chunk reached))
+
+-- ---- synced: a member and a chunk. clean: the ids for which the chunk is clean in the lent map of a NORMAL node.
+
+-- the member NORMAL, the chunk dirty for it, and another NORMAL member clean
+unfoldable pub syncs : Roster → ℕ → ℕ → Bool
+syncs ro member clean =
+    isNormal (sessionAt ro member .state) && (not (has clean member) && not (eqb (idsOf (Kind.Reached clean) ro) 0))
+
+unfoldable pub syncRefusal : Pool → Bool → ℕ → ℕ → ℕ → ℕ
+syncRefusal p sound member chunk clean =
+    refusal
+    (test 1 (not (validPool p))
+    ∷ test 2 (not sound)
+    ∷ test 3 (ltb 15 member)
+    ∷ test 4 (not (ltb chunk (p .chunks)))
+    ∷ test 5 (p .roster .sync)
+    ∷ test 6 (isRunning (p .job))
+    ∷ test 7 (isFree (sessionAt (p .roster) member .state))
+    ∷ test 11 (eqb (idsOf Kind.Normals (p .roster)) 0)
+    ∷ test 12 (not (syncs (p .roster) member clean))
+    ∷ [])
+
+-- NORMAL nodes clear it; the client map keeps it.
+unfoldable pub syncDone : Pool → ℕ → ℕ → Turn
+syncDone p member chunk =
+    accepted p p Outcome.Plain (Told.Clears (idsOf Kind.Normals (p .roster)) member chunk) Message.Nothing Effect.Keep
+
+unfoldable pub synced : Pool → Bool → ℕ → ℕ → ℕ → Turn
+synced p sound member chunk clean =
+    pick (eqb (syncRefusal p sound member chunk clean) 0) (syncDone p member chunk) (refused p (syncRefusal p sound member chunk clean))

@@ -1,0 +1,192 @@
+// Write ended, synced.
+ghost use mathlib.Core.Path.{_≡_};
+ghost use Rattle.writes.specs.Writes.{reachBars, writeRefusal, missStep, missed, loses, marks, writeDone, writeEnded, syncs, syncRefusal, syncDone, synced};
+use refusals::first;
+use roster::Cause;
+use roster::Kind;
+use state::Effect;
+use state::Job;
+use state::Message;
+use state::Outcome;
+use state::Pool;
+use state::Roster;
+use state::Told;
+use state::Turn;
+
+fn reach_bars(ro: Roster, reached: u64) -> bool
+    ensures { λ r. ⌜ r ≡ reachBars ro reached ⌝ }
+{
+    (roster::ids(Kind::Normals, ro) == 0) | !(roster::ids(Kind::Abnormal(reached), ro) == 0)
+}
+
+fn write_refusal(p: Pool, sound: bool, chunk: u64, reached: u64) -> u64
+    ensures { λ r. ⌜ r ≡ writeRefusal p sound chunk reached ⌝ }
+{
+    let ok = rules::valid(p);
+    let ro = p.roster;
+    let j = p.job;
+    let running = rules::jobs::is_running(j);
+    let bars = reach_bars(ro, reached);
+    let rest = first(ro.sync, 5, first(running, 6, first(bars, 11, 0)));
+    first(
+        !ok,
+        1,
+        first(
+            !sound,
+            2,
+            first(65535 < reached, 3, first(!(chunk < p.chunks), 4, rest)),
+        ),
+    )
+}
+
+fn miss_step(reached: u64, i: u64, ro: Roster) -> Roster
+    ensures { λ r. ⌜ r ≡ missStep reached i ro ⌝ }
+{
+    let s = roster::session(ro, i);
+    let st = s.state;
+    if state::is_normal(st) & !sets::has(reached, i) {
+        return roster::fail(ro, i, Cause::Write);
+    }
+    ro
+}
+
+// NORMAL sessions not reached become FAILED, ascending.
+fn miss(ro: Roster, reached: u64) -> Roster
+    ensures { λ r. ⌜ r ≡ missed ro reached ⌝ }
+{
+    let mut next = ro;
+    let mut i: u64 = 0;
+    while i < 16 {
+        next = miss_step(reached, i, next);
+        i += 1;
+    }
+    next
+}
+
+// Whether the write is the failed answer of the removal in hand.
+fn is_lost(j: Job, ro: Roster, reached: u64) -> bool
+    ensures { λ r. ⌜ r ≡ loses j ro reached ⌝ }
+{
+    match j {
+        Job::Idle => false,
+        Job::Running(r) => false,
+        Job::Removing(m) => {
+            let s = m.stage;
+            let peer = rules::jobs::peer_at(s, m.id);
+            sets::has(roster::ids(Kind::Unreached(reached), ro), peer)
+        }
+    }
+}
+
+fn mark(before: Pool, after: Pool, chunk: u64, reached: u64) -> Turn
+    ensures { λ r. ⌜ r ≡ marks before after chunk reached ⌝ }
+{
+    if reached == 0 {
+        return exits::accept(
+            before,
+            after,
+            Outcome::Written(false, 0),
+            Told::Nothing,
+            Message::Nothing,
+            Effect::Keep,
+        );
+    }
+    let ro = after.roster;
+    let list = roster::ids(Kind::Listed, ro);
+    let version = ro.version;
+    exits::accept(
+        before,
+        after,
+        Outcome::Written(true, list),
+        Told::Marks(reached, chunk, list, version),
+        Message::Nothing,
+        Effect::Mark(list, chunk),
+    )
+}
+
+fn write_done(p: Pool, chunk: u64, reached: u64) -> Turn
+    ensures { λ r. ⌜ r ≡ writeDone p chunk reached ⌝ }
+{
+    let ro = p.roster;
+    let j = p.job;
+    let lost = is_lost(j, ro, reached);
+    let next = miss(ro, reached);
+    let after = exits::halt_if(lost, recovery::with_roster(p, next));
+    mark(p, after, chunk, reached)
+}
+
+pub fn write_ended(p: Pool, sound: bool, chunk: u64, reached: u64) -> Turn
+    ensures { λ r. ⌜ r ≡ writeEnded p sound chunk reached ⌝ }
+{
+    let why = write_refusal(p, sound, chunk, reached);
+    if why != 0 {
+        return exits::refuse(p, why);
+    }
+    write_done(p, chunk, reached)
+}
+
+fn may_sync(ro: Roster, member: u64, clean: u64) -> bool
+    ensures { λ r. ⌜ r ≡ syncs ro member clean ⌝ }
+{
+    let s = roster::session(ro, member);
+    let st = s.state;
+    state::is_normal(st)
+        & (!sets::has(clean, member) & !(roster::ids(Kind::Reached(clean), ro) == 0))
+}
+
+fn sync_refusal(p: Pool, sound: bool, member: u64, chunk: u64, clean: u64) -> u64
+    ensures { λ r. ⌜ r ≡ syncRefusal p sound member chunk clean ⌝ }
+{
+    let ok = rules::valid(p);
+    let ro = p.roster;
+    let j = p.job;
+    let s = roster::session(ro, member);
+    let st = s.state;
+    let running = rules::jobs::is_running(j);
+    let free = state::is_free(st);
+    let none = roster::ids(Kind::Normals, ro) == 0;
+    let may = may_sync(ro, member, clean);
+    let rest = first(
+        running,
+        6,
+        first(free, 7, first(none, 11, first(!may, 12, 0))),
+    );
+    first(
+        !ok,
+        1,
+        first(
+            !sound,
+            2,
+            first(
+                15 < member,
+                3,
+                first(!(chunk < p.chunks), 4, first(ro.sync, 5, rest)),
+            ),
+        ),
+    )
+}
+
+fn sync_done(p: Pool, member: u64, chunk: u64) -> Turn
+    ensures { λ r. ⌜ r ≡ syncDone p member chunk ⌝ }
+{
+    let ro = p.roster;
+    let normals = roster::ids(Kind::Normals, ro);
+    exits::accept(
+        p,
+        p,
+        Outcome::Plain,
+        Told::Clears(normals, member, chunk),
+        Message::Nothing,
+        Effect::Keep,
+    )
+}
+
+pub fn synced(p: Pool, sound: bool, member: u64, chunk: u64, clean: u64) -> Turn
+    ensures { λ r. ⌜ r ≡ synced p sound member chunk clean ⌝ }
+{
+    let why = sync_refusal(p, sound, member, chunk, clean);
+    if why != 0 {
+        return exits::refuse(p, why);
+    }
+    sync_done(p, member, chunk)
+}
