@@ -1,0 +1,36 @@
+use borrow.Author.Needs.{needs}
+use Rattle.node.proofs.StorageNode.enable1.Statement.{statement}
+use Rattle.node.proofs.StorageNode.enable1.Tie as tie
+
+both-sound-requires : tie.Need-both-sound-requires
+both-sound-requires c κs = search needs
+
+enable1-requires : tie.Need-enable1-requires
+enable1-requires c κs = search needs
+
+finish-requires : tie.Need-finish-requires
+finish-requires c κs = search needs
+
+same-length : tie.Need-same-length
+same-length c = search needs
+
+same-length-2 : tie.Need-same-length-2
+same-length-2 c = search needs
+
+returns : tie.Need-returns
+returns c =
+    let f = c .before .before .before .before .finish .ensures in
+    let w = c .before .before .before .before .before .before .before .enable1 .ensures in
+    let s = c .before .before .before .before .before .before .before .before .both-sound .ensures in
+    (rw (f .0, w, s), (rw (f .1 .0, w, s), rw (f .1 .1, w, s)))
+
+pub enable1-spec : {M : Type 1} → statement M
+enable1-spec =
+    tie.close
+    (tie.spec
+    both-sound-requires
+    enable1-requires
+    finish-requires
+    same-length
+    same-length-2
+    returns)

@@ -1,0 +1,36 @@
+use borrow.Author.Needs.{needs}
+use Rattle.node.proofs.StorageNode.last_io_to_map.Statement.{statement}
+use Rattle.node.proofs.StorageNode.last_io_to_map.Tie as tie
+
+both-sound-requires : tie.Need-both-sound-requires
+both-sound-requires c κs = search needs
+
+last-io-to-map-requires : tie.Need-last-io-to-map-requires
+last-io-to-map-requires c κs = search needs
+
+finish-requires : tie.Need-finish-requires
+finish-requires c κs = search needs
+
+same-length : tie.Need-same-length
+same-length c = search needs
+
+same-length-2 : tie.Need-same-length-2
+same-length-2 c = search needs
+
+returns : tie.Need-returns
+returns c =
+    let f = c .before .before .before .before .finish .ensures in
+    let w = c .before .before .before .before .before .before .before .last-io-to-map .ensures in
+    let s = c .before .before .before .before .before .before .before .before .both-sound .ensures in
+    (rw (f .0, w, s), (rw (f .1 .0, w, s), rw (f .1 .1, w, s)))
+
+pub last-io-to-map-spec : {M : Type 1} → statement M
+last-io-to-map-spec =
+    tie.close
+    (tie.spec
+    both-sound-requires
+    last-io-to-map-requires
+    finish-requires
+    same-length
+    same-length-2
+    returns)

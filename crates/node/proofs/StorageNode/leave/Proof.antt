@@ -1,0 +1,30 @@
+use borrow.Author.Needs.{needs}
+use Rattle.node.proofs.StorageNode.leave.Statement.{statement}
+use Rattle.node.proofs.StorageNode.leave.Tie as tie
+
+both-sound-requires : tie.Need-both-sound-requires
+both-sound-requires c κs = search needs
+
+leave-requires : tie.Need-leave-requires
+leave-requires c κs = search needs
+
+finish-requires : tie.Need-finish-requires
+finish-requires c κs = search needs
+
+same-length : tie.Need-same-length
+same-length c = search needs
+
+same-length-2 : tie.Need-same-length-2
+same-length-2 c = search needs
+
+returns : tie.Need-returns
+returns c =
+    let f = c .before .before .before .before .finish .ensures in
+    let w = c .before .before .before .before .before .before .before .leave .ensures in
+    let s = c .before .before .before .before .before .before .before .before .both-sound .ensures in
+    (rw (f .0, w, s), (rw (f .1 .0, w, s), rw (f .1 .1, w, s)))
+
+pub leave-spec : {M : Type 1} → statement M
+leave-spec =
+    tie.close
+    (tie.spec both-sound-requires leave-requires finish-requires same-length same-length-2 returns)

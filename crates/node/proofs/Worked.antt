@@ -1,0 +1,102 @@
+-- A short history of one node, computed: created, enabled, two writes, a transfer. Assumes nothing.
+use mathlib.Core.Path.{_≡_, refl}
+use mathlib.Core.Bool.{Bool, true, false}
+use mathlib.Core.List.{List, [], _∷_}
+use Prim.Native.Nat.{ℕ}
+use lib.ListN.{drop, replicate}
+use Rattle.sets.specs.Sets.{has, with, without}
+use Rattle.laws.specs.Words.{bit}
+use Rattle.nodestate.specs.declared.State.{State}
+use Rattle.nodestate.specs.declared.Transfer.{Transfer}
+use Rattle.nodestate.specs.declared.OnMap.{OnMap}
+use Rattle.nodestate.specs.declared.OnStaging.{OnStaging}
+use Rattle.nodestate.specs.declared.Answer.{Answer}
+use Rattle.nodestate.specs.declared.Node.{Node}
+use Rattle.nodestate.specs.declared.Turn.{Turn}
+use Rattle.nodestate.specs.Change.{fresh, moved, equipped, tookOver, storedVersion, keptChunk, forgotten, transferred, endedTransfer, instructed}
+use Rattle.nodestate.specs.Rules.{keptOk, valid}
+use Rattle.nodestate.specs.Turns.{does, turn, settled}
+use Rattle.store.specs.Register.{registerCreateRefusal, registeredCreate, registerCreate}
+use Rattle.store.specs.Join.{joinCreateRefusal, joinedCreate, joinCreate}
+use Rattle.service.specs.Enable.{enable1Refusal, enabled, enable1}
+use Rattle.service.specs.Io.{writeRefusal, written, write}
+use Rattle.transfer.specs.Serve.{serveRefusal, readied, mapReady, mapGetVer}
+use Rattle.transfer.specs.Hand.{handRefusal, taken, take, mapDoneRefusal, committed, mapDone}
+
+-- node 1 of 4,096 chunks: registered, joined in create mode beside node 0, enabled, and one write that did not reach 0
+abbrev pub created : Node
+created = joinCreate (registerCreate (fresh 1 4096) true .node) true 1 .node
+
+abbrev pub wrote : Node
+wrote = write (enable1 created true 1 3 .node) true 4095 1 2 .node
+
+pub record Worked : Type 0 where
+  pub joined : created .members ≡ 3
+  pub early : mapGetVer (fresh 1 4096) true .answer ≡ Answer.Refused 9
+  pub last-chunk : drop 15 (wrote .kept) ≡ 4095 ∷ []
+  pub past-chunk : write wrote true 4096 1 2 .answer ≡ Answer.Refused 4
+  pub unsound : write wrote false 4096 1 2 .answer ≡ Answer.Refused 2
+  pub version : mapGetVer wrote true .answer ≡ Answer.Version 2
+  pub top : write wrote true 0 1 9223372036854775791 .answer ≡ Answer.Done
+  pub past-top : write wrote true 0 1 9223372036854775792 .answer ≡ Answer.Refused 14
+  pub limit : enable1 wrote true 9223372036854775776 3 .answer ≡ Answer.Refused 14
+  pub other-set : enable1 wrote true 2 1 .answer ≡ Answer.Refused 10
+  pub too-early : mapDone (mapReady wrote true false .node) true true 2 3 .answer ≡ Answer.Refused 15
+  pub done : mapDone (take (mapReady wrote true false .node) true .node) true true 2 3 .effect ≡ does (OnMap.Commit 3) OnStaging.Zero
+
+pub worked : Worked
+unfolding
+    registerCreate
+    registerCreateRefusal
+    registeredCreate
+    joinCreate
+    joinCreateRefusal
+    joinedCreate
+    enable1
+    enable1Refusal
+    enabled
+    write
+    writeRefusal
+    written
+    serveRefusal
+    readied
+    mapReady
+    mapGetVer
+    handRefusal
+    taken
+    take
+    mapDoneRefusal
+    committed
+    mapDone
+    settled
+    valid
+    keptOk
+    fresh
+    moved
+    equipped
+    tookOver
+    storedVersion
+    keptChunk
+    forgotten
+    transferred
+    endedTransfer
+    instructed
+    has
+    with
+    without
+    bit
+worked =
+    record {
+      joined = refl;
+      early = refl;
+      last-chunk = refl;
+      past-chunk = refl;
+      unsound = refl;
+      version = refl;
+      top = refl;
+      past-top = refl;
+      limit = refl;
+      other-set = refl;
+      too-early = refl;
+      done = refl;
+    }

@@ -1,0 +1,56 @@
+-- The node with its lent maps: xs the map's bytes, ys those of staging. An event gives an answer and the next state, and leaves both maps.
+use mathlib.Core.Bool.{Bool, true, _&&_}
+use mathlib.Core.List.{List}
+use Prim.Native.Nat.{ℕ}
+use Rattle.maps.specs.Map.{sound}
+use Rattle.nodestate.specs.declared.OnStaging.{OnStaging}
+use Rattle.nodestate.specs.declared.Node.{Node}
+use Rattle.nodestate.specs.declared.Turn.{Turn}
+use Rattle.nodestate.specs.Change as Change
+use Rattle.nodemaps.specs.Carry.{mapAfter, stagingAfter, takenIn}
+use Rattle.node.specs.declared.StorageNode.{StorageNode}
+use Rattle.node.specs.declared.Out.{Out}
+use Rattle.node.specs.Events.{Event, Third, third, turnOf}
+
+-- a fresh node; any numbers
+abbrev pub freshNode : ℕ → ℕ → StorageNode
+freshNode id chunks = record { node = Change.fresh id chunks }
+
+-- refusal 2: every lent map is sound, a third one with them
+abbrev pub soundThird : ℕ → Third → Bool
+soundThird chunks Third.none = true
+soundThird chunks (Third.some zs) = sound chunks zs
+
+abbrev pub lentTo : Third → Node → List ℕ → List ℕ → Bool
+lentTo z n xs ys = soundThird (n .chunks) z && (sound (n .chunks) xs && sound (n .chunks) ys)
+
+-- the turn of an event at a node with its maps
+abbrev pub turnAt : Event → StorageNode → List ℕ → List ℕ → Turn
+turnAt e s xs ys = turnOf e (s .node) (lentTo (third e) (s .node) xs ys)
+
+-- the answer beside the next state
+abbrev pub told : Turn → Out
+told t = record { answer = t .answer; node = record { node = t .node } }
+
+-- the map that a turn leaves
+unfoldable pub mapBy : Turn → List ℕ → List ℕ → List ℕ
+mapBy t xs ys = mapAfter (t .effect .map) (t .node) ys xs
+
+-- staging with a third map ORed in, if there is one
+abbrev pub stagingWith : Third → OnStaging → List ℕ → List ℕ
+stagingWith Third.none e ys = ys
+stagingWith (Third.some zs) e ys = takenIn e zs ys
+
+-- the staging map that a turn leaves
+unfoldable pub stagingBy : Turn → List ℕ → List ℕ → List ℕ
+stagingBy t xs ys = stagingAfter (t .effect .staging) (mapBy t xs ys) ys
+
+-- what an event answers, and the two maps that it leaves
+abbrev pub answers : Event → StorageNode → List ℕ → List ℕ → Out
+answers e s xs ys = told (turnAt e s xs ys)
+
+abbrev pub mapLeft : Event → StorageNode → List ℕ → List ℕ → List ℕ
+mapLeft e s xs ys = mapBy (turnAt e s xs ys) xs ys
+
+abbrev pub stagingLeft : Event → StorageNode → List ℕ → List ℕ → List ℕ
+stagingLeft e s xs ys = stagingWith (third e) (turnAt e s xs ys .effect .staging) (stagingBy (turnAt e s xs ys) xs ys)

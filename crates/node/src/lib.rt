@@ -1,0 +1,310 @@
+// A storage node's face: its state is a value; each event is a method that takes it, with the node's two maps lent, and hands the next one back with
+// the answer. The rules stand in the crates below; here the lent maps are checked, and what is due to them is carried out.
+ghost use mathlib.Core.Path.{_≡_};
+ghost use mathlib.Core.Bool.{_&&_};
+ghost use Rattle.maps.specs.Map.{sound};
+ghost use Rattle.node.specs.Events.{Event};
+ghost use Rattle.node.specs.Face.{freshNode, told, mapBy, stagingBy, answers, mapLeft, stagingLeft};
+use nodestate::Answer;
+use nodestate::Node;
+use nodestate::Turn;
+use state::Op;
+
+pub struct StorageNode {
+    pub node: Node,
+}
+
+pub struct Out {
+    pub answer: Answer,
+    pub node: StorageNode,
+}
+
+impl StorageNode {
+    pub const MEMBERS: u64 = refusals::MEMBERS;
+
+    pub const CHUNK_LIMIT: u64 = refusals::CHUNK_LIMIT;
+
+    pub const MAP_BYTES: u64 = 8192;
+
+    pub const VERSION_LIMIT: u64 = refusals::VERSION_LIMIT;
+
+    pub const VERSION_TOP: u64 = refusals::VERSION_TOP;
+
+    pub const KEPT: u64 = 16;
+
+    // A fresh node: EMPTY, with nothing. Any numbers: what they break is refused by the events.
+    pub fn fresh(id: u64, chunks: u64) -> StorageNode
+        ensures { λ r. ⌜ r ≡ freshNode id chunks ⌝ }
+    {
+        let n = nodestate::change::fresh(id, chunks);
+        StorageNode { node: n }
+    }
+
+    // Register create: EMPTY to REGISTERED, all that was known gone.
+    pub fn register_create(mut self, map: &mut [u8], staging: &mut [u8]) -> Out
+        ensures { λ r. ⌜ r ≡ answers Event.registerCreate self (now (map .entry)) (now (staging .entry)) ⌝ }
+        ensures { λ _. ⌜ now (map .exit) ≡ mapLeft Event.registerCreate self (now (map .entry)) (now (staging .entry)) ⌝ }
+        ensures { λ _. ⌜ now (staging .exit) ≡ stagingLeft Event.registerCreate self (now (map .entry)) (now (staging .entry)) ⌝ }
+    {
+        let n = self.node;
+        let sound = both_sound(n.chunks, map, staging);
+        let t = store::register::register_create(n, sound);
+        finish(t, map, staging)
+    }
+
+    // Register add: a store that brings its member set and version.
+    pub fn register_add(mut self, map: &mut [u8], staging: &mut [u8], set: u64, version: u64) -> Out
+        ensures { λ r. ⌜ r ≡ answers (Event.registerAdd set version) self (now (map .entry)) (now (staging .entry)) ⌝ }
+        ensures { λ _. ⌜ now (map .exit) ≡ mapLeft (Event.registerAdd set version) self (now (map .entry)) (now (staging .entry)) ⌝ }
+        ensures { λ _. ⌜ now (staging .exit) ≡ stagingLeft (Event.registerAdd set version) self (now (map .entry)) (now (staging .entry)) ⌝ }
+    {
+        let n = self.node;
+        let sound = both_sound(n.chunks, map, staging);
+        let t = store::register::register_add(n, sound, set, version);
+        finish(t, map, staging)
+    }
+
+    // Unregister: the store goes.
+    pub fn unregister(mut self, map: &mut [u8], staging: &mut [u8], delete: bool) -> Out
+        ensures { λ r. ⌜ r ≡ answers (Event.unregister delete) self (now (map .entry)) (now (staging .entry)) ⌝ }
+        ensures { λ _. ⌜ now (map .exit) ≡ mapLeft (Event.unregister delete) self (now (map .entry)) (now (staging .entry)) ⌝ }
+        ensures { λ _. ⌜ now (staging .exit) ≡ stagingLeft (Event.unregister delete) self (now (map .entry)) (now (staging .entry)) ⌝ }
+    {
+        let n = self.node;
+        let sound = both_sound(n.chunks, map, staging);
+        let t = store::register::unregister(n, sound, delete);
+        finish(t, map, staging)
+    }
+
+    // Join in create mode, with the members so far.
+    pub fn join_create(mut self, map: &mut [u8], staging: &mut [u8], set: u64) -> Out
+        ensures { λ r. ⌜ r ≡ answers (Event.joinCreate set) self (now (map .entry)) (now (staging .entry)) ⌝ }
+        ensures { λ _. ⌜ now (map .exit) ≡ mapLeft (Event.joinCreate set) self (now (map .entry)) (now (staging .entry)) ⌝ }
+        ensures { λ _. ⌜ now (staging .exit) ≡ stagingLeft (Event.joinCreate set) self (now (map .entry)) (now (staging .entry)) ⌝ }
+    {
+        let n = self.node;
+        let sound = both_sound(n.chunks, map, staging);
+        let t = store::join::join_create(n, sound, set);
+        finish(t, map, staging)
+    }
+
+    // Assemble or rejoin.
+    pub fn assemble(mut self, map: &mut [u8], staging: &mut [u8]) -> Out
+        ensures { λ r. ⌜ r ≡ answers Event.assemble self (now (map .entry)) (now (staging .entry)) ⌝ }
+        ensures { λ _. ⌜ now (map .exit) ≡ mapLeft Event.assemble self (now (map .entry)) (now (staging .entry)) ⌝ }
+        ensures { λ _. ⌜ now (staging .exit) ≡ stagingLeft Event.assemble self (now (map .entry)) (now (staging .entry)) ⌝ }
+    {
+        let n = self.node;
+        let sound = both_sound(n.chunks, map, staging);
+        let t = store::join::assemble(n, sound);
+        finish(t, map, staging)
+    }
+
+    // The session leaves the pool.
+    pub fn leave(mut self, map: &mut [u8], staging: &mut [u8], delete: bool) -> Out
+        ensures { λ r. ⌜ r ≡ answers (Event.leave delete) self (now (map .entry)) (now (staging .entry)) ⌝ }
+        ensures { λ _. ⌜ now (map .exit) ≡ mapLeft (Event.leave delete) self (now (map .entry)) (now (staging .entry)) ⌝ }
+        ensures { λ _. ⌜ now (staging .exit) ≡ stagingLeft (Event.leave delete) self (now (map .entry)) (now (staging .entry)) ⌝ }
+    {
+        let n = self.node;
+        let sound = both_sound(n.chunks, map, staging);
+        let t = store::join::leave(n, sound, delete);
+        finish(t, map, staging)
+    }
+
+    // Enable 1: IOs are allowed.
+    pub fn enable1(mut self, map: &mut [u8], staging: &mut [u8], version: u64, set: u64) -> Out
+        ensures { λ r. ⌜ r ≡ answers (Event.enable1 version set) self (now (map .entry)) (now (staging .entry)) ⌝ }
+        ensures { λ _. ⌜ now (map .exit) ≡ mapLeft (Event.enable1 version set) self (now (map .entry)) (now (staging .entry)) ⌝ }
+        ensures { λ _. ⌜ now (staging .exit) ≡ stagingLeft (Event.enable1 version set) self (now (map .entry)) (now (staging .entry)) ⌝ }
+    {
+        let n = self.node;
+        let sound = both_sound(n.chunks, map, staging);
+        let t = service::enable::enable1(n, sound, version, set);
+        finish(t, map, staging)
+    }
+
+    // Enable 0: maintenance.
+    pub fn enable0(mut self, map: &mut [u8], staging: &mut [u8]) -> Out
+        ensures { λ r. ⌜ r ≡ answers Event.enable0 self (now (map .entry)) (now (staging .entry)) ⌝ }
+        ensures { λ _. ⌜ now (map .exit) ≡ mapLeft Event.enable0 self (now (map .entry)) (now (staging .entry)) ⌝ }
+        ensures { λ _. ⌜ now (staging .exit) ≡ stagingLeft Event.enable0 self (now (map .entry)) (now (staging .entry)) ⌝ }
+    {
+        let n = self.node;
+        let sound = both_sound(n.chunks, map, staging);
+        let t = service::enable::enable0(n, sound);
+        finish(t, map, staging)
+    }
+
+    // An error of IO or network.
+    pub fn fault(mut self, map: &mut [u8], staging: &mut [u8]) -> Out
+        ensures { λ r. ⌜ r ≡ answers Event.fault self (now (map .entry)) (now (staging .entry)) ⌝ }
+        ensures { λ _. ⌜ now (map .exit) ≡ mapLeft Event.fault self (now (map .entry)) (now (staging .entry)) ⌝ }
+        ensures { λ _. ⌜ now (staging .exit) ≡ stagingLeft Event.fault self (now (map .entry)) (now (staging .entry)) ⌝ }
+    {
+        let n = self.node;
+        let sound = both_sound(n.chunks, map, staging);
+        let t = service::enable::fault(n, sound);
+        finish(t, map, staging)
+    }
+
+    // A write that reached this node and not the members of the set.
+    pub fn write(
+        mut self,
+        map: &mut [u8],
+        staging: &mut [u8],
+        chunk: u64,
+        set: u64,
+        version: u64,
+    ) -> Out
+        ensures { λ r. ⌜ r ≡ answers (Event.write chunk set version) self (now (map .entry)) (now (staging .entry)) ⌝ }
+        ensures { λ _. ⌜ now (map .exit) ≡ mapLeft (Event.write chunk set version) self (now (map .entry)) (now (staging .entry)) ⌝ }
+        ensures { λ _. ⌜ now (staging .exit) ≡ stagingLeft (Event.write chunk set version) self (now (map .entry)) (now (staging .entry)) ⌝ }
+    {
+        let n = self.node;
+        let sound = both_sound(n.chunks, map, staging);
+        let t = service::io::write(n, sound, chunk, set, version);
+        finish(t, map, staging)
+    }
+
+    // A chunk was synced for a member.
+    pub fn synced(mut self, map: &mut [u8], staging: &mut [u8], member: u64, chunk: u64) -> Out
+        ensures { λ r. ⌜ r ≡ answers (Event.synced member chunk) self (now (map .entry)) (now (staging .entry)) ⌝ }
+        ensures { λ _. ⌜ now (map .exit) ≡ mapLeft (Event.synced member chunk) self (now (map .entry)) (now (staging .entry)) ⌝ }
+        ensures { λ _. ⌜ now (staging .exit) ≡ stagingLeft (Event.synced member chunk) self (now (map .entry)) (now (staging .entry)) ⌝ }
+    {
+        let n = self.node;
+        let sound = both_sound(n.chunks, map, staging);
+        let t = service::io::synced(n, sound, member, chunk);
+        finish(t, map, staging)
+    }
+
+    // POOL_INFO: another member came or went.
+    pub fn pool_info(mut self, map: &mut [u8], staging: &mut [u8], op: Op, member: u64) -> Out
+        ensures { λ r. ⌜ r ≡ answers (Event.poolInfo op member) self (now (map .entry)) (now (staging .entry)) ⌝ }
+        ensures { λ _. ⌜ now (map .exit) ≡ mapLeft (Event.poolInfo op member) self (now (map .entry)) (now (staging .entry)) ⌝ }
+        ensures { λ _. ⌜ now (staging .exit) ≡ stagingLeft (Event.poolInfo op member) self (now (map .entry)) (now (staging .entry)) ⌝ }
+    {
+        let n = self.node;
+        let sound = both_sound(n.chunks, map, staging);
+        let t = service::info::pool_info(n, sound, op, member);
+        finish(t, map, staging)
+    }
+
+    // MAP_READY: a transfer begins, from what the map holds or from nothing.
+    pub fn map_ready(mut self, map: &mut [u8], staging: &mut [u8], keep: bool) -> Out
+        ensures { λ r. ⌜ r ≡ answers (Event.mapReady keep) self (now (map .entry)) (now (staging .entry)) ⌝ }
+        ensures { λ _. ⌜ now (map .exit) ≡ mapLeft (Event.mapReady keep) self (now (map .entry)) (now (staging .entry)) ⌝ }
+        ensures { λ _. ⌜ now (staging .exit) ≡ stagingLeft (Event.mapReady keep) self (now (map .entry)) (now (staging .entry)) ⌝ }
+    {
+        let n = self.node;
+        let sound = both_sound(n.chunks, map, staging);
+        let t = transfer::serve::map_ready(n, sound, keep);
+        finish(t, map, staging)
+    }
+
+    // The map goes out: where it goes is the caller's.
+    pub fn give(mut self, map: &mut [u8], staging: &mut [u8]) -> Out
+        ensures { λ r. ⌜ r ≡ answers Event.give self (now (map .entry)) (now (staging .entry)) ⌝ }
+        ensures { λ _. ⌜ now (map .exit) ≡ mapLeft Event.give self (now (map .entry)) (now (staging .entry)) ⌝ }
+        ensures { λ _. ⌜ now (staging .exit) ≡ stagingLeft Event.give self (now (map .entry)) (now (staging .entry)) ⌝ }
+    {
+        let n = self.node;
+        let sound = both_sound(n.chunks, map, staging);
+        let t = transfer::serve::give(n, sound);
+        finish(t, map, staging)
+    }
+
+    // A map is taken: ORed into staging.
+    pub fn take(mut self, map: &mut [u8], staging: &mut [u8], taken: &[u8]) -> Out
+        ensures { λ r. ⌜ r ≡ answers (Event.take (now (taken .entry))) self (now (map .entry)) (now (staging .entry)) ⌝ }
+        ensures { λ _. ⌜ now (map .exit) ≡ mapLeft (Event.take (now (taken .entry))) self (now (map .entry)) (now (staging .entry)) ⌝ }
+        ensures { λ _. ⌜ now (staging .exit) ≡ stagingLeft (Event.take (now (taken .entry))) self (now (map .entry)) (now (staging .entry)) ⌝ }
+    {
+        let n = self.node;
+        let sound = maps::is_sound(taken, n.chunks) & both_sound(n.chunks, map, staging);
+        let t = transfer::hand::take(n, sound);
+        let e = t.effect;
+        let s = e.staging;
+        let out = finish(t, map, staging);
+        nodemaps::take_in(s, taken, staging);
+        out
+    }
+
+    // MAP_DONE: staging takes the map's place.
+    pub fn map_done(
+        mut self,
+        map: &mut [u8],
+        staging: &mut [u8],
+        enabling: bool,
+        version: u64,
+        set: u64,
+    ) -> Out
+        ensures { λ r. ⌜ r ≡ answers (Event.mapDone enabling version set) self (now (map .entry)) (now (staging .entry)) ⌝ }
+        ensures { λ _. ⌜ now (map .exit) ≡ mapLeft (Event.mapDone enabling version set) self (now (map .entry)) (now (staging .entry)) ⌝ }
+        ensures { λ _. ⌜ now (staging .exit) ≡ stagingLeft (Event.mapDone enabling version set) self (now (map .entry)) (now (staging .entry)) ⌝ }
+    {
+        let n = self.node;
+        let sound = both_sound(n.chunks, map, staging);
+        let t = transfer::hand::map_done(n, sound, enabling, version, set);
+        finish(t, map, staging)
+    }
+
+    // MAP_DISABLE: the transfer is given up.
+    pub fn map_disable(mut self, map: &mut [u8], staging: &mut [u8]) -> Out
+        ensures { λ r. ⌜ r ≡ answers Event.mapDisable self (now (map .entry)) (now (staging .entry)) ⌝ }
+        ensures { λ _. ⌜ now (map .exit) ≡ mapLeft Event.mapDisable self (now (map .entry)) (now (staging .entry)) ⌝ }
+        ensures { λ _. ⌜ now (staging .exit) ≡ stagingLeft Event.mapDisable self (now (map .entry)) (now (staging .entry)) ⌝ }
+    {
+        let n = self.node;
+        let sound = both_sound(n.chunks, map, staging);
+        let t = transfer::hand::map_disable(n, sound);
+        finish(t, map, staging)
+    }
+
+    // MAP_GET_VER: the answer carries the version.
+    pub fn map_get_ver(mut self, map: &mut [u8], staging: &mut [u8]) -> Out
+        ensures { λ r. ⌜ r ≡ answers Event.mapGetVer self (now (map .entry)) (now (staging .entry)) ⌝ }
+        ensures { λ _. ⌜ now (map .exit) ≡ mapLeft Event.mapGetVer self (now (map .entry)) (now (staging .entry)) ⌝ }
+        ensures { λ _. ⌜ now (staging .exit) ≡ stagingLeft Event.mapGetVer self (now (map .entry)) (now (staging .entry)) ⌝ }
+    {
+        let n = self.node;
+        let sound = both_sound(n.chunks, map, staging);
+        let t = transfer::serve::map_get_ver(n, sound);
+        finish(t, map, staging)
+    }
+
+    // LAST_IO_TO_MAP: the kept chunks go into the map.
+    pub fn last_io_to_map(mut self, map: &mut [u8], staging: &mut [u8], chosen: u64) -> Out
+        ensures { λ r. ⌜ r ≡ answers (Event.lastIoToMap chosen) self (now (map .entry)) (now (staging .entry)) ⌝ }
+        ensures { λ _. ⌜ now (map .exit) ≡ mapLeft (Event.lastIoToMap chosen) self (now (map .entry)) (now (staging .entry)) ⌝ }
+        ensures { λ _. ⌜ now (staging .exit) ≡ stagingLeft (Event.lastIoToMap chosen) self (now (map .entry)) (now (staging .entry)) ⌝ }
+    {
+        let n = self.node;
+        let sound = both_sound(n.chunks, map, staging);
+        let t = transfer::serve::last_io_to_map(n, sound, chosen);
+        finish(t, map, staging)
+    }
+}
+
+fn both_sound(chunks: u64, map: &[u8], staging: &[u8]) -> bool
+    ensures { λ r. ⌜ r ≡ (sound chunks (now (map .entry)) && sound chunks (now (staging .entry))) ⌝ }
+{
+    maps::is_sound(map, chunks) & maps::is_sound(staging, chunks)
+}
+
+// Carries out what is due to the maps, and hands the answer back with the state.
+fn finish(t: Turn, map: &mut [u8], staging: &mut [u8]) -> Out
+    ensures { λ r. ⌜ r ≡ told t ⌝ }
+    ensures { λ _. ⌜ now (map .exit) ≡ mapBy t (now (map .entry)) (now (staging .entry)) ⌝ }
+    ensures { λ _. ⌜ now (staging .exit) ≡ stagingBy t (now (map .entry)) (now (staging .entry)) ⌝ }
+{
+    let e = t.effect;
+    let a = t.answer;
+    let n = t.node;
+    nodemaps::carry(e, n, map, staging);
+    Out {
+        answer: a,
+        node: StorageNode { node: n },
+    }
+}

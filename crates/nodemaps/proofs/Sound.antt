@@ -1,0 +1,70 @@
+-- What a node's events leave of sound maps is sound. Assumes nothing.
+use mathlib.Core.Path.{_≡_, refl}
+use mathlib.Core.Bool.{Bool, true, false}
+use mathlib.Core.List.{List}
+use Prim.Native.Nat.{ℕ, zero, suc, _+_, _<_, _≤_}
+use native.Mathlib.Omega.{arith}
+use lib.Dec.{eqb, ltb}
+use lib.ListN.{getD}
+use borrow.Author.Tests.{ltb-true}
+use Rattle.laws.specs.Words.{pick}
+use Rattle.laws.specs.Loops.{runAt}
+use Rattle.maps.specs.Map.{dirty}
+use Rattle.maps.proofs.Sound.{Sound, sound-cleared, sound-or, sound-copied, sound-zeroRow, sound-zeroed, sound-kept, sound-markedFor}
+use Rattle.nodestate.specs.declared.OnMap.{OnMap}
+use Rattle.nodestate.specs.declared.OnStaging.{OnStaging}
+use Rattle.nodestate.specs.declared.Node.{Node}
+use Rattle.nodestate.specs.Rules.{isKept, keptOk}
+use Rattle.nodestate.proofs.Valid.{kept-below}
+use Rattle.nodemaps.specs.Carry.{lastIo, lastIoAt, lastIos, mapAfter, stagingAfter, takenIn}
+
+-- an effect that reaches no chunk past the count: the chunk that is marked is below it, and so are the kept ones
+abbrev pub fits : OnMap → Node → Bool
+fits OnMap.Keep n = true
+fits (OnMap.Mark set chunk) n = ltb chunk (n .chunks)
+fits (OnMap.Clear member chunk) n = true
+fits (OnMap.LastIos chosen) n = keptOk n
+fits (OnMap.ZeroRow member) n = true
+fits OnMap.Zero n = true
+fits (OnMap.KeepRows set) n = true
+fits (OnMap.Commit set) n = true
+
+sound-pick : (n : ℕ) (b : Bool) (xs ys : List ℕ) → (b ≡ true → Sound n xs) → (b ≡ false → Sound n ys) → Sound n (pick b xs ys)
+sound-pick n true xs ys f g = f refl
+sound-pick n false xs ys f g = g refl
+
+pub sound-lastIoAt : (n : Node) (chosen i : ℕ) (xs : List ℕ) → keptOk n ≡ true → i < 16 → Sound (n .chunks) xs → Sound (n .chunks) (lastIoAt n chosen i xs)
+unfolding lastIoAt lastIo
+sound-lastIoAt n chosen i xs k l s =
+    sound-pick _ (isKept n i) _ _
+    (λ e. sound-pick _ (eqb (dirty xs chosen (getD (n .kept) i 0)) 1) _ _ (λ _. s) (λ _. sound-markedFor _ _ _ xs s (kept-below n k i l e)))
+    (λ _. s)
+
+sound-runs : (n : Node) (chosen m i : ℕ) (xs : List ℕ) → keptOk n ≡ true → i + m ≤ 16 → Sound (n .chunks) xs → Sound (n .chunks) (runAt (lastIoAt n chosen) m i xs)
+sound-runs n chosen zero i xs k l s = s
+sound-runs n chosen (suc m) i xs k l s = sound-runs n chosen m (suc i) (lastIoAt n chosen i xs) k (omega arith) (sound-lastIoAt n chosen i xs k (omega arith) s)
+
+pub sound-map : (e : OnMap) (n : Node) (ys xs : List ℕ) → fits e n ≡ true → Sound (n .chunks) ys → Sound (n .chunks) xs → Sound (n .chunks) (mapAfter e n ys xs)
+unfolding mapAfter lastIos
+sound-map OnMap.Keep n ys xs f r s = s
+sound-map (OnMap.Mark set chunk) n ys xs f r s = sound-markedFor _ set chunk xs s (ltb-true chunk (n .chunks) f)
+sound-map (OnMap.Clear member chunk) n ys xs f r s = sound-cleared _ xs member chunk s
+sound-map (OnMap.LastIos chosen) n ys xs f r s = sound-runs n chosen 16 0 xs f (omega arith) s
+sound-map (OnMap.ZeroRow member) n ys xs f r s = sound-zeroRow _ member xs s
+sound-map OnMap.Zero n ys xs f r s = sound-zeroed _ xs s
+sound-map (OnMap.KeepRows set) n ys xs f r s = sound-kept _ set xs s
+sound-map (OnMap.Commit set) n ys xs f r s = sound-kept _ set _ (sound-copied _ xs ys s r)
+
+pub sound-staging : (c : ℕ) (e : OnStaging) (xs ys : List ℕ) → Sound c xs → Sound c ys → Sound c (stagingAfter e xs ys)
+unfolding stagingAfter
+sound-staging c OnStaging.Keep xs ys s r = r
+sound-staging c OnStaging.Zero xs ys s r = sound-zeroed c ys r
+sound-staging c OnStaging.Fill xs ys s r = sound-copied c ys xs r s
+sound-staging c OnStaging.Or xs ys s r = r
+
+pub sound-taken : (c : ℕ) (e : OnStaging) (zs ys : List ℕ) → Sound c zs → Sound c ys → Sound c (takenIn e zs ys)
+unfolding takenIn
+sound-taken c OnStaging.Keep zs ys s r = r
+sound-taken c OnStaging.Zero zs ys s r = r
+sound-taken c OnStaging.Fill zs ys s r = r
+sound-taken c OnStaging.Or zs ys s r = sound-or c ys zs r s

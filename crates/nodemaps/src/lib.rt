@@ -1,0 +1,100 @@
+// What a node's events do to its two maps, carried out by the functions of `maps`. Every function takes maps of any length.
+ghost use mathlib.Core.Path.{_≡_};
+ghost use Prim.Native.Nat.{_<_};
+ghost use Rattle.maps.specs.Map.{kept, copied};
+ghost use Rattle.nodemaps.specs.Carry.{lastIo, lastIoAt, lastIos, mapAfter, stagingAfter, takenIn};
+use nodestate::Effect;
+use nodestate::Node;
+use nodestate::OnMap;
+use nodestate::OnStaging;
+
+// Carries an effect out: the map first, then staging.
+pub fn carry(e: Effect, n: Node, map: &mut [u8], staging: &mut [u8])
+    ensures { λ _. ⌜ now (map .exit) ≡ mapAfter (e .map) n (now (staging .entry)) (now (map .entry)) ⌝ }
+    ensures { λ _. ⌜ now (staging .exit) ≡ stagingAfter (e .staging) (mapAfter (e .map) n (now (staging .entry)) (now (map .entry))) (now (staging .entry)) ⌝ }
+{
+    let m = e.map;
+    let s = e.staging;
+    carry_map(m, n, map, staging);
+    carry_staging(s, map, staging);
+}
+
+fn carry_map(e: OnMap, n: Node, map: &mut [u8], staging: &[u8])
+    ensures { λ _. ⌜ now (map .exit) ≡ mapAfter e n (now (staging .entry)) (now (map .entry)) ⌝ }
+{
+    match e {
+        OnMap::Keep => {}
+        OnMap::Mark(set, chunk) => maps::mark_for(map, set, chunk),
+        OnMap::Clear(member, chunk) => maps::clear(map, member, chunk),
+        OnMap::LastIos(chosen) => last_ios(n, chosen, map),
+        OnMap::ZeroRow(member) => maps::zero_row(map, member),
+        OnMap::Zero => maps::zero(map),
+        OnMap::KeepRows(set) => maps::keep_rows(map, set),
+        OnMap::Commit(set) => commit(set, map, staging),
+    }
+}
+
+// Staging in the map's place, with the rows of the set alone.
+fn commit(set: u64, map: &mut [u8], staging: &[u8])
+    ensures { λ _. ⌜ now (map .exit) ≡ kept set (copied (now (map .entry)) (now (staging .entry))) ⌝ }
+{
+    maps::copy(map, staging);
+    maps::keep_rows(map, set);
+}
+
+fn carry_staging(e: OnStaging, map: &[u8], staging: &mut [u8])
+    ensures { λ _. ⌜ now (staging .exit) ≡ stagingAfter e (now (map .entry)) (now (staging .entry)) ⌝ }
+{
+    match e {
+        OnStaging::Keep => {}
+        OnStaging::Zero => maps::zero(staging),
+        OnStaging::Fill => maps::copy(staging, map),
+        OnStaging::Or => {}
+    }
+}
+
+// Taking a map: ORed into staging where the event was accepted.
+pub fn take_in(e: OnStaging, taken: &[u8], staging: &mut [u8])
+    ensures { λ _. ⌜ now (staging .exit) ≡ takenIn e (now (taken .entry)) (now (staging .entry)) ⌝ }
+{
+    match e {
+        OnStaging::Keep => {}
+        OnStaging::Zero => {}
+        OnStaging::Fill => {}
+        OnStaging::Or => maps::or_in(staging, taken),
+    }
+}
+
+// LAST_IO_TO_MAP: each kept chunk, in order of arrival.
+fn last_ios(n: Node, chosen: u64, map: &mut [u8])
+    ensures { λ _. ⌜ now (map .exit) ≡ lastIos n chosen (now (map .entry)) ⌝ }
+{
+    let mut i: usize = 0;
+    while i < 16 {
+        last_io_at(n, chosen, i, map);
+        i += 1;
+    }
+}
+
+fn last_io_at(n: Node, chosen: u64, i: usize, map: &mut [u8])
+    requires { ⌜ i < 16 ⌝ }
+    ensures { λ _. ⌜ now (map .exit) ≡ lastIoAt n chosen i (now (map .entry)) ⌝ }
+{
+    let left = (16 - i) as u64;
+    let chunk = n.kept[i];
+    if n.held < left {
+        return;
+    }
+    last_io(n.members, chosen, chunk, map);
+}
+
+// A chunk that is dirty for the chosen was missed by it: it has nothing to tell the others.
+fn last_io(members: u64, chosen: u64, chunk: u64, map: &mut [u8])
+    ensures { λ _. ⌜ now (map .exit) ≡ lastIo members chosen chunk (now (map .entry)) ⌝ }
+{
+    if maps::test(map, chosen, chunk) {
+        return;
+    }
+    let others = sets::without(members, chosen);
+    maps::mark_for(map, others, chunk);
+}

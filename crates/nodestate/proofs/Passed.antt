@@ -1,0 +1,94 @@
+-- What an accepted event knows: no refusal of the order applied. Assumes nothing.
+use mathlib.Core.Path.{_≡_, refl}
+use mathlib.Core.Logic.{_≢_}
+use mathlib.Core.Bool.{Bool, true, false, not, _&&_, _||_}
+use mathlib.Core.List.{List, [], _∷_}
+use Prim.Native.Nat.{ℕ, zero, suc, _≤_, _<_}
+use native.Mathlib.Omega.{arith}
+use lib.Dec.{leb, ltb}
+use lib.ListN.{length, getD}
+use borrow.Author.Tests.{ltb-false, leb-true, not-false}
+use Rattle.laws.specs.Words.{pick}
+use Rattle.laws.specs.Tests.{passed, clash, and-left, and-right}
+use Rattle.refusals.specs.Limits.{versionLimit, versionTop}
+use Rattle.sets.specs.Sets.{has}
+use Rattle.nodestate.specs.declared.Node.{Node}
+use Rattle.nodestate.specs.Rules.{valid}
+use Rattle.nodestate.specs.Table.{Kind, legal}
+use Rattle.nodestate.proofs.Valid.{Valid, valid-facts}
+use Rattle.refusals.specs.Refusals.{Test, places, applies, firstOf, refusal}
+
+-- a list of numbers without 0
+abbrev counted : List ℕ → Bool
+counted [] = true
+counted (zero ∷ ns) = false
+counted (suc n ∷ ns) = counted ns
+
+none-of : (ns : List ℕ) (ts : List Test) → counted ns ≡ true → firstOf ns ts ≡ 0 → (i : ℕ) → i < length ns → applies (getD ns i 0) ts ≡ false
+none-of [] ts h e i l = absurd (let z : ⊥ = omega arith in z)
+none-of (zero ∷ ns) ts h e i l = clash h refl
+none-of (suc n ∷ ns) ts h e zero l = passed (applies (suc n) ts) (suc n) (firstOf ns ts) (λ q. omega arith) e .0
+none-of (suc n ∷ ns) ts h e (suc i) l = none-of ns ts h (passed (applies (suc n) ts) (suc n) (firstOf ns ts) (λ q. omega arith) e .1) i (omega arith)
+
+-- the number at place i of the order does not apply
+pub not-refused : (ts : List Test) → refusal ts ≡ 0 → (i : ℕ) → i < 15 → applies (getD places i 0) ts ≡ false
+not-refused ts e i l = none-of places ts refl e i l
+
+pub or-false : (a b : Bool) → (a || b) ≡ false → (a ≡ false) × (b ≡ false)
+or-false true b e = clash refl e
+or-false false b e = (refl, e)
+
+-- what every accepted event knows: the node's rules, its own id, that the lent maps are sound, and that the event may come
+pub record Passed (n : Node) (lent may : Bool) : Type 0 where
+  pub rules : Valid n
+  pub sure : lent ≡ true
+  pub own : n .id < 16
+  pub from : may ≡ true
+
+pub passes : (n : Node) (lent may : Bool) → not (valid n) ≡ false → not lent ≡ false → ltb 15 (n .id) ≡ false → not may ≡ false → Passed n lent may
+passes n lent may v s i m =
+    let l : n .id ≤ 15 = ltb-false 15 (n .id) i in
+    record { rules = valid-facts n (not-false (valid n) v); sure = not-false lent s; own = omega arith; from = not-false may m }
+
+-- what the version and the set that a node is told are known to be
+pub record Told (n : Node) (version set : ℕ) : Type 0 where
+  pub set-lt : set < 65536
+  pub holds : has set (n .id) ≡ true
+  pub low : version ≤ versionTop
+
+pub tells : (n : Node) (version set : ℕ) → ltb 65535 set ≡ false → not (has set (n .id)) ≡ false → ltb versionLimit version ≡ false → Told n version set
+tells n version set s h v =
+    let l : set ≤ 65535 = ltb-false 65535 set s in
+    let w : version ≤ versionLimit = ltb-false versionLimit version v in
+    record { set-lt = omega arith; holds = not-false (has set (n .id)) h; low = omega arith }
+
+-- what an event of the kind k that takes the node n to m keeps: the state rules, the table of legal changes, id and chunk count
+pub record Keeps (k : Kind) (n m : Node) : Type 0 where
+  pub rules : valid m ≡ true
+  pub lawful : legal k (n .state) (m .state) ≡ true
+  pub same-id : m .id ≡ n .id
+  pub same-chunks : m .chunks ≡ n .chunks
+  pub size : length (m .kept) ≡ length (n .kept)
+
+-- a refusal that is neither 1 nor 2
+pub record Later (why : ℕ) : Type 0 where
+  pub not-1 : why ≢ 1
+  pub not-2 : why ≢ 2
+
+-- a list of numbers from 3 on
+abbrev late : List ℕ → Bool
+late [] = true
+late (n ∷ ns) = leb 3 n && late ns
+
+later-pick : (b : Bool) (n rest : ℕ) → 3 ≤ n → Later rest → Later (pick b n rest)
+later-pick true n rest l r = record { not-1 = λ e. omega arith; not-2 = λ e. omega arith }
+later-pick false n rest l r = r
+
+later-of : (ns : List ℕ) (ts : List Test) → late ns ≡ true → Later (firstOf ns ts)
+later-of [] ts h = record { not-1 = λ e. omega arith; not-2 = λ e. omega arith }
+later-of (n ∷ ns) ts h =
+    later-pick (applies n ts) n (firstOf ns ts) (leb-true 3 n (and-left (leb 3 n) (late ns) h)) (later-of ns ts (and-right (leb 3 n) (late ns) h))
+
+-- tests 1 and 2 do not hold: the refusal is another, or none
+pub later : (ts : List Test) → applies 1 ts ≡ false → applies 2 ts ≡ false → Later (refusal ts)
+later ts a b = rw (a, b) (later-of (3 ∷ 4 ∷ 5 ∷ 6 ∷ 7 ∷ 8 ∷ 9 ∷ 10 ∷ 11 ∷ 12 ∷ 13 ∷ 14 ∷ 15 ∷ []) ts refl)

@@ -1,0 +1,17 @@
+use Rattle.nodestate.specs.Change.{instructed}
+use borrow.Author.Needs.{needs}
+use Rattle.nodestate.proofs.change.instructed.Statement.{statement}
+use Rattle.nodestate.proofs.change.instructed.Tie as tie
+
+took-over-requires : tie.Need-took-over-requires
+took-over-requires c κs = search needs
+
+stored-version-requires : tie.Need-stored-version-requires
+stored-version-requires c κs = search needs
+
+returns : tie.Need-returns
+unfolding instructed
+returns c = cc
+
+pub instructed-spec : {M : Type 1} → statement M
+instructed-spec = tie.close (tie.spec took-over-requires stored-version-requires returns)

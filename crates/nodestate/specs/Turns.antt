@@ -1,0 +1,29 @@
+-- How a turn is put together: refused, or done.
+use Prim.Native.Nat.{ℕ}
+use lib.Dec.{eqb}
+use Rattle.laws.specs.Words.{pick}
+use Rattle.nodestate.specs.declared.OnMap.{OnMap}
+use Rattle.nodestate.specs.declared.OnStaging.{OnStaging}
+use Rattle.nodestate.specs.declared.Effect.{Effect}
+use Rattle.nodestate.specs.declared.Answer.{Answer}
+use Rattle.nodestate.specs.declared.Node.{Node}
+use Rattle.nodestate.specs.declared.Turn.{Turn}
+
+-- what is done to map and staging
+abbrev pub does : OnMap → OnStaging → Effect
+does m s = record { map = m; staging = s }
+
+-- both maps stay
+abbrev pub nothing : Effect
+nothing = does OnMap.Keep OnStaging.Keep
+
+abbrev pub turn : Answer → Node → Effect → Turn
+turn a n e = record { answer = a; node = n; effect = e }
+
+-- refused with a number: the state and both maps stay
+abbrev pub refused : ℕ → Node → Turn
+refused why n = turn (Answer.Refused why) n nothing
+
+-- the turn t of an event at the node n, whose refusal is why (0: none)
+unfoldable pub settled : ℕ → Node → Turn → Turn
+settled why n t = pick (eqb why 0) t (refused why n)

@@ -1,0 +1,51 @@
+-- Writes and syncs at a node: NORMAL only. `lent` says that the lent maps are sound.
+use mathlib.Core.Bool.{Bool, not, _||_}
+use mathlib.Core.List.{[], _∷_}
+use Prim.Native.Nat.{ℕ}
+use lib.Dec.{ltb}
+use Rattle.refusals.specs.Limits.{versionTop}
+use Rattle.refusals.specs.Refusals.{refusal, test}
+use Rattle.nodestate.specs.declared.OnMap.{OnMap}
+use Rattle.nodestate.specs.declared.OnStaging.{OnStaging}
+use Rattle.nodestate.specs.declared.Answer.{Answer}
+use Rattle.nodestate.specs.declared.Node.{Node}
+use Rattle.nodestate.specs.declared.Turn.{Turn}
+use Rattle.nodestate.specs.States.{isNormal}
+use Rattle.nodestate.specs.Change.{storedVersion, keptChunk}
+use Rattle.nodestate.specs.Rules.{valid}
+use Rattle.nodestate.specs.Turns.{does, turn, settled}
+
+-- ---- write (chunk, set, version): marks the chunk for each of the set, stores the version, keeps the chunk number
+
+unfoldable pub writeRefusal : Node → Bool → ℕ → ℕ → ℕ → ℕ
+writeRefusal n lent chunk set version =
+    refusal
+    (test 1 (not (valid n))
+    ∷ test 2 (not lent)
+    ∷ test 3 (ltb 15 (n .id) || ltb 65535 set)
+    ∷ test 4 (not (ltb chunk (n .chunks)))
+    ∷ test 9 (not (isNormal (n .state)))
+    ∷ test 14 (ltb versionTop version)
+    ∷ [])
+
+unfoldable pub written : Node → ℕ → ℕ → Node
+written n chunk version = keptChunk (storedVersion n version) chunk
+
+unfoldable pub write : Node → Bool → ℕ → ℕ → ℕ → Turn
+write n lent chunk set version =
+    settled (writeRefusal n lent chunk set version) n (turn Answer.Done (written n chunk version) (does (OnMap.Mark set chunk) OnStaging.Keep))
+
+-- ---- synced (member, chunk): clears the chunk for the member
+
+unfoldable pub syncedRefusal : Node → Bool → ℕ → ℕ → ℕ
+syncedRefusal n lent member chunk =
+    refusal
+    (test 1 (not (valid n))
+    ∷ test 2 (not lent)
+    ∷ test 3 (ltb 15 (n .id) || ltb 15 member)
+    ∷ test 4 (not (ltb chunk (n .chunks)))
+    ∷ test 9 (not (isNormal (n .state)))
+    ∷ [])
+
+unfoldable pub synced : Node → Bool → ℕ → ℕ → Turn
+synced n lent member chunk = settled (syncedRefusal n lent member chunk) n (turn Answer.Done n (does (OnMap.Clear member chunk) OnStaging.Keep))

@@ -1,0 +1,112 @@
+// Enable 1, enable 0, fault.
+ghost use mathlib.Core.Path.{_≡_};
+ghost use Rattle.service.specs.Enable.{enable1Refusal, enabled, enable1, stoppable, stopRefusal, disabled, enable0, fault};
+use nodestate::Answer;
+use nodestate::Node;
+use nodestate::OnMap;
+use nodestate::OnStaging;
+use nodestate::State;
+use nodestate::Turn;
+use nodestate::change;
+use nodestate::rules;
+use nodestate::states;
+use nodestate::turns;
+
+fn enable1_refusal(n: Node, lent: bool, version: u64, set: u64) -> u64
+    ensures { λ r. ⌜ r ≡ enable1Refusal n lent version set ⌝ }
+{
+    let ok = rules::valid(n);
+    let serves = states::is_serving(n);
+    let own = sets::has(set, n.id);
+    let ids = (15 < n.id) | (65535 < set);
+    let high = refusals::VERSION_LIMIT < version;
+    refusals::first(
+        !ok,
+        1,
+        refusals::first(
+            !lent,
+            2,
+            refusals::first(
+                ids,
+                3,
+                refusals::first(
+                    !serves,
+                    9,
+                    refusals::first(!own, 10, refusals::first(high, 14, 0)),
+                ),
+            ),
+        ),
+    )
+}
+
+// Serving to NORMAL, with the version and the member set it is told. Staging is dropped.
+pub fn enable1(n: Node, lent: bool, version: u64, set: u64) -> Turn
+    ensures { λ r. ⌜ r ≡ enable1 n lent version set ⌝ }
+{
+    let why = enable1_refusal(n, lent, version, set);
+    let next = enabled(n, version, set);
+    let effect = turns::does(OnMap::KeepRows(set), OnStaging::Zero);
+    let done = turns::turn(Answer::Done, next, effect);
+    turns::settled(why, n, done)
+}
+
+fn enabled(n: Node, version: u64, set: u64) -> Node
+    ensures { λ r. ⌜ r ≡ enabled n version set ⌝ }
+{
+    let here = change::moved(n, State::Normal);
+    let ended = change::ended_transfer(here);
+    change::instructed(ended, version, set)
+}
+
+// What refuses enable 0 and fault.
+fn stop_refusal(n: Node, lent: bool) -> u64
+    ensures { λ r. ⌜ r ≡ stopRefusal n lent ⌝ }
+{
+    let ok = rules::valid(n);
+    let s = n.state;
+    let may = stoppable(s);
+    refusals::first(
+        !ok,
+        1,
+        refusals::first(
+            !lent,
+            2,
+            refusals::first(15 < n.id, 3, refusals::first(!may, 9, 0)),
+        ),
+    )
+}
+
+fn stoppable(s: State) -> bool
+    ensures { λ r. ⌜ r ≡ stoppable s ⌝ }
+{
+    states::is_normal(s) | states::is_no_io(s)
+}
+
+// NORMAL, NO_IO to NO_IO. Staging is dropped.
+pub fn enable0(n: Node, lent: bool) -> Turn
+    ensures { λ r. ⌜ r ≡ enable0 n lent ⌝ }
+{
+    let why = stop_refusal(n, lent);
+    let next = disabled(n);
+    let effect = turns::does(OnMap::Keep, OnStaging::Zero);
+    let done = turns::turn(Answer::Done, next, effect);
+    turns::settled(why, n, done)
+}
+
+fn disabled(n: Node) -> Node
+    ensures { λ r. ⌜ r ≡ disabled n ⌝ }
+{
+    let here = change::moved(n, State::NoIo);
+    change::ended_transfer(here)
+}
+
+// NORMAL, NO_IO to NO_IO. A transfer survives it.
+pub fn fault(n: Node, lent: bool) -> Turn
+    ensures { λ r. ⌜ r ≡ fault n lent ⌝ }
+{
+    let why = stop_refusal(n, lent);
+    let next = change::moved(n, State::NoIo);
+    let effect = turns::does(OnMap::Keep, OnStaging::Keep);
+    let done = turns::turn(Answer::Done, next, effect);
+    turns::settled(why, n, done)
+}

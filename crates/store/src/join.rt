@@ -1,0 +1,163 @@
+// Join create, assemble or rejoin, leave.
+ghost use mathlib.Core.Path.{_≡_};
+ghost use Rattle.store.specs.Join.{
+  ownRow,
+  joinCreateRefusal,
+  joinedCreate,
+  joinCreate,
+  assembles,
+  assembleRefusal,
+  assemble,
+  leftTo,
+  leaveRefusal,
+  left,
+  leaves,
+  leave,
+};
+use nodestate::Answer;
+use nodestate::Node;
+use nodestate::OnMap;
+use nodestate::OnStaging;
+use nodestate::State;
+use nodestate::Turn;
+use nodestate::change;
+use nodestate::rules;
+use nodestate::states;
+use nodestate::turns;
+
+// The node's own row alone.
+fn own_row(n: Node) -> OnMap
+    ensures { λ r. ⌜ r ≡ ownRow n ⌝ }
+{
+    let own = sets::with(0, n.id);
+    OnMap::KeepRows(own)
+}
+
+fn join_create_refusal(n: Node, lent: bool, set: u64) -> u64
+    ensures { λ r. ⌜ r ≡ joinCreateRefusal n lent set ⌝ }
+{
+    let ok = rules::valid(n);
+    let s = n.state;
+    let marked = states::is_registered(s) & n.create;
+    let ids = (15 < n.id) | (65535 < set);
+    refusals::first(
+        !ok,
+        1,
+        refusals::first(
+            !lent,
+            2,
+            refusals::first(ids, 3, refusals::first(!marked, 9, 0)),
+        ),
+    )
+}
+
+// REGISTERED marked to CREATED, with the members as given and itself.
+pub fn join_create(n: Node, lent: bool, set: u64) -> Turn
+    ensures { λ r. ⌜ r ≡ joinCreate n lent set ⌝ }
+{
+    let why = join_create_refusal(n, lent, set);
+    let next = joined_create(n, set);
+    let map = own_row(n);
+    let effect = turns::does(map, OnStaging::Keep);
+    let done = turns::turn(Answer::Done, next, effect);
+    turns::settled(why, n, done)
+}
+
+fn joined_create(n: Node, set: u64) -> Node
+    ensures { λ r. ⌜ r ≡ joinedCreate n set ⌝ }
+{
+    let all = sets::with(set, n.id);
+    let here = change::moved(n, State::Created);
+    let plain = change::equipped(here, n.store, false);
+    change::took_over(plain, all)
+}
+
+fn assemble_refusal(n: Node, lent: bool) -> u64
+    ensures { λ r. ⌜ r ≡ assembleRefusal n lent ⌝ }
+{
+    let ok = rules::valid(n);
+    let s = n.state;
+    let may = assembles(s, n.store, n.create);
+    refusals::first(
+        !ok,
+        1,
+        refusals::first(
+            !lent,
+            2,
+            refusals::first(15 < n.id, 3, refusals::first(!may, 9, 0)),
+        ),
+    )
+}
+
+// Assemble or rejoin: REGISTERED unmarked, NORMAL, NO_IO with store, to NO_IO. A transfer survives it.
+pub fn assemble(n: Node, lent: bool) -> Turn
+    ensures { λ r. ⌜ r ≡ assemble n lent ⌝ }
+{
+    let why = assemble_refusal(n, lent);
+    let next = change::moved(n, State::NoIo);
+    let effect = turns::does(OnMap::Keep, OnStaging::Keep);
+    let done = turns::turn(Answer::Done, next, effect);
+    turns::settled(why, n, done)
+}
+
+fn assembles(s: State, store: bool, create: bool) -> bool
+    ensures { λ r. ⌜ r ≡ assembles s store create ⌝ }
+{
+    (states::is_registered(s) & !create) | (states::is_normal(s) | (states::is_no_io(s) & store))
+}
+
+fn leave_refusal(n: Node, lent: bool) -> u64
+    ensures { λ r. ⌜ r ≡ leaveRefusal n lent ⌝ }
+{
+    let ok = rules::valid(n);
+    let s = n.state;
+    let joined = states::is_joined(s);
+    refusals::first(
+        !ok,
+        1,
+        refusals::first(
+            !lent,
+            2,
+            refusals::first(15 < n.id, 3, refusals::first(!joined, 9, 0)),
+        ),
+    )
+}
+
+// CREATED, NORMAL, NO_IO to REGISTERED, or to EMPTY without store. Delete keeps its own row alone.
+pub fn leave(n: Node, lent: bool, delete: bool) -> Turn
+    ensures { λ r. ⌜ r ≡ leave n lent delete ⌝ }
+{
+    let why = leave_refusal(n, lent);
+    let next = left(n);
+    let map = leaves(delete, n);
+    let effect = turns::does(map, OnStaging::Zero);
+    let done = turns::turn(Answer::Done, next, effect);
+    turns::settled(why, n, done)
+}
+
+fn left(n: Node) -> Node
+    ensures { λ r. ⌜ r ≡ left n ⌝ }
+{
+    let to = left_to(n.store);
+    let away = change::moved(n, to);
+    change::ended_transfer(away)
+}
+
+fn left_to(store: bool) -> State
+    ensures { λ r. ⌜ r ≡ leftTo store ⌝ }
+{
+    if store {
+        State::Registered
+    } else {
+        State::Empty
+    }
+}
+
+fn leaves(delete: bool, n: Node) -> OnMap
+    ensures { λ r. ⌜ r ≡ leaves delete n ⌝ }
+{
+    if delete {
+        return own_row(n);
+    }
+    OnMap::Keep
+}
