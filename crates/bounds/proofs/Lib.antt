@@ -1,0 +1,4 @@
+pub mod Begin
+pub mod Course
+pub mod Demand3
+pub mod Instance

@@ -1,0 +1,1 @@
+// No code: how many answers a recovery run can take.

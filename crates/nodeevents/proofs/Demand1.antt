@@ -1,0 +1,72 @@
+-- Demand 1 for the node.
+use mathlib.Core.Path.{_≡_, refl, ap, _∙_}
+use mathlib.Core.Bool.{Bool, true, false}
+use Prim.Native.Nat.{ℕ}
+use lib.Dec.{eqb}
+use borrow.Author.Tests.{eqb-true, eqb-false}
+use Rattle.laws.specs.Words.{pick}
+use Rattle.refusals.specs.Refusals.{refusal}
+use Rattle.order.proofs.Order.{first-applies, none-applies}
+use Rattle.nodestate.specs.declared.Answer.{Answer}
+use Rattle.nodestate.specs.declared.Node.{Node}
+use Rattle.nodestate.specs.declared.Turn.{Turn}
+use Rattle.nodestate.specs.Turns.{refused, settled}
+use Rattle.store.specs.Register as Register
+use Rattle.store.specs.Join as Join
+use Rattle.service.specs.Enable as Enable
+use Rattle.service.specs.Io as Io
+use Rattle.service.specs.Info as Info
+use Rattle.transfer.specs.Serve as Serve
+use Rattle.transfer.specs.Hand as Hand
+use Rattle.node.specs.Events.{Event, third, turnOf}
+use Rattle.node.specs.Face.{lentTo, turnAt, answers}
+use Rattle.node.proofs.Theorems.{refusal-changes-nothing}
+use Rattle.nodeevents.specs.Tests.{testsAt, testsOf}
+use Rattle.nodeevents.specs.Demand1.{isTaken, Verdict, Demand1}
+
+-- a turn is what the event does where nothing refuses it, else it is refused by the first that applies
+record Shape (e : Event) (n : Node) (lent : Bool) : Type 0 where
+  does : Turn
+  same : turnOf e n lent ≡ pick (eqb (refusal (testsAt e n lent)) 0) does (refused (refusal (testsAt e n lent)) n)
+  plain : isTaken (does .answer) ≡ true
+
+shape : (e : Event) (n : Node) (lent : Bool) → Shape e n lent
+unfolding settled Register.registerCreate Register.registerCreateRefusal Register.registerAdd Register.registerAddRefusal Register.unregister Register.unregisterRefusal Join.joinCreate Join.joinCreateRefusal Join.assemble Join.assembleRefusal Join.leave Join.leaveRefusal Enable.enable1 Enable.enable1Refusal Enable.enable0 Enable.fault Enable.stopRefusal Io.write Io.writeRefusal Io.synced Io.syncedRefusal Info.poolInfo Info.poolInfoRefusal Serve.mapReady Serve.give Serve.mapGetVer Serve.serveRefusal Hand.take Hand.mapDisable Hand.handRefusal Hand.mapDone Hand.mapDoneRefusal Serve.lastIoToMap Serve.lastIoRefusal
+shape Event.registerCreate n lent = record { does = _; same = refl; plain = refl }
+shape (Event.registerAdd set version) n lent = record { does = _; same = refl; plain = refl }
+shape (Event.unregister delete) n lent = record { does = _; same = refl; plain = refl }
+shape (Event.joinCreate set) n lent = record { does = _; same = refl; plain = refl }
+shape Event.assemble n lent = record { does = _; same = refl; plain = refl }
+shape (Event.leave delete) n lent = record { does = _; same = refl; plain = refl }
+shape (Event.enable1 version set) n lent = record { does = _; same = refl; plain = refl }
+shape Event.enable0 n lent = record { does = _; same = refl; plain = refl }
+shape Event.fault n lent = record { does = _; same = refl; plain = refl }
+shape (Event.write chunk set version) n lent = record { does = _; same = refl; plain = refl }
+shape (Event.synced member chunk) n lent = record { does = _; same = refl; plain = refl }
+shape (Event.poolInfo op member) n lent = record { does = _; same = refl; plain = refl }
+shape (Event.mapReady keep) n lent = record { does = _; same = refl; plain = refl }
+shape Event.give n lent = record { does = _; same = refl; plain = refl }
+shape (Event.take zs) n lent = record { does = _; same = refl; plain = refl }
+shape (Event.mapDone enabling version set) n lent = record { does = _; same = refl; plain = refl }
+shape Event.mapDisable n lent = record { does = _; same = refl; plain = refl }
+shape Event.mapGetVer n lent = record { does = _; same = refl; plain = refl }
+shape (Event.lastIoToMap chosen) n lent = record { does = _; same = refl; plain = refl }
+
+pub demand-1 : Demand1
+demand-1 e s xs ys = at (eqb why 0) refl
+  where
+    why : ℕ
+    why = refusal (testsOf e s xs ys)
+
+    h : Shape e (s .node) (lentTo (third e) (s .node) xs ys)
+    h = shape e (s .node) (lentTo (third e) (s .node) xs ys)
+
+    turn : (b : Bool) → eqb why 0 ≡ b → turnAt e s xs ys ≡ pick b (h .does) (refused why (s .node))
+    turn b z = h .same ∙ ap (λ (x : Bool). pick x (h .does) (refused why (s .node))) z
+
+    at : (b : Bool) → eqb why 0 ≡ b → Verdict e s xs ys
+    at true z = Verdict.done (ap (λ (t : Turn). isTaken (t .answer)) (turn true z) ∙ h .plain) (none-applies (testsOf e s xs ys) (eqb-true why 0 z))
+    at false z =
+        let q : answers e s xs ys .answer ≡ Answer.Refused why = ap (λ (t : Turn). t .answer) (turn false z) in
+        let u = refusal-changes-nothing e s xs ys why q in
+        Verdict.refused why q (record { first = first-applies (testsOf e s xs ys) (eqb-false why 0 z); node = u .state; map = u .map; staging = u .staging })

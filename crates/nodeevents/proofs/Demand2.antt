@@ -1,0 +1,74 @@
+-- Demand 2 for the node.
+use mathlib.Core.Path.{_≡_, refl, sym, ap, _∙_}
+use mathlib.Core.Bool.{Bool, true, false, not}
+use mathlib.Core.List.{List}
+use Prim.Native.Nat.{ℕ}
+use Rattle.laws.specs.Tests.{clash, and-both}
+use Rattle.refusals.specs.Refusals.{applies}
+use Rattle.nodestate.specs.declared.Answer.{Answer}
+use Rattle.nodestate.specs.declared.Node.{Node}
+use Rattle.nodestate.specs.Rules.{valid}
+use Rattle.node.specs.declared.StorageNode.{StorageNode}
+use Rattle.node.specs.Events.{Event, third}
+use Rattle.node.specs.Face.{lentTo, answers}
+use Rattle.node.proofs.Theorems.{isRefused, Good, fresh-good, stays-good, accepted-keeps}
+use Rattle.nodeevents.specs.Tests.{testsAt, testsOf}
+use Rattle.nodeevents.specs.Demand1.{isTaken, Verdict}
+use Rattle.nodeevents.specs.Demand2.{Reached, RulesKept, NeverOne, NeverTwo, ByTheTable}
+use Rattle.nodeevents.proofs.Demand1.{demand-1}
+
+pub reached-good : (s : StorageNode) (xs ys : List ℕ) → Reached s xs ys → Good s xs ys
+reached-good _ _ _ (Reached.start id chunks xs ys a b m r) = fresh-good id chunks xs ys a b m r
+reached-good _ _ _ (Reached.then s xs ys e r) = stays-good e s xs ys (reached-good s xs ys r)
+
+pub rules-kept : RulesKept
+rules-kept s xs ys r = let g = reached-good s xs ys r in (g .rules, g .map, g .staging)
+
+-- 1 applies where the rules are broken, 2 where a lent map is unsound
+first-two : (e : Event) (n : Node) (lent : Bool) → (applies 1 (testsAt e n lent) ≡ not (valid n)) × (applies 2 (testsAt e n lent) ≡ not lent)
+first-two Event.registerCreate n lent = (refl, refl)
+first-two (Event.registerAdd set version) n lent = (refl, refl)
+first-two (Event.unregister delete) n lent = (refl, refl)
+first-two (Event.joinCreate set) n lent = (refl, refl)
+first-two Event.assemble n lent = (refl, refl)
+first-two (Event.leave delete) n lent = (refl, refl)
+first-two (Event.enable1 version set) n lent = (refl, refl)
+first-two Event.enable0 n lent = (refl, refl)
+first-two Event.fault n lent = (refl, refl)
+first-two (Event.write chunk set version) n lent = (refl, refl)
+first-two (Event.synced member chunk) n lent = (refl, refl)
+first-two (Event.poolInfo op member) n lent = (refl, refl)
+first-two (Event.mapReady keep) n lent = (refl, refl)
+first-two Event.give n lent = (refl, refl)
+first-two (Event.take zs) n lent = (refl, refl)
+first-two (Event.mapDone enabling version set) n lent = (refl, refl)
+first-two Event.mapDisable n lent = (refl, refl)
+first-two Event.mapGetVer n lent = (refl, refl)
+first-two (Event.lastIoToMap chosen) n lent = (refl, refl)
+
+-- a refusal that was given applies
+given : (e : Event) (s : StorageNode) (xs ys : List ℕ) (n : ℕ) → answers e s xs ys .answer ≡ Answer.Refused n → applies n (testsOf e s xs ys) ≡ true
+given e s xs ys n q = at (demand-1 e s xs ys)
+  where
+    at : Verdict e s xs ys → applies n (testsOf e s xs ys) ≡ true
+    at (Verdict.refused m p h) = let z : m ≡ n = cc (p, q) in ap (λ (k : ℕ). applies k (testsOf e s xs ys)) (sym z) ∙ h .first .given
+    at (Verdict.done p h) = clash p (ap isTaken q)
+
+pub never-one : NeverOne
+never-one s xs ys r e n q z =
+    clash (ap (λ (k : ℕ). applies k (testsOf e s xs ys)) (sym z) ∙ given e s xs ys n q)
+    (first-two e (s .node) (lentTo (third e) (s .node) xs ys) .0 ∙ ap not (reached-good s xs ys r .rules))
+
+pub never-two : NeverTwo
+never-two s xs ys r e n t q z =
+    let g = reached-good s xs ys r in
+    clash (ap (λ (k : ℕ). applies k (testsOf e s xs ys)) (sym z) ∙ given e s xs ys n q)
+    (first-two e (s .node) (lentTo (third e) (s .node) xs ys) .1 ∙ ap not (and-both t (and-both (g .map) (g .staging))))
+
+taken-plain : (a : Answer) → isTaken a ≡ true → isRefused a ≡ false
+taken-plain (Answer.Refused n) e = clash e refl
+taken-plain Answer.Done e = refl
+taken-plain (Answer.Version v) e = refl
+
+pub by-the-table : ByTheTable
+by-the-table s xs ys r e t = accepted-keeps e s xs ys (reached-good s xs ys r .size) (taken-plain (answers e s xs ys .answer) t) .lawful

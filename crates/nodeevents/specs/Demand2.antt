@@ -1,0 +1,41 @@
+-- Demand 2 for the node: the states and maps that can be reached, and what holds of them and of every event there.
+use mathlib.Core.Path.{_≡_}
+use mathlib.Core.Logic.{_≢_}
+use mathlib.Core.Bool.{true}
+use mathlib.Core.List.{List}
+use Prim.Native.Nat.{ℕ, _≤_}
+use Rattle.refusals.specs.Limits.{chunkLimit}
+use Rattle.maps.specs.Map.{sound}
+use Rattle.nodestate.specs.declared.Answer.{Answer}
+use Rattle.nodestate.specs.Rules.{valid}
+use Rattle.nodestate.specs.Table.{legal}
+use Rattle.node.specs.declared.StorageNode.{StorageNode}
+use Rattle.node.specs.Events.{Event, kindOf, third}
+use Rattle.node.specs.Face.{freshNode, soundThird, answers, mapLeft, stagingLeft}
+use Rattle.nodeevents.specs.Demand1.{isTaken}
+
+-- A node with its map and staging is reached if it is a fresh one of any id, with 1 to 4,096 chunks and two sound maps, or what an event left of a reached one:
+-- any event, with any data, accepted or refused.
+pub data Reached : StorageNode → List ℕ → List ℕ → Type 0 where
+  start : (id chunks : ℕ) (xs ys : List ℕ) → 1 ≤ chunks → chunks ≤ chunkLimit → sound chunks xs ≡ true → sound chunks ys ≡ true
+      → Reached (freshNode id chunks) xs ys
+  then : (s : StorageNode) (xs ys : List ℕ) (e : Event) → Reached s xs ys → Reached (answers e s xs ys .node) (mapLeft e s xs ys) (stagingLeft e s xs ys)
+
+-- Every reached node keeps the state rules, and its two maps are sound.
+abbrev pub RulesKept : Type 0
+RulesKept = (s : StorageNode) (xs ys : List ℕ) → Reached s xs ys
+    → (valid (s .node) ≡ true) × (sound (s .node .chunks) xs ≡ true) × (sound (s .node .chunks) ys ≡ true)
+
+-- So refusal 1 is never given there.
+abbrev pub NeverOne : Type 0
+NeverOne = (s : StorageNode) (xs ys : List ℕ) → Reached s xs ys → (e : Event) (n : ℕ) → answers e s xs ys .answer ≡ Answer.Refused n → n ≢ 1
+
+-- Nor is refusal 2, unless a map that is lent to be taken is unsound.
+abbrev pub NeverTwo : Type 0
+NeverTwo = (s : StorageNode) (xs ys : List ℕ) → Reached s xs ys → (e : Event) (n : ℕ) → soundThird (s .node .chunks) (third e) ≡ true
+    → answers e s xs ys .answer ≡ Answer.Refused n → n ≢ 2
+
+-- Every accepted event at a reached node changes its state only along source document 003's table.
+abbrev pub ByTheTable : Type 0
+ByTheTable = (s : StorageNode) (xs ys : List ℕ) → Reached s xs ys → (e : Event) → isTaken (answers e s xs ys .answer) ≡ true
+    → legal (kindOf e) (s .node .state) (answers e s xs ys .node .node .state) ≡ true

@@ -1,0 +1,67 @@
+-- What a refusal means: the first of the tests that applies, or that none does.
+use mathlib.Core.Path.{_≡_, refl, sym, ap, _∙_}
+use mathlib.Core.Logic.{_≢_}
+use mathlib.Core.Bool.{Bool, true, false}
+use mathlib.Core.List.{List, [], _∷_}
+use Prim.Native.Nat.{ℕ, zero, suc, _<_}
+use native.Mathlib.Omega.{arith}
+use lib.ListN.{length, getD}
+use Rattle.laws.specs.Words.{pick}
+use Rattle.laws.specs.Tests.{clash, passed}
+use Rattle.refusals.specs.Refusals.{Test, places, applies, firstOf, refusal}
+use Rattle.order.specs.Order.{FirstApplies, NoneApplies}
+
+-- the same for any order of numbers
+record FirstIn (ns : List ℕ) (ts : List Test) (n : ℕ) : Type 0 where
+  place : ℕ
+  listed : place < length ns
+  number : getD ns place 0 ≡ n
+  given : applies n ts ≡ true
+  before : (i : ℕ) → i < place → applies (getD ns i 0) ts ≡ false
+
+one-more : (k n : ℕ) (ns : List ℕ) (ts : List Test) (b : Bool) → applies k ts ≡ b → pick b k (firstOf ns ts) ≡ n → (firstOf ns ts ≡ n → FirstIn ns ts n) → FirstIn (k ∷ ns) ts n
+one-more k n ns ts true a e rec =
+    record {
+      place = 0;
+      listed = omega arith;
+      number = e;
+      given = ap (λ (m : ℕ). applies m ts) (sym e) ∙ a;
+      before = λ i l. absurd (let z : ⊥ = omega arith in z);
+    }
+one-more k n ns ts false a e rec =
+    let r = rec e in
+    record { place = suc (r .place); listed = omega (arith, r .listed); number = r .number; given = r .given; before = at (r .place) (r .before) }
+  where
+    at : (q : ℕ) → ((i : ℕ) → i < q → applies (getD ns i 0) ts ≡ false) → (i : ℕ) → i < suc q → applies (getD (k ∷ ns) i 0) ts ≡ false
+    at q f zero l = a
+    at q f (suc i) l = f i (omega arith)
+
+first-in : (ns : List ℕ) (ts : List Test) (n : ℕ) → n ≢ 0 → firstOf ns ts ≡ n → FirstIn ns ts n
+first-in [] ts n d e = absurd (d (sym e))
+first-in (k ∷ ns) ts n d e = one-more k n ns ts (applies k ts) refl e (first-in ns ts n d)
+
+-- A refusal that was given is the first that applies.
+pub first-applies : FirstApplies
+first-applies ts d =
+    let r = first-in places ts (refusal ts) d refl in
+    record { place = r .place; listed = r .listed; number = r .number; given = r .given; before = r .before }
+
+-- a list of numbers without 0
+abbrev counted : List ℕ → Bool
+counted [] = true
+counted (zero ∷ ns) = false
+counted (suc n ∷ ns) = counted ns
+
+none-in : (ns : List ℕ) (ts : List Test) → counted ns ≡ true → firstOf ns ts ≡ 0 → (i : ℕ) → i < length ns → applies (getD ns i 0) ts ≡ false
+none-in [] ts h e i l = absurd (let z : ⊥ = omega arith in z)
+none-in (zero ∷ ns) ts h e i l = clash h refl
+none-in (suc n ∷ ns) ts h e zero l = passed (applies (suc n) ts) (suc n) (firstOf ns ts) (λ q. omega arith) e .0
+none-in (suc n ∷ ns) ts h e (suc i) l = none-in ns ts h (passed (applies (suc n) ts) (suc n) (firstOf ns ts) (λ q. omega arith) e .1) i (omega arith)
+
+-- Where none was given, none applies.
+pub none-applies : NoneApplies
+none-applies ts e i l = none-in places ts refl e i l
+
+-- Two values that are both what a contract names are equal.
+pub one-only : {A : Type 0} (spec a b : A) → a ≡ spec → b ≡ spec → a ≡ b
+one-only spec a b p q = p ∙ sym q

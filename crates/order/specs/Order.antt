@@ -1,0 +1,27 @@
+-- The first refusal that applies, and that none does, said of the tests of any event.
+use mathlib.Core.Path.{_≡_}
+use mathlib.Core.Logic.{_≢_}
+use mathlib.Core.Bool.{true, false}
+use mathlib.Core.List.{List}
+use Prim.Native.Nat.{ℕ, _<_}
+use lib.ListN.{getD}
+use Rattle.refusals.specs.Refusals.{Test, places, applies, refusal}
+
+-- The number n is the first of the tests that applies: it stands at one of the fifteen places of document 01's order, it applies, and none at an earlier place does.
+pub record First (ts : List Test) (n : ℕ) : Type 0 where
+  pub place : ℕ
+  pub listed : place < 15
+  pub number : getD places place 0 ≡ n
+  pub given : applies n ts ≡ true
+  pub before : (i : ℕ) → i < place → applies (getD places i 0) ts ≡ false
+
+-- None of document 01's numbers applies.
+abbrev pub None : List Test → Type 0
+None ts = (i : ℕ) → i < 15 → applies (getD places i 0) ts ≡ false
+
+-- What `refusal` gives, of any tests: the first that applies; 0 where none does.
+abbrev pub FirstApplies : Type 0
+FirstApplies = (ts : List Test) → refusal ts ≢ 0 → First ts (refusal ts)
+
+abbrev pub NoneApplies : Type 0
+NoneApplies = (ts : List Test) → refusal ts ≡ 0 → None ts

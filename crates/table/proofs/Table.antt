@@ -1,0 +1,21 @@
+-- The starred rows of the tester's table, by computation of the rules themselves.
+use mathlib.Core.Path.{refl}
+use Rattle.laws.specs.Words.{bit}
+use Rattle.sets.specs.Sets.{has, with, without, size, lowest}
+use Rattle.maps.specs.Map.{place, marked, each, markedFor, sound, cleanFrom, spare, room}
+use Rattle.roster.specs.Roster.{idsOf, entered, left, failed, went}
+use Rattle.run.specs.Run as run
+use Rattle.run.specs.Still.{possible}
+use Rattle.recovery.specs.Cases as cases
+use Rattle.recovery.specs.Recovery.{posted, tried}
+use Rattle.rules.specs.Rules.{rosterOk, allAsked, oneAsked, runOk, validPool}
+use Rattle.joins.specs.Joins.{joinTold, createRefusal, created, createDone, joinCreate, setBars, assembleRefusal, assembled, assembleDone, joinAssemble}
+use Rattle.links.specs.Links.{enables, enableRefusal, enableDone, enable, drops, downRefusal, dropped, downDone, linkDown, checks, checkRefusal, checkDone, storeCheck}
+use Rattle.writes.specs.Writes.{reachBars, writeRefusal, missStep, missed, marks, writeDone, writeEnded}
+use Rattle.answers.specs.Answers.{answerRefusal, moved, answer}
+use Rattle.client.specs.Client.{writeTurn, answerTurn}
+use Rattle.table.specs.Table.{All, rows}
+
+pub table : All rows
+unfolding bit has with without size lowest place marked each markedFor sound cleanFrom spare room idsOf entered left failed went run.receiver run.failed run.good run.awaitedIn possible cases.caseOf cases.begun posted tried rosterOk allAsked oneAsked runOk validPool joinTold createRefusal created createDone joinCreate setBars assembleRefusal assembled assembleDone joinAssemble enables enableRefusal enableDone enable drops downRefusal dropped downDone linkDown checks checkRefusal checkDone storeCheck reachBars writeRefusal missStep missed marks writeDone writeEnded answerRefusal moved answer writeTurn answerTurn
+table = (refl, (refl, (refl, (refl, (refl, (refl, (refl, (refl, (refl, ((refl, refl), (refl, (refl, (refl, (refl, ((refl, refl), tt)))))))))))))))

@@ -1,0 +1,1 @@
+// No code: the starred rows of the tester's table.
