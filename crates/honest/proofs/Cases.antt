@@ -1,0 +1,319 @@
+-- The three cases: which run begins in each, and what it comes to among honest nodes.
+use mathlib.Core.Path.{_≡_, refl, sym, ap, _∙_}
+use mathlib.Core.Bool.{Bool, true, false, not, _||_}
+use mathlib.Core.Logic.{_≢_}
+use Prim.Native.Nat.{ℕ, zero, suc, _+_, _*_, _-_, _≤_, _<_}
+use native.Mathlib.Omega.{arith}
+use lib.Dec.{eqb, ltb}
+use borrow.Author.Tests.{eq-eqb, ne-eqb, eqb-true, eqb-false, ltb-false}
+use Rattle.laws.specs.Words.{pick}
+use Rattle.laws.specs.Tests.{by-cases, clash}
+use Rattle.refusals.specs.Limits.{versionLimit}
+use Rattle.sets.specs.Sets.{has, without, size, lowest}
+use Rattle.sets.proofs.Laws.{has-below, has-without-same, still, without-lt, lowest-in, lowest-le, empty-set, size-le, size-without, size-some}
+use Rattle.state.specs.declared.State.{State}
+use Rattle.state.specs.declared.Step.{Step}
+use Rattle.state.specs.declared.Phase.{Phase}
+use Rattle.state.specs.declared.Run.{Run}
+use Rattle.state.specs.declared.Roster.{Roster}
+use Rattle.state.specs.declared.Pool.{Pool}
+use Rattle.state.specs.Session.{isNormal, candidate}
+use Rattle.roster.specs.declared.Kind.{Kind}
+use Rattle.roster.specs.Roster.{sessionAt, idsOf}
+use Rattle.run.specs.declared.Next.{Next}
+use Rattle.kept.specs.Ids.{Long, ids-has, ids-lt}
+use Rattle.kept.specs.Rosters.{Ok}
+use Rattle.kept.specs.Pools as pools
+use Rattle.kept.specs.Runs.{candidate-member, candidate-normal}
+use Rattle.world.specs.Station.{Station}
+use Rattle.world.specs.World.{World, upd, exchanges}
+use Rattle.honest.specs.Demand.{Able, Begins, Honest, Up, Recovered, Chosen, AllHonest, Case1, Case2, Case3}
+use Rattle.roster.specs.Roster.{entered}
+use Rattle.honest.proofs.Began.{some-lowest, begun-limit, begun-1, begun-2, begun-3, begun-plain, or-none}
+use Rattle.honest.proofs.Ground.{some, upd-same}
+use Rattle.honest.proofs.Stations.{Fine, fine, enabledTo, fine-enabled}
+use Rattle.honest.proofs.Course.{Course, course, steps, steps-add, at, spreadHead, baseHead, versionsHead, head-some, spread}
+use Rattle.honest.proofs.Spread.{CanSpread, Spreads, spreads}
+use Rattle.honest.proofs.Enable.{Enabled, enable-spread}
+use Rattle.honest.proofs.Sim.{Sim}
+use Rattle.honest.proofs.Exact.{Tied}
+use Rattle.honest.proofs.Phases.{Fines, Passed, middle}
+use Rattle.honest.proofs.Choice.{Chose, choosing}
+use Rattle.honest.proofs.Ends.{sim-begins, nodes-is, recovered, up-of}
+
+-- ---- who is who
+
+module _ (ro : Roster) (v : Ok ro) (sync : ro .sync ≡ false) where
+  pub is-candidate : (j : ℕ) → has (idsOf Kind.Candidates ro) j ≡ true → candidate (sessionAt ro j) ≡ true
+  is-candidate j h = sym (ids-has Kind.Candidates ro (v .long) j (has-below (idsOf Kind.Candidates ro) j h)) ∙ h
+
+  pub a-member : (j : ℕ) → has (idsOf Kind.Candidates ro) j ≡ true → has (ro .members) j ≡ true
+  a-member j h = candidate-member ro v sync j (has-below (idsOf Kind.Candidates ro) j h) (is-candidate j h)
+
+  -- a NORMAL session is no candidate
+  pub not-candidate : (j : ℕ) → has (idsOf Kind.Normals ro) j ≡ true → has (idsOf Kind.Candidates ro) j ≡ false
+  not-candidate j h =
+      by-cases (has (idsOf Kind.Candidates ro) j)
+      (λ e. clash (sym (ids-has Kind.Normals ro (v .long) j (has-below (idsOf Kind.Normals ro) j h)) ∙ h) (candidate-normal (sessionAt ro j) (is-candidate j e)))
+      (λ e. e)
+
+-- ---- case 1
+
+-- Case 1: some session is NORMAL. The source is the lowest NORMAL id, the receivers are the R candidates. With honest nodes, after exactly 3R answers the
+-- run is over, each receiver is NORMAL on the client and on its node, and its map is the source's for every member and zero elsewhere. All else at the
+-- nodes is as it was.
+pub case-1 : (p : Pool) (w : World) → idsOf Kind.Normals (p .roster) ≢ 0
+    → Honest p (lowest (idsOf Kind.Normals (p .roster))) (idsOf Kind.Candidates (p .roster)) w
+    → Case1 p (lowest (idsOf Kind.Normals (p .roster))) (idsOf Kind.Candidates (p .roster)) (3 * size (idsOf Kind.Candidates (p .roster))) w
+case-1 p w normals h =
+    record {
+      recovered = recovered p w c₀ sim src l 0 (3 * size l) ro (w .nodes) (rw (← run) refl) refl (omega (arith, size-some l (lowest l) (lowest-in l low))) (omega arith) apart (can .source .map) ends;
+      others = λ j q. ap (λ (g : ℕ → Station). g j) (nodes-is p w c₀ sim (3 * size l)) ∙ ends .same-node j q;
+    }
+  where
+    ro : Roster
+    ro = p .roster
+
+    src : ℕ
+    src = lowest (idsOf Kind.Normals (p .roster))
+
+    l : ℕ
+    l = idsOf Kind.Candidates (p .roster)
+
+    v : pools.Valid p
+    v = pools.valid-facts p (h .begins .array) (h .begins .rules)
+
+    plain : p .roster .sync ≡ false
+    plain = begun-plain (p .roster) (h .begins .run) (h .begins .began) (v .ok)
+
+    b : (idsOf Kind.Candidates (p .roster) ≢ 0) × (at (Phase.Spread Step.Ready) src l 0 ≡ h .begins .run)
+    b = begun-1 (p .roster) (h .begins .run) (h .begins .began) normals
+
+    run : at (Phase.Spread Step.Ready) src l 0 ≡ h .begins .run
+    run = b .1
+
+    small : l < 65536
+    small = ids-lt Kind.Candidates ro (v .ok .long)
+
+    low : lowest l < 16
+    low = some-lowest l small (b .0)
+
+    src-in : has (idsOf Kind.Normals (p .roster)) src ≡ true
+    src-in = lowest-in (idsOf Kind.Normals (p .roster)) (some-lowest (idsOf Kind.Normals (p .roster)) (ids-lt Kind.Normals ro (v .ok .long)) normals)
+
+    apart : has l src ≡ false
+    apart = not-candidate ro (v .ok) plain src src-in
+
+    can : CanSpread (p .roster .members) (p .chunks) src l (w .nodes)
+    can = record {
+      source = fine (p .chunks) src (w .nodes src) (has-below (idsOf Kind.Normals (p .roster)) src src-in) (h .giver);
+      apart = apart;
+      fines = λ j q. fine (p .chunks) j (w .nodes j) (has-below l j q) (h .takers j q);
+      members = λ j q. a-member ro (v .ok) plain j q;
+    }
+
+    c₀ : Course
+    c₀ = course ro (Next.On (h .begins .run)) 0 (w .nodes)
+
+    sim : Sim (p .roster .members) (p .roster .version) w c₀
+    sim = sim-begins p w (h .begins)
+
+    starts : course ro (spreadHead src l 0) 0 (w .nodes) ≡ c₀
+    starts = ap (λ (n : Next). course ro n 0 (w .nodes)) (head-some spread 0 src l 0 low ∙ ap Next.On run)
+
+    ends : Spreads (p .roster .members) (p .roster .version) (p .chunks) src l 0 ro (w .nodes) (steps (p .roster .members) (p .roster .version) (3 * size l) c₀)
+    ends = rw starts at (spreads (p .roster .members) (p .roster .version) (p .chunks) (begun-limit (p .roster) (h .begins .run) (h .begins .began)) (v .ok .small) src l small ro 0 (w .nodes) (v .ok .long) (omega (arith, size-le l)) can)
+
+-- ---- the end of cases 2 and 3, from a course that came to its enabling
+
+-- all but the last conclusion of case 2
+record EnabledAll (p : Pool) (source receivers n : ℕ) (w : World) : Type 0 where
+  others : Recovered p source receivers n w
+  source-is-up : Up p source (exchanges n w)
+
+enabled-all : (p : Pool) (w : World) (c₀ : Course) (src l t n : ℕ) (ro : Roster) (f : ℕ → Station)
+    → Sim (p .roster .members) (p .roster .version) w c₀ → Tied c₀ → c₀ .taken ≡ 0 → t + (3 * size l + 1) ≡ n
+    → p .roster .version ≤ versionLimit → p .roster .members < 65536 → has (p .roster .members) src ≡ true → CanSpread (p .roster .members) (p .chunks) src l f
+    → Enabled (p .roster .members) (p .roster .version) (p .chunks) src l t ro f (steps (p .roster .members) (p .roster .version) n c₀)
+    → EnabledAll p src l n w
+enabled-all p w c₀ src l t n ro f s tied none all hv hm own can e =
+    record {
+      others = recovered p w c₀ s src l (t + 1) n (entered ro src) g tied none (omega arith) (omega arith) (can .apart)
+          (let q : Fine (p .chunks) src (g src) = rw (upd-same f src a) (fine-enabled (p .chunks) src (p .roster .version) (p .roster .members) (f src) (can .source) hv hm own) in q .map)
+          (e .spread);
+      source-is-up = up-of p w c₀ s n src (f src .map) (e .source-entered) (e .source-served);
+    }
+  where
+    a : Station
+    a = enabledTo (p .roster .version) (p .roster .members) (f src)
+
+    g : ℕ → Station
+    g = upd f src a
+
+-- ---- case 2
+
+-- Case 2: no session is NORMAL, and one is marked last authoritative. It is the source, the other R candidates receive. With honest nodes, after exactly
+-- 3R + 1 answers the run is over, source and receivers are NORMAL on both sides, and each receiver's map is the source's for every member and zero elsewhere.
+-- The source's own map is as it was, with the rows outside the members zeroed.
+pub case-2 : (p : Pool) (w : World) → idsOf Kind.Normals (p .roster) ≡ 0 → idsOf Kind.Marked (p .roster) ≢ 0
+    → Honest p (lowest (idsOf Kind.Marked (p .roster))) (without (idsOf Kind.Candidates (p .roster)) (lowest (idsOf Kind.Marked (p .roster)))) w
+    → Case2 p (lowest (idsOf Kind.Marked (p .roster))) (without (idsOf Kind.Candidates (p .roster)) (lowest (idsOf Kind.Marked (p .roster))))
+    (3 * size (without (idsOf Kind.Candidates (p .roster)) (lowest (idsOf Kind.Marked (p .roster)))) + 1) w
+case-2 p w normals marked h =
+    record {
+      recovered = all .others;
+      source-up = all .source-is-up;
+      source-map = ap (λ (g : ℕ → Station). g src .map) (nodes-is p w c₀ sim (3 * size l + 1)) ∙ ends .source-served .map;
+    }
+  where
+    ro : Roster
+    ro = p .roster
+
+    src : ℕ
+    src = lowest (idsOf Kind.Marked (p .roster))
+
+    l : ℕ
+    l = without (idsOf Kind.Candidates (p .roster)) (lowest (idsOf Kind.Marked (p .roster)))
+
+    v : pools.Valid p
+    v = pools.valid-facts p (h .begins .array) (h .begins .rules)
+
+    plain : p .roster .sync ≡ false
+    plain = begun-plain (p .roster) (h .begins .run) (h .begins .began) (v .ok)
+
+    b : (has (idsOf Kind.Candidates (p .roster)) src ≡ true) × (at Phase.Enable src l 0 ≡ h .begins .run)
+    b = begun-2 (p .roster) (h .begins .run) (h .begins .began) normals marked
+
+    hv : p .roster .version ≤ versionLimit
+    hv = begun-limit (p .roster) (h .begins .run) (h .begins .began)
+
+    small : l < 65536
+    small = without-lt (idsOf Kind.Candidates ro) src (ids-lt Kind.Candidates ro (v .ok .long))
+
+    own : has (p .roster .members) src ≡ true
+    own = a-member ro (v .ok) plain src (b .0)
+
+    can : CanSpread (p .roster .members) (p .chunks) src l (w .nodes)
+    can = record {
+      source = fine (p .chunks) src (w .nodes src) (has-below (idsOf Kind.Candidates (p .roster)) src (b .0)) (h .giver);
+      apart = has-without-same (idsOf Kind.Candidates (p .roster)) src;
+      fines = λ j q. fine (p .chunks) j (w .nodes j) (has-below l j q) (h .takers j q);
+      members = λ j q. a-member ro (v .ok) plain j (still (idsOf Kind.Candidates (p .roster)) src j q .0);
+    }
+
+    c₀ : Course
+    c₀ = course ro (Next.On (h .begins .run)) 0 (w .nodes)
+
+    sim : Sim (p .roster .members) (p .roster .version) w c₀
+    sim = sim-begins p w (h .begins)
+
+    starts : course ro (Next.On (at Phase.Enable src l 0)) 0 (w .nodes) ≡ c₀
+    starts = ap (λ (r : Run). course ro (Next.On r) 0 (w .nodes)) (b .1)
+
+    ends : Enabled (p .roster .members) (p .roster .version) (p .chunks) src l 0 ro (w .nodes) (steps (p .roster .members) (p .roster .version) (3 * size l + 1) c₀)
+    ends = rw starts at (enable-spread (p .roster .members) (p .roster .version) (p .chunks) hv (v .ok .small) src own ro l 0 (w .nodes) (v .ok .long) small (omega (arith, size-le l)) can)
+
+    all : EnabledAll p src l (3 * size l + 1) w
+    all = enabled-all p w c₀ src l 0 (3 * size l + 1) ro (w .nodes) sim (rw (← b .1) refl) refl (omega arith) hv (v .ok .small) own can ends
+
+-- ---- case 3
+
+-- Case 3: no session is NORMAL and none is marked. With honest nodes of all K members, none with a version above the pool's, the chosen has the highest
+-- version (ties to the lowest id); after exactly 11K - 8 answers the run is over, all members are NORMAL on both sides, and each other member's map is the
+-- chosen's for every member and zero elsewhere.
+pub case-3 : (p : Pool) (w : World) → idsOf Kind.Normals (p .roster) ≡ 0 → idsOf Kind.Marked (p .roster) ≡ 0 → AllHonest p w
+    → Case3 p (11 * size (p .roster .members) - 8) w
+case-3 p w normals marked h =
+    record {
+      source = src;
+      chosen = choice .chosen;
+      recovered = all .others;
+      source-up = all .source-is-up;
+    }
+  where
+    ro : Roster
+    ro = p .roster
+
+    m : ℕ
+    m = p .roster .members
+
+    k : ℕ
+    k = size (p .roster .members)
+
+    v : pools.Valid p
+    v = pools.valid-facts p (h .begins .array) (h .begins .rules)
+
+    plain : p .roster .sync ≡ false
+    plain = begun-plain (p .roster) (h .begins .run) (h .begins .began) (v .ok)
+
+    hv : p .roster .version ≤ versionLimit
+    hv = begun-limit (p .roster) (h .begins .run) (h .begins .began)
+
+    hm : p .roster .members < 65536
+    hm = v .ok .small
+
+    b : ((eqb (p .roster .members) 0 || not (eqb (idsOf (Kind.Strays (p .roster .members)) (p .roster)) 0)) ≡ false) × (at (Phase.Versions 0) (lowest m) m 0 ≡ h .begins .run)
+    b = begun-3 (p .roster) (h .begins .run) (h .begins .began) normals marked
+
+    low : lowest (p .roster .members) < 16
+    low = some-lowest m hm (eqb-false m 0 (or-none (eqb m 0) _ (b .0) .0))
+
+    fs : Fines (p .roster .members) (p .chunks) (w .nodes)
+    fs = λ j q. fine (p .chunks) j (w .nodes j) (has-below m j q) (h .able j q)
+
+    c₀ : Course
+    c₀ = course ro (Next.On (h .begins .run)) 0 (w .nodes)
+
+    starts : course ro (versionsHead m 0 (lowest m) m 0) 0 (w .nodes) ≡ c₀
+    starts = rw (some m low) (ap (λ (r : Run). course ro (Next.On r) 0 (w .nodes)) (b .1))
+
+    choice : Chose (p .roster .members) (p .roster .version) ro (w .nodes) (size (p .roster .members)) 0 (course ro (versionsHead m 0 (lowest m) m 0) 0 (w .nodes))
+    choice = choosing m (p .roster .version) (p .chunks) ro (w .nodes) fs (h .versions) 0 hm low (omega (arith, size-le m))
+
+    src : ℕ
+    src = choice .source
+
+    own : has (p .roster .members) src ≡ true
+    own = choice .chosen .member
+
+    o : ℕ
+    o = without (p .roster .members) src
+
+    fewer : size (p .roster .members) ≡ size o + 1
+    fewer = size-without m src own
+
+    n₂ : ℕ
+    n₂ = 3 * size o + (k + 3 * size o)
+
+    mid : Passed (p .roster .members) (p .roster .version) (p .chunks) ro (λ q. Next.On (at Phase.Enable src o q)) n₂ (0 + k) (course ro (baseHead m src o (0 + k)) (0 + k) (w .nodes))
+    mid = middle m (p .roster .version) (p .chunks) hv hm src own ro (0 + k) (w .nodes) (omega (arith, size-le m, fewer)) fs
+
+    can : CanSpread (p .roster .members) (p .chunks) src o (mid .nodes)
+    can = record {
+      source = mid .fines src own;
+      apart = has-without-same m src;
+      fines = λ j q. mid .fines j (still m src j q .0);
+      members = λ j q. still m src j q .0;
+    }
+
+    total : 0 + k + n₂ + (3 * size o + 1) ≡ 11 * k - 8
+    total = omega (arith, fewer)
+
+    reach : steps (p .roster .members) (p .roster .version) (11 * k - 8) c₀
+        ≡ steps (p .roster .members) (p .roster .version) (3 * size o + 1) (course ro (Next.On (at Phase.Enable src o (0 + k + n₂))) (0 + k + n₂) (mid .nodes))
+    reach =
+        ap (steps m (p .roster .version) (11 * k - 8)) (sym starts)
+        ∙ (ap (λ (q : ℕ). steps m (p .roster .version) q (course ro (versionsHead m 0 (lowest m) m 0) 0 (w .nodes))) split
+        ∙ (steps-add m (p .roster .version) k (n₂ + (3 * size o + 1)) (course ro (versionsHead m 0 (lowest m) m 0) 0 (w .nodes))
+        ∙ (ap (steps m (p .roster .version) (n₂ + (3 * size o + 1))) (choice .reach)
+        ∙ (steps-add m (p .roster .version) n₂ (3 * size o + 1) (course ro (baseHead m src o (0 + k)) (0 + k) (w .nodes))
+        ∙ ap (steps m (p .roster .version) (3 * size o + 1)) (mid .reach)))))
+      where
+        split : 11 * k - 8 ≡ k + (n₂ + (3 * size o + 1))
+        split = omega (arith, fewer)
+
+    ends : Enabled (p .roster .members) (p .roster .version) (p .chunks) src o (0 + k + n₂) ro (mid .nodes) (steps (p .roster .members) (p .roster .version) (11 * k - 8) c₀)
+    ends = rw (sym reach) at (enable-spread m (p .roster .version) (p .chunks) hv hm src own ro o (0 + k + n₂) (mid .nodes) (v .ok .long) (without-lt m src hm) (omega (arith, size-le m, fewer)) can)
+
+    all : EnabledAll p src o (11 * k - 8) w
+    all = enabled-all p w c₀ src o (0 + k + n₂) (11 * k - 8) ro (mid .nodes) (sim-begins p w (h .begins)) (rw (← b .1) refl) refl total hv hm own can ends

@@ -1,0 +1,139 @@
+-- The count is exact: an exchange takes one answer, and none once the run is over. So a run that has taken n answers after n exchanges was not over before.
+use mathlib.Core.Path.{_≡_, refl, sym, ap, _∙_}
+use mathlib.Core.Bool.{Bool, true, false}
+use Prim.Native.Nat.{ℕ, zero, suc, _+_, _-_, _≤_, _<_}
+use native.Mathlib.Omega.{arith}
+use lib.Dec.{eqb, ltb}
+use Rattle.laws.specs.Words.{pick}
+use Rattle.laws.specs.Tests.{clash}
+use Rattle.sets.specs.Sets.{without}
+use Rattle.state.specs.declared.Step.{Step}
+use Rattle.state.specs.declared.Phase.{Phase}
+use Rattle.state.specs.declared.Run.{Run}
+use Rattle.state.specs.declared.Roster.{Roster}
+use Rattle.state.specs.declared.Brought.{Brought}
+use Rattle.state.specs.declared.Reply.{Reply}
+use Rattle.run.specs.declared.Next.{Next}
+use Rattle.run.specs.declared.Move.{Move}
+use Rattle.run.specs.Run.{hand, rest, counted, go, ahead, toSpread, toGather, toLast, toBase, toVersions, wentOn, becameNormal, ended, passedOver, failedAt, failed, versionBrought, baseNext, gatherNext, spreadGood, goodAt, good, takes, awaitedIn}
+use Rattle.run.proofs.Bound.{Carries}
+use Rattle.world.specs.Station.{Station}
+use Rattle.world.specs.World.{deliver}
+use Rattle.honest.proofs.Course.{Course, course, step, steps, steps-add}
+
+-- ---- one answer raises the count by at most one
+
+counted-le : (t : ℕ) → counted t ≤ t + 1
+counted-le t = at (ltb t 168)
+  where
+    at : (b : Bool) → pick b (t + 1) t ≤ t + 1
+    at true = omega arith
+    at false = omega arith
+
+either : (t : ℕ) (b : Bool) (x y : Next) → Carries t x → Carries t y → Carries t (pick b x y)
+either t true x y p q = p
+either t false x y p q = q
+
+module _ (m : ℕ) (r : Run) where
+  spread-carries : (l : ℕ) → Carries (counted (r .taken)) (toSpread r l)
+  spread-carries l = either _ (eqb l 0) _ _ tt refl
+
+  gather-carries : (s l : ℕ) → Carries (counted (r .taken)) (toGather m r s l)
+  gather-carries s l = either _ (eqb l 0) _ _ refl refl
+
+  last-carries : (s l : ℕ) → Carries (counted (r .taken)) (toLast m r s l)
+  last-carries s l = either _ (eqb l 0) _ _ (gather-carries s (without m s)) refl
+
+  base-carries : (s l : ℕ) → Carries (counted (r .taken)) (toBase m r s l)
+  base-carries s l = either _ (eqb l 0) _ _ (last-carries s m) refl
+
+  versions-carries : (b s l : ℕ) → Carries (counted (r .taken)) (toVersions m r b s l)
+  versions-carries b s l = either _ (eqb l 0) _ _ (base-carries s (without m s)) refl
+
+-- an answer was taken: the count is raised, and a run that goes on carries it
+record Raised (r : Run) (o : Move) : Type 0 where
+  count : o .taken ≡ counted (r .taken)
+  carries : Carries (counted (r .taken)) (o .next)
+
+failed-raised : (p : Phase) (m : ℕ) (r : Run) → Raised r (failedAt p r)
+failed-raised (Phase.Versions best) m r = record { count = refl; carries = tt }
+failed-raised (Phase.Base s) m r = record { count = refl; carries = tt }
+failed-raised Phase.LastIo m r = record { count = refl; carries = tt }
+failed-raised (Phase.Gather s) m r = record { count = refl; carries = tt }
+failed-raised Phase.Enable m r = record { count = refl; carries = tt }
+failed-raised (Phase.Spread s) m r = record { count = refl; carries = spread-carries m r (rest r) }
+
+brought-raised : (m v best : ℕ) (r : Run) (b : Brought) → Raised r (versionBrought m v best r b)
+unfolding failed
+brought-raised m v best r Brought.Nothing = failed-raised (r .phase) m r
+brought-raised m v best r (Brought.Version x) = at (ltb v x)
+  where
+    at : (b : Bool) → Raised r (pick b (failed r) (wentOn r (toVersions m r (pick (ltb best x) x best) (pick (ltb best x) (hand r) (r .source)) (rest r))))
+    at true = failed-raised (r .phase) m r
+    at false = record { count = refl; carries = versions-carries m r (pick (ltb best x) x best) (pick (ltb best x) (hand r) (r .source)) (rest r) }
+
+good-raised : (p : Phase) (m v : ℕ) (r : Run) (b : Brought) → Raised r (goodAt p m v r b)
+good-raised (Phase.Versions best) m v r b = brought-raised m v best r b
+good-raised (Phase.Base Step.Ready) m v r b = record { count = refl; carries = refl }
+good-raised (Phase.Base Step.Send) m v r b = record { count = refl; carries = refl }
+good-raised (Phase.Base Step.Done) m v r b = record { count = refl; carries = base-carries m r (r .source) (rest r) }
+good-raised Phase.LastIo m v r b = record { count = refl; carries = last-carries m r (r .source) (rest r) }
+good-raised (Phase.Gather Step.Ready) m v r b = record { count = refl; carries = refl }
+good-raised (Phase.Gather Step.Send) m v r b = record { count = refl; carries = refl }
+good-raised (Phase.Gather Step.Done) m v r b = record { count = refl; carries = gather-carries m r (r .source) (rest r) }
+good-raised Phase.Enable m v r b = record { count = refl; carries = spread-carries m r (r .left) }
+good-raised (Phase.Spread Step.Ready) m v r b = record { count = refl; carries = refl }
+good-raised (Phase.Spread Step.Send) m v r b = record { count = refl; carries = refl }
+good-raised (Phase.Spread Step.Done) m v r b = record { count = refl; carries = spread-carries m r (rest r) }
+
+takes-raised : (m v : ℕ) (r : Run) (a : Reply) → Raised r (takes m v r a)
+unfolding failed good
+takes-raised m v r Reply.Failed = failed-raised (r .phase) m r
+takes-raised m v r (Reply.Good b) = good-raised (r .phase) m v r b
+
+-- ---- a course
+
+-- a run that goes on carries the course's count
+abbrev pub Tied : Course → Type 0
+Tied c = Carries (c .taken) (c .next)
+
+record Counts (c e : Course) : Type 0 where
+  most : e .taken ≤ c .taken + 1
+  tied : Tied e
+
+carry : (n : Next) (a b : ℕ) → a ≡ b → Carries a n → Carries b n
+carry n a b e h = rw e at h
+
+step-at : (m v : ℕ) (ro : Roster) (n : Next) (t : ℕ) (f : ℕ → Station) → Carries t n → Counts (course ro n t f) (step m v (course ro n t f))
+unfolding step
+step-at m v ro Next.Over t f h = record { most = omega arith; tied = tt }
+step-at m v ro (Next.On r) t f h =
+    let a = takes-raised m v r (deliver (awaitedIn m v r) f .reply) in
+    record {
+      most = omega (arith, a .count, counted-le (r .taken), h);
+      tied = carry (takes m v r (deliver (awaitedIn m v r) f .reply) .next) (counted (r .taken)) _ (sym (a .count)) (a .carries);
+    }
+
+counts : (m v n : ℕ) (c : Course) → Tied c → steps m v n c .taken ≤ c .taken + n
+unfolding steps
+counts m v zero c h = omega arith
+counts m v (suc n) c h =
+    let s = step-at m v (c .roster) (c .next) (c .taken) (c .nodes) h in
+    omega (arith, s .most, counts m v n (step m v c) (s .tied))
+
+stays-at : (m v : ℕ) (ro : Roster) (n : Next) (t : ℕ) (f : ℕ → Station) → n ≡ Next.Over → step m v (course ro n t f) ≡ course ro n t f
+unfolding step
+stays-at m v ro n t f e = rw e
+
+stays : (m v n : ℕ) (c : Course) → c .next ≡ Next.Over → steps m v n c ≡ c
+unfolding steps
+stays m v zero c e = refl
+stays m v (suc n) c e = ap (steps m v n) (stays-at m v (c .roster) (c .next) (c .taken) (c .nodes) e) ∙ stays m v n c e
+
+-- n answers taken after n exchanges: before that the run is not over
+pub not-before : (m v i n : ℕ) (c : Course) → Tied c → c .taken ≡ 0 → steps m v n c .taken ≡ n → i < n → steps m v i c .next ≡ Next.Over → ⊥
+not-before m v i n c tied zero-taken all l e =
+    let k : n ≡ i + (n - i) = omega arith in
+    let s : steps m v n c ≡ steps m v i c = ap (λ (q : ℕ). steps m v q c) k ∙ (steps-add m v i (n - i) c ∙ stays m v (n - i) (steps m v i c) e) in
+    let q : steps m v n c .taken ≡ steps m v i c .taken = ap (λ (d : Course). d .taken) s in
+    omega (arith, counts m v i c tied)

@@ -1,0 +1,16 @@
+pub mod Ground
+pub mod Stations
+pub mod Course
+pub mod Spread
+pub mod Sim
+pub mod Exact
+pub mod Bytes
+pub mod Began
+pub mod Enable
+pub mod Phases
+pub mod Choice
+pub mod Ends
+pub mod Cases
+pub mod Begin
+pub mod Instance
+pub mod Needs

@@ -1,0 +1,199 @@
+-- The phases of case 3 between the choice of the source and its enabling, among honest nodes: each comes to its end, and leaves every member's node honest.
+use mathlib.Core.Path.{_≡_, refl, sym, ap, _∙_}
+use mathlib.Core.Bool.{Bool, true, false}
+use mathlib.Core.Logic.{_≢_}
+use Prim.Native.Nat.{ℕ, zero, suc, _+_, _*_, _-_, _≤_, _<_}
+use native.Mathlib.Omega.{arith}
+use native.Mathlib.Decide.{ℕ-discrete}
+use lib.Dec.{eqb, ltb}
+use Rattle.laws.specs.Words.{pick}
+use Rattle.laws.specs.Tests.{clash}
+use Rattle.refusals.specs.Limits.{versionLimit}
+use Rattle.sets.specs.Sets.{has, without, size, lowest}
+use Rattle.sets.proofs.Laws.{has-below, has-without-same, still, without-lt, lowest-in, size-zero, size-le}
+use Rattle.state.specs.declared.Step.{Step}
+use Rattle.state.specs.declared.Phase.{Phase}
+use Rattle.state.specs.declared.Roster.{Roster}
+use Rattle.run.specs.declared.Next.{Next}
+use Rattle.run.specs.Run.{awaitedIn, good}
+use Rattle.world.specs.Station.{Station}
+use Rattle.world.specs.World.{upd}
+use Rattle.honest.proofs.Ground.{upd-same, upd-other, not-in, out-still, some, by-left, one-fewer}
+use Rattle.honest.proofs.Stations.{Fine, lastTo, marks-law, fine-last, fine-done}
+use Rattle.honest.proofs.Course.{Course, course, step, steps, steps-add, steps-one, steps-three, at, gatherHead, lastHead, baseHead, counts, Kind, base, gather, spread, phaseOf, from, to, keep, on, ups, headOf, head-some, spreadTo, three}
+
+-- every member's node is honest
+abbrev pub Fines : ℕ → ℕ → (ℕ → Station) → Type 0
+Fines m c f = (j : ℕ) → has m j ≡ true → Fine c j (f j)
+
+-- n exchanges on from a course that has taken t answers, the sessions as they were: the run is at `next`, the members' nodes are honest
+pub record Passed (m v c : ℕ) (ro : Roster) (next : ℕ → Next) (n t : ℕ) (start : Course) : Type 0 where
+  pub nodes : ℕ → Station
+  pub fines : Fines m c nodes
+  pub reach : steps m v n start ≡ course ro (next (t + n)) (t + n) nodes
+
+-- one phase after another
+pub both : (m v c : ℕ) (ro : Roster) (one two : ℕ → Next) (a b t : ℕ) (start : Course) → Passed m v c ro one a t start
+    → ((f : ℕ → Station) → Fines m c f → Passed m v c ro two b (t + a) (course ro (one (t + a)) (t + a) f)) → Passed m v c ro two (a + b) t start
+both m v c ro one two a b t start p q =
+    let r = q (p .nodes) (p .fines) in
+    let e : t + a + b ≡ t + (a + b) = omega arith in
+    record { nodes = r .nodes; fines = r .fines; reach = steps-add m v a b start ∙ (ap (steps m v b) (p .reach) ∙ (r .reach ∙ ap (λ (k : ℕ). course ro (two k) k (r .nodes)) e)) }
+
+-- no exchange
+pub at-once : (m v c : ℕ) (ro : Roster) (next : ℕ → Next) (t : ℕ) (f : ℕ → Station) (start : Course) → Fines m c f → start ≡ course ro (next t) t f → Passed m v c ro next 0 t start
+unfolding steps
+at-once m v c ro next t f start h e =
+    let z : t + 0 ≡ t = omega arith in
+    record { nodes = f; fines = h; reach = rw z e }
+
+-- one node changed
+pub upd-fines : (m c : ℕ) (f : ℕ → Station) (k : ℕ) (s : Station) → Fines m c f → (has m k ≡ true → Fine c k s) → Fines m c (upd f k s)
+upd-fines m c f k s h a j q = go (ℕ-discrete j k)
+  where
+    go : Dec (j ≡ k) → Fine c j (upd f k s j)
+    go (yes e) = rw (e, upd-same f k s) (a (ap (has m) (sym e) ∙ q))
+    go (no e) = rw (upd-other f k j s e) (h j q)
+
+-- what comes after a spread
+abbrev pub nextOf : Kind → ℕ → ℕ → ℕ → Next
+nextOf base m src t = lastHead m src m t
+nextOf gather m src t = Next.On (at Phase.Enable src (without m src) t)
+nextOf spread m src t = Next.Over
+
+to-in : (k : Kind) (m src x : ℕ) → has m src ≡ true → has m x ≡ true → has m (to k src x) ≡ true
+to-in base m src x a b = b
+to-in gather m src x a b = a
+to-in spread m src x a b = b
+
+from-in : (k : Kind) (m src x : ℕ) → has m src ≡ true → has m x ≡ true → has m (from k src x) ≡ true
+from-in base m src x a b = a
+from-in gather m src x a b = b
+from-in spread m src x a b = a
+
+two-ends : (k : Kind) (src x : ℕ) → src ≢ x → from k src x ≢ to k src x
+two-ends base src x h = h
+two-ends gather src x h = λ e. h (sym e)
+two-ends spread src x h = h
+
+-- those left are members, and not the source
+pub record Round (m src l : ℕ) : Type 0 where
+  pub inside : (j : ℕ) → has l j ≡ true → has m j ≡ true
+  pub apart : has l src ≡ false
+
+-- ---- a spread that enables nobody
+module _ (m v c : ℕ) (hv : v ≤ versionLimit) (hm : m < 65536) (src : ℕ) (own : has m src ≡ true) (ro : Roster) where
+  module _ (k : Kind) (quiet : (x : ℕ) → ups k ro x ≡ ro) (last : (t : ℕ) → headOf k m src 0 t ≡ nextOf k m src t) where
+    abbrev pub Looping : ℕ → Type 0
+    Looping l = (t : ℕ) (f : ℕ → Station) → t + 3 * size l ≤ 168 → Round m src l → Fines m c f
+        → Passed m v c ro (nextOf k m src) (3 * size l) t (course ro (headOf k m src l t) t f)
+
+    loop-none : Looping 0
+    loop-none t f few r h =
+        let z : 3 * size 0 ≡ 0 = omega (arith, size-zero) in
+        rw z (at-once m v c ro (nextOf k m src) t f (course ro (headOf k m src 0 t) t f) h (ap (λ (n : Next). course ro n t f) (last t)))
+
+    loop-more : (l : ℕ) → l < 65536 → lowest l < 16 → Looping (without l (lowest l)) → Looping l
+    loop-more l b h rec t f few r fs =
+        let i = rec (t + 3) g (omega (arith, one-fewer l h)) (record { inside = λ j q. r .inside j (still l (lowest l) j q .0); apart = out-still l (lowest l) src (r .apart) })
+        (upd-fines m c f (to k src (lowest l)) s fs (λ q. fine-done c (to k src (lowest l)) (keep k) (on k) v m (f (from k src (lowest l)) .map) (f (to k src (lowest l))) to-fine (from-fine .map) hv hm q)) in
+        let e : t + 3 + 3 * size (without l (lowest l)) ≡ t + 3 * size l = omega (arith, one-fewer l h) in
+        record {
+          nodes = i .nodes;
+          fines = i .fines;
+          reach =
+              ap (λ (q : ℕ). steps m v q (course ro (headOf k m src l t) t f)) e₃
+              ∙ (steps-three m v (size (without l (lowest l))) (course ro (headOf k m src l t) t f)
+              ∙ (ap (steps m v (3 * size (without l (lowest l)))) three-on ∙ (i .reach ∙ ap (λ (q : ℕ). course ro (nextOf k m src q) q (i .nodes)) e)));
+        }
+      where
+        x-in : has m (lowest l) ≡ true
+        x-in = r .inside (lowest l) (lowest-in l h)
+
+        apart : src ≢ lowest l
+        apart e = clash (lowest-in l h) (ap (λ (q : ℕ). has l q) (sym e) ∙ r .apart)
+
+        to-fine : Fine c (to k src (lowest l)) (f (to k src (lowest l)))
+        to-fine = fs (to k src (lowest l)) (to-in k m src (lowest l) own x-in)
+
+        from-fine : Fine c (from k src (lowest l)) (f (from k src (lowest l)))
+        from-fine = fs (from k src (lowest l)) (from-in k m src (lowest l) own x-in)
+
+        s : Station
+        s = spreadTo k m v (f (from k src (lowest l))) (f (to k src (lowest l)))
+
+        g : ℕ → Station
+        g = upd f (to k src (lowest l)) s
+
+        e₃ : 3 * size l ≡ 3 * (size (without l (lowest l)) + 1)
+        e₃ = ap (λ (q : ℕ). 3 * q) (one-fewer l h)
+
+        three-on : step m v (step m v (step m v (course ro (headOf k m src l t) t f))) ≡ course ro (headOf k m src (without l (lowest l)) (t + 3)) (t + 3) g
+        three-on =
+            rw (
+              head-some k m src l t h,
+              three m v c hv hm k ro src l t t f (omega (arith, one-fewer l h)) from-fine to-fine (two-ends k src (lowest l) apart) (to-in k m src (lowest l) own x-in),
+              quiet (lowest l),
+            )
+
+    pub loop : (l : ℕ) → l < 65536 → Looping l
+    loop = by-left Looping loop-none loop-more
+
+  -- ---- LAST_IO_TO_MAP: one exchange for each
+  mark-step : (l t u : ℕ) (f : ℕ → Station) → t < 168 → src < 16 → Fine c (lowest l) (f (lowest l))
+      → step m v (course ro (Next.On (at Phase.LastIo src l t)) u f) ≡ course ro (lastHead m src (without l (lowest l)) (t + 1)) (t + 1) (upd f (lowest l) (lastTo src (f (lowest l))))
+  unfolding step awaitedIn good
+  mark-step l t u f h b a = rw (marks-law c (lowest l) src (f (lowest l)) a b, counts t h)
+
+  abbrev pub Marking : ℕ → Type 0
+  Marking l = (t : ℕ) (f : ℕ → Station) → t + size l ≤ 168 → ((j : ℕ) → has l j ≡ true → has m j ≡ true) → Fines m c f
+      → Passed m v c ro (gatherHead m src (without m src)) (size l) t (course ro (lastHead m src l t) t f)
+
+  mark-none : Marking 0
+  mark-none t f few r h = rw size-zero (at-once m v c ro (gatherHead m src (without m src)) t f (course ro (lastHead m src 0 t) t f) h refl)
+
+  mark-more : (l : ℕ) → l < 65536 → lowest l < 16 → Marking (without l (lowest l)) → Marking l
+  mark-more l b h rec t f few r fs =
+      let i = rec (t + 1) g (omega (arith, one-fewer l h)) (λ j q. r j (still l (lowest l) j q .0)) (upd-fines m c f (lowest l) (lastTo src (f (lowest l))) fs (λ q. fine-last c (lowest l) src (f (lowest l)) fine-x)) in
+      record {
+        nodes = i .nodes;
+        fines = i .fines;
+        reach =
+            ap (λ (q : ℕ). steps m v q (course ro (lastHead m src l t) t f)) (one-fewer l h)
+            ∙ (steps-one m v (size (without l (lowest l))) (course ro (lastHead m src l t) t f)
+            ∙ (ap (steps m v (size (without l (lowest l)))) one-on ∙ (i .reach ∙ ap (λ (q : ℕ). course ro (gatherHead m src (without m src) q) q (i .nodes)) e)));
+      }
+    where
+      fine-x : Fine c (lowest l) (f (lowest l))
+      fine-x = fs (lowest l) (r (lowest l) (lowest-in l h))
+
+      g : ℕ → Station
+      g = upd f (lowest l) (lastTo src (f (lowest l)))
+
+      e : t + 1 + size (without l (lowest l)) ≡ t + size l
+      e = omega (arith, one-fewer l h)
+
+      one-on : step m v (course ro (lastHead m src l t) t f) ≡ course ro (lastHead m src (without l (lowest l)) (t + 1)) (t + 1) g
+      one-on = rw (some l h) (mark-step l t t f (omega (arith, one-fewer l h)) (has-below m src own) fine-x)
+
+  marking : (l : ℕ) → l < 65536 → Marking l
+  marking = by-left Marking mark-none mark-more
+
+  -- ---- the three phases: from the choice of the source to its enabling
+  pub middle : (t : ℕ) (f : ℕ → Station) → t + (3 * size (without m src) + (size m + 3 * size (without m src))) ≤ 168 → Fines m c f
+      → Passed m v c ro (λ q. Next.On (at Phase.Enable src (without m src) q)) (3 * size (without m src) + (size m + 3 * size (without m src))) t (course ro (baseHead m src (without m src) t) t f)
+  middle t f few fs =
+      both m v c ro (λ q. lastHead m src m q) (λ q. Next.On (at Phase.Enable src (without m src) q)) (3 * size o) (size m + 3 * size o) t (course ro (baseHead m src o t) t f)
+      (loop base (λ x. refl) (λ q. refl) o small t f (omega arith) round fs)
+      (λ f₁ fs₁. both m v c ro (gatherHead m src o) (λ q. Next.On (at Phase.Enable src (without m src) q)) (size m) (3 * size o) (t + 3 * size o) (course ro (lastHead m src m (t + 3 * size o)) (t + 3 * size o) f₁)
+      (marking m hm (t + 3 * size o) f₁ (omega arith) (λ j q. q) fs₁)
+      (λ f₂ fs₂. loop gather (λ x. refl) (λ q. refl) o small (t + 3 * size o + size m) f₂ (omega arith) round fs₂))
+    where
+      o : ℕ
+      o = without m src
+
+      small : o < 65536
+      small = without-lt m src hm
+
+      round : Round m src o
+      round = record { inside = λ j q. still m src j q .0; apart = has-without-same m src }

@@ -1,0 +1,1 @@
+// No code: the client and its nodes together, and one exchange of a recovery run among them.
