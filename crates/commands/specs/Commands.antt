@@ -1,0 +1,60 @@
+-- A line of a history, its newline cut off, to its command.
+use Prim.Native.Nat.{ℕ}
+use mathlib.Core.Bool.{Bool, true, false, _&&_}
+use mathlib.Core.List.{List, [], _∷_}
+use lib.ListN.{length}
+use lib.Dec.{ltb, eqb}
+use Rattle.laws.specs.Words.{pick}
+use Rattle.lines.specs.Lines.{lineOf}
+use Rattle.lines.specs.declared.Line.{Line}
+use Rattle.names.specs.Names.{POKE, CLIENT, ROW, STAGING, BYTE, STAGING-BYTE, LEND, LEND-STAGING, POKE-NODE, SESSION, VERSION, COUNT, CHUNKS, MEMBERS}
+use Rattle.forms.specs.declared.Form.{Form}
+use Rattle.forms.specs.declared.Which.{Which}
+use Rattle.forms.specs.declared.Command.{Command}
+use Rattle.forms.specs.Forms.{formOf, plain, pair}
+use Rattle.forms.specs.Values.{sessionOf, maybeSession}
+use Rattle.eventlines.specs.Events.{clientEvents, wholeEvents, storeEvents, serviceEvents, transferEvents}
+
+-- The dirty chunks of a member, and how much of a map is lent.
+unfoldable pub looks : Form → Command → Command
+looks f rest =
+    pick (pair f ROW CLIENT 3 && ltb (f .x2) 16) (Command.Row Which.Client (f .x2))
+    (pick (plain f ROW 3 && (ltb (f .x1) 16 && ltb (f .x2) 16)) (Command.Row (Which.Node (f .x1)) (f .x2))
+    (pick (plain f STAGING 3 && (ltb (f .x1) 16 && ltb (f .x2) 16)) (Command.Row (Which.Staging (f .x1)) (f .x2))
+    (pick (pair f LEND CLIENT 3 && ltb (f .x2) 8193) (Command.Lend Which.Client (f .x2))
+    (pick (plain f LEND 3 && (ltb (f .x1) 16 && ltb (f .x2) 8193)) (Command.Lend (Which.Node (f .x1)) (f .x2))
+    (pick (plain f LEND-STAGING 3 && (ltb (f .x1) 16 && ltb (f .x2) 8193)) (Command.Lend (Which.Staging (f .x1)) (f .x2))
+    rest)))))
+
+-- A byte stored in a map, and a number put into the client's state.
+unfoldable pub stores : Form → Command → Command
+stores f rest =
+    pick (pair f BYTE CLIENT 4 && (ltb (f .x2) 8192 && ltb (f .x3) 256)) (Command.Byte Which.Client (f .x2) (f .x3))
+    (pick (plain f BYTE 4 && (ltb (f .x1) 16 && (ltb (f .x2) 8192 && ltb (f .x3) 256))) (Command.Byte (Which.Node (f .x1)) (f .x2) (f .x3))
+    (pick (plain f STAGING-BYTE 4 && (ltb (f .x1) 16 && (ltb (f .x2) 8192 && ltb (f .x3) 256))) (Command.Byte (Which.Staging (f .x1)) (f .x2) (f .x3))
+    (pick (pair f POKE VERSION 3) (Command.PokeVersion (f .x2))
+    (pick (pair f POKE COUNT 3 && ltb (f .x2) 65536) (Command.PokeCount (f .x2))
+    (pick (pair f POKE CHUNKS 3 && ltb (f .x2) 65536) (Command.PokeChunks (f .x2))
+    (pick (pair f POKE MEMBERS 3 && ltb (f .x2) 65536) (Command.PokeMembers (f .x2))
+    rest))))))
+
+-- A session put into the client's state, and a node's state.
+unfoldable pub pokes : Form → Command → Command
+pokes f rest =
+    pick (pair f POKE SESSION 8 && (ltb (f .x2) 16 && maybeSession (f .x3) (f .x4) (f .x5) (f .x6) (f .x7))) (Command.PokeSession (f .x2) (sessionOf (f .x3) (f .x4) (f .x5) (f .x6) (f .x7)))
+    (pick (plain f POKE-NODE 8 && (ltb (f .x1) 16 && (ltb (f .x2) 5 && (ltb (f .x3) 2 && (ltb (f .x4) 2 && (ltb (f .x5) 65536 && ltb (f .x7) 3)))))) (Command.PokeNode (f .x1) (f .x2) (eqb (f .x3) 1) (eqb (f .x4) 1) (f .x5) (f .x6) (f .x7))
+    rest)
+
+-- What a line of words says. Each form stands once, and no two have the same words, so the order is free.
+unfoldable pub meaning : Line → Command
+meaning l =
+    clientEvents (formOf l) (wholeEvents (formOf l) (transferEvents (formOf l) (serviceEvents (formOf l) (storeEvents (formOf l) (stores (formOf l) (looks (formOf l) (pokes (formOf l) Command.Unreadable)))))))
+
+-- An empty line, and one that begins with # (35), is passed over.
+abbrev pub passedOver : List ℕ → Bool
+passedOver [] = true
+passedOver (b ∷ s) = eqb b 35
+
+-- The command of a line. One longer than 255 bytes is unreadable.
+unfoldable pub commandOf : List ℕ → Command
+commandOf s = pick (passedOver s) Command.Passed (pick (ltb 255 (length s)) Command.Unreadable (meaning (lineOf s)))

@@ -1,0 +1,106 @@
+// A line of a history to the command that it is.
+ghost use mathlib.Core.Path.{_≡_};
+ghost use Rattle.commands.specs.Commands.{looks as Commands·looks, stores as Commands·stores, pokes as Commands·pokes, meaning, commandOf};
+use forms::Command;
+use forms::Form;
+use forms::Which;
+use forms::first;
+use forms::pair;
+use forms::plain;
+use lines::Line;
+
+// The dirty chunks of a member, and how much of a map is lent.
+fn looks(f: Form, rest: Command) -> Command
+    ensures { λ r. ⌜ r ≡ Commands·looks f rest ⌝ }
+{
+    let x1 = f.x1;
+    let x2 = f.x2;
+    let is = plain(f, names::LEND_STAGING, 3) & ((x1 < 16) & (x2 < 8193));
+    let r = first(is, Command::Lend(Which::Staging(x1), x2), rest);
+    let is = plain(f, names::LEND, 3) & ((x1 < 16) & (x2 < 8193));
+    let r = first(is, Command::Lend(Which::Node(x1), x2), r);
+    let is = pair(f, names::LEND, names::CLIENT, 3) & (x2 < 8193);
+    let r = first(is, Command::Lend(Which::Client, x2), r);
+    let is = plain(f, names::STAGING, 3) & ((x1 < 16) & (x2 < 16));
+    let r = first(is, Command::Row(Which::Staging(x1), x2), r);
+    let is = plain(f, names::ROW, 3) & ((x1 < 16) & (x2 < 16));
+    let r = first(is, Command::Row(Which::Node(x1), x2), r);
+    let is = pair(f, names::ROW, names::CLIENT, 3) & (x2 < 16);
+    first(is, Command::Row(Which::Client, x2), r)
+}
+
+// A byte stored in a map, and a number put into the client's state.
+fn stores(f: Form, rest: Command) -> Command
+    ensures { λ r. ⌜ r ≡ Commands·stores f rest ⌝ }
+{
+    let x1 = f.x1;
+    let x2 = f.x2;
+    let x3 = f.x3;
+    let is = pair(f, names::POKE, names::MEMBERS, 3) & (x2 < 65536);
+    let r = first(is, Command::PokeMembers(x2), rest);
+    let is = pair(f, names::POKE, names::CHUNKS, 3) & (x2 < 65536);
+    let r = first(is, Command::PokeChunks(x2), r);
+    let is = pair(f, names::POKE, names::COUNT, 3) & (x2 < 65536);
+    let r = first(is, Command::PokeCount(x2), r);
+    let is = pair(f, names::POKE, names::VERSION, 3);
+    let r = first(is, Command::PokeVersion(x2), r);
+    let is = plain(f, names::STAGING_BYTE, 4) & ((x1 < 16) & ((x2 < 8192) & (x3 < 256)));
+    let r = first(is, Command::Byte(Which::Staging(x1), x2, x3), r);
+    let is = plain(f, names::BYTE, 4) & ((x1 < 16) & ((x2 < 8192) & (x3 < 256)));
+    let r = first(is, Command::Byte(Which::Node(x1), x2, x3), r);
+    let is = pair(f, names::BYTE, names::CLIENT, 4) & ((x2 < 8192) & (x3 < 256));
+    first(is, Command::Byte(Which::Client, x2, x3), r)
+}
+
+// A session put into the client's state, and a node's state.
+fn pokes(f: Form, rest: Command) -> Command
+    ensures { λ r. ⌜ r ≡ Commands·pokes f rest ⌝ }
+{
+    let x1 = f.x1;
+    let x2 = f.x2;
+    let x3 = f.x3;
+    let x4 = f.x4;
+    let x5 = f.x5;
+    let x6 = f.x6;
+    let x7 = f.x7;
+    let may = forms::maybe(x3, x4, x5, x6, x7);
+    let s = forms::session_of(x3, x4, x5, x6, x7);
+    let is = plain(f, names::POKE_NODE, 8)
+        & ((x1 < 16) & ((x2 < 5) & ((x3 < 2) & ((x4 < 2) & ((x5 < 65536) & (x7 < 3))))));
+    let r = first(
+        is,
+        Command::PokeNode(x1, x2, x3 == 1, x4 == 1, x5, x6, x7),
+        rest,
+    );
+    let is = pair(f, names::POKE, names::SESSION, 8) & ((x2 < 16) & may);
+    first(is, Command::PokeSession(x2, s), r)
+}
+
+fn parse(l: Line) -> Command
+    ensures { λ r. ⌜ r ≡ meaning l ⌝ }
+{
+    let f = forms::form_of(l);
+    let u = pokes(f, Command::Unreadable);
+    let v = stores(f, looks(f, u));
+    let w = eventlines::transfer_events(
+        f,
+        eventlines::service_events(f, eventlines::store_events(f, v)),
+    );
+    eventlines::client_events(f, eventlines::whole_events(f, w))
+}
+
+// A line, its newline cut off, to its command. A line longer than 255 bytes is none.
+pub fn read(s: &[u8]) -> Command
+    ensures { λ r. ⌜ r ≡ commandOf (now (s .entry)) ⌝ }
+{
+    if s.len() == 0 {
+        return Command::Passed;
+    }
+    if s[0] == 35 {
+        return Command::Passed;
+    }
+    if 255 < s.len() {
+        return Command::Unreadable;
+    }
+    parse(lines::read_line(s))
+}

@@ -1,0 +1,130 @@
+// The lines that are events of the client or of a node.
+ghost use mathlib.Core.Path.{_≡_};
+ghost use Rattle.eventlines.specs.Events.{clientEvents, wholeEvents, storeEvents, serviceEvents, transferEvents};
+use forms::Command;
+use forms::Event;
+use forms::Form;
+use forms::NodeEvent;
+use forms::first;
+use forms::node;
+use forms::plain;
+
+// The client's events, all but four.
+pub fn client_events(f: Form, rest: Command) -> Command
+    ensures { λ r. ⌜ r ≡ clientEvents f rest ⌝ }
+{
+    let x1 = f.x1;
+    let x2 = f.x2;
+    let x3 = f.x3;
+    let is = plain(f, names::TRY, 1);
+    let r = first(is, Command::Client(Event::Try), rest);
+    let is = plain(f, names::STORE_CHECK, 2);
+    let r = first(is, Command::Client(Event::StoreCheck(x1)), r);
+    let is = plain(f, names::LINK_DOWN, 2);
+    let r = first(is, Command::Client(Event::LinkDown(x1)), r);
+    let is = plain(f, names::MAINTENANCE, 2);
+    let r = first(is, Command::Client(Event::Maintenance(x1)), r);
+    let is = plain(f, names::ENABLE, 2);
+    let r = first(is, Command::Client(Event::Enable(x1)), r);
+    let is = plain(f, names::JOIN_ASSEMBLE, 4);
+    let r = first(is, Command::Client(Event::JoinAssemble(x1, x2, x3)), r);
+    let is = plain(f, names::JOIN_CREATE, 2);
+    first(is, Command::Client(Event::JoinCreate(x1)), r)
+}
+
+// The other four, and what concerns the lab as a whole.
+pub fn whole_events(f: Form, rest: Command) -> Command
+    ensures { λ r. ⌜ r ≡ wholeEvents f rest ⌝ }
+{
+    let x1 = f.x1;
+    let x2 = f.x2;
+    let x3 = f.x3;
+    let m = forms::mode_of(x2);
+    let a = forms::reply_of(x2, x3);
+    let is = plain(f, names::DELIVER, 1);
+    let r = first(is, Command::Deliver, rest);
+    let is = plain(f, names::AUTO, 2) & (x1 < 2);
+    let r = first(is, Command::Auto(x1 == 1), r);
+    let is = plain(f, names::POOL, 3) & ((x1 < 2) & (x2 < 65536));
+    let r = first(is, Command::Pool(x1 == 1, x2), r);
+    let is = plain(f, names::ANSWER, 4) & (x2 < 3);
+    let r = first(is, Command::Client(Event::Answer(x1, a)), r);
+    let is = plain(f, names::SYNCED, 4) & (x3 < 16);
+    let r = first(is, Command::Client(Event::Synced(x1, x2, x3)), r);
+    let is = plain(f, names::WRITE, 3);
+    let r = first(is, Command::Client(Event::Write(x1, x2)), r);
+    let is = plain(f, names::REMOVE, 3) & (x2 < 2);
+    first(is, Command::Client(Event::Remove(x1, m)), r)
+}
+
+// A node's events: register, join, leave, enable.
+pub fn store_events(f: Form, rest: Command) -> Command
+    ensures { λ r. ⌜ r ≡ storeEvents f rest ⌝ }
+{
+    let x1 = f.x1;
+    let x3 = f.x3;
+    let x4 = f.x4;
+    let is = node(f, names::ENABLE0, 3);
+    let r = first(is, Command::Node(x1, NodeEvent::EnableOff), rest);
+    let is = node(f, names::ENABLE1, 5);
+    let r = first(is, Command::Node(x1, NodeEvent::EnableOn(x3, x4)), r);
+    let is = node(f, names::LEAVE, 4) & (x3 < 2);
+    let r = first(is, Command::Node(x1, NodeEvent::Leave(x3 == 1)), r);
+    let is = node(f, names::JOIN_ASSEMBLE, 3);
+    let r = first(is, Command::Node(x1, NodeEvent::JoinAssemble), r);
+    let is = node(f, names::JOIN_CREATE, 4);
+    let r = first(is, Command::Node(x1, NodeEvent::JoinCreate(x3)), r);
+    let is = node(f, names::UNREGISTER, 4) & (x3 < 2);
+    let r = first(is, Command::Node(x1, NodeEvent::Unregister(x3 == 1)), r);
+    let is = node(f, names::REGISTER_ADD, 5);
+    let r = first(is, Command::Node(x1, NodeEvent::RegisterAdd(x3, x4)), r);
+    let is = node(f, names::REGISTER_CREATE, 3);
+    first(is, Command::Node(x1, NodeEvent::RegisterCreate), r)
+}
+
+// A node's events: fault, write, synced, POOL_INFO, LAST_IO.
+pub fn service_events(f: Form, rest: Command) -> Command
+    ensures { λ r. ⌜ r ≡ serviceEvents f rest ⌝ }
+{
+    let x1 = f.x1;
+    let x3 = f.x3;
+    let x4 = f.x4;
+    let x5 = f.x5;
+    let o = forms::op_of(x3);
+    let is = node(f, names::LAST_IO, 4);
+    let r = first(is, Command::Node(x1, NodeEvent::LastIo(x3)), rest);
+    let is = node(f, names::POOL_INFO, 5) & (x3 < 4);
+    let r = first(is, Command::Node(x1, NodeEvent::PoolInfo(o, x4)), r);
+    let is = node(f, names::SYNCED, 5);
+    let r = first(is, Command::Node(x1, NodeEvent::Synced(x3, x4)), r);
+    let is = node(f, names::WRITE, 6);
+    let r = first(is, Command::Node(x1, NodeEvent::Write(x3, x4, x5)), r);
+    let is = node(f, names::FAULT, 3);
+    first(is, Command::Node(x1, NodeEvent::Fault), r)
+}
+
+// A node's events: the map's way.
+pub fn transfer_events(f: Form, rest: Command) -> Command
+    ensures { λ r. ⌜ r ≡ transferEvents f rest ⌝ }
+{
+    let x1 = f.x1;
+    let x3 = f.x3;
+    let x4 = f.x4;
+    let x5 = f.x5;
+    let is = node(f, names::MAP_GET_VER, 3);
+    let r = first(is, Command::Node(x1, NodeEvent::MapGetVer), rest);
+    let is = node(f, names::MAP_DISABLE, 3);
+    let r = first(is, Command::Node(x1, NodeEvent::MapDisable), r);
+    let is = node(f, names::MAP_DONE, 6) & (x3 < 2);
+    let r = first(
+        is,
+        Command::Node(x1, NodeEvent::MapDone(x3 == 1, x4, x5)),
+        r,
+    );
+    let is = node(f, names::TAKE, 4) & (x3 < 16);
+    let r = first(is, Command::Node(x1, NodeEvent::Take(x3)), r);
+    let is = node(f, names::GIVE, 3);
+    let r = first(is, Command::Node(x1, NodeEvent::Give), r);
+    let is = node(f, names::MAP_READY, 4) & (x3 < 2);
+    first(is, Command::Node(x1, NodeEvent::MapReady(x3 == 1)), r)
+}

@@ -1,0 +1,86 @@
+-- What is written: messages, each after a bar, its numbers after spaces.
+use Prim.Native.Nat.{ℕ, suc, zero}
+use Prim.Native.String.{String}
+use mathlib.Core.Bool.{Bool, true, false}
+use mathlib.Core.List.{List, [], _∷_, _++_, map}
+use Rattle.laws.specs.Words.{pick, one}
+use Rattle.sets.specs.Sets.{has}
+use Rattle.text.specs.Bytes.{bytes}
+use Rattle.text.specs.Ink.{decimal, joined}
+use Rattle.state.specs.declared.Mode.{Mode}
+use Rattle.state.specs.declared.Op.{Op}
+use Rattle.state.specs.declared.Message.{Message}
+use Rattle.state.specs.declared.Told.{Told}
+
+-- a space and a number
+unfoldable pub spaced : ℕ → List ℕ
+spaced n = 32 ∷ decimal n
+
+-- bytes and then numbers, each after a space
+abbrev pub said : List ℕ → List ℕ → List ℕ
+said s ns = joined (s ∷ map spaced ns)
+
+-- a text and a number, with nothing between
+abbrev pub paired : List ℕ → ℕ → List ℕ
+paired s n = joined (s ∷ decimal n ∷ [])
+
+-- The number of what a POOL_INFO says.
+abbrev pub opNumber : Op → ℕ
+opNumber Op.AddCreate = 0
+opNumber Op.AddAssemble = 1
+opNumber Op.RemoveDelete = 2
+opNumber Op.RemoveDisassemble = 3
+
+abbrev pub modeNumber : Mode → ℕ
+modeNumber Mode.Delete = 0
+modeNumber Mode.Disassemble = 1
+
+-- The awaited message.
+abbrev pub messageText : Message → List ℕ
+messageText Message.Nothing = []
+messageText (Message.GetVersion to) = said (bytes " | MAP_GET_VER") (to ∷ [])
+messageText (Message.Ready to keep) = said (bytes " | MAP_READY") (to ∷ one keep ∷ [])
+messageText (Message.Send to receiver) = said (bytes " | MAP_SEND") (to ∷ receiver ∷ [])
+messageText (Message.Done to enable version set) = said (bytes " | MAP_DONE") (to ∷ one enable ∷ version ∷ set ∷ [])
+messageText (Message.LastIo to chosen) = said (bytes " | LAST_IO") (to ∷ chosen ∷ [])
+messageText (Message.Enable to version set) = said (bytes " | ENABLE") (to ∷ 1 ∷ version ∷ set ∷ [])
+messageText (Message.Leave to mode) = said (bytes " | LEAVE") (to ∷ modeNumber mode ∷ [])
+messageText (Message.Info to op member) = said (bytes " | POOL_INFO") (to ∷ opNumber op ∷ member ∷ [])
+
+abbrev pub isNothing : Message → Bool
+isNothing Message.Nothing = true
+isNothing (Message.GetVersion to) = false
+isNothing (Message.Ready to keep) = false
+isNothing (Message.Send to receiver) = false
+isNothing (Message.Done to enable version set) = false
+isNothing (Message.LastIo to chosen) = false
+isNothing (Message.Enable to version set) = false
+isNothing (Message.Leave to mode) = false
+isNothing (Message.Info to op member) = false
+
+-- The awaited message with its number.
+unfoldable pub awaitedText : Message → ℕ → List ℕ
+awaitedText m number = pick (isNothing m) [] (joined (messageText m ∷ bytes " #" ∷ decimal number ∷ []))
+
+-- The message that is not awaited to the id i, where the set it goes to has i.
+abbrev pub toldTo : Told → ℕ → List ℕ
+toldTo Told.Nothing i = []
+toldTo (Told.Marks set chunk list version) i = pick (has set i) (said (bytes " | MARK") (i ∷ chunk ∷ list ∷ version ∷ [])) []
+toldTo (Told.Clears set member chunk) i = pick (has set i) (said (bytes " | CLEAR") (i ∷ member ∷ chunk ∷ [])) []
+toldTo (Told.Infos set op member) i = pick (has set i) (said (bytes " | POOL_INFO") (i ∷ opNumber op ∷ member ∷ [])) []
+toldTo (Told.Disable to) i = []
+toldTo (Told.Off to) i = []
+
+-- n texts, from the one of i on, joined
+abbrev pub each : (ℕ → List ℕ) → ℕ → ℕ → List ℕ
+each f zero i = []
+each f (suc n) i = f i ++ each f n (suc i)
+
+-- The messages that are not awaited, ascending by where they go.
+unfoldable pub toldText : Told → List ℕ
+toldText Told.Nothing = []
+toldText (Told.Marks set chunk list version) = each (toldTo (Told.Marks set chunk list version)) 16 0
+toldText (Told.Clears set member chunk) = each (toldTo (Told.Clears set member chunk)) 16 0
+toldText (Told.Infos set op member) = each (toldTo (Told.Infos set op member)) 16 0
+toldText (Told.Disable to) = said (bytes " | MAP_DISABLE") (to ∷ [])
+toldText (Told.Off to) = said (bytes " | ENABLE") (to ∷ 0 ∷ [])

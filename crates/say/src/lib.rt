@@ -1,0 +1,225 @@
+// Messages, written: each after a bar, its numbers after spaces.
+ghost use mathlib.Core.Path.{_≡_};
+ghost use mathlib.Core.List.{List, [], _∷_};
+ghost use Rattle.laws.specs.Words.{one, pick};
+ghost use Rattle.sets.specs.Sets.{has};
+ghost use Rattle.text.specs.Ink.{ink, emits};
+ghost use Rattle.say.specs.Say.{spaced, paired, said, opNumber, modeNumber, messageText, isNothing, awaitedText, toldTo, each, toldText};
+use state::Message;
+use state::Mode;
+use state::Op;
+use state::Told;
+
+fn put_after(out: &mut [u8], at: usize, n: u64) -> usize
+    ensures { λ r. ⌜ ink (now (out .exit)) r ≡ emits (ink (now (out .entry)) at) (spaced n) ⌝ }
+{
+    let to = text::put(out, at, 32);
+    text::put_number(out, to, n)
+}
+
+// A text and one number.
+pub fn put1(out: &mut [u8], at: usize, s: &[u8], a: u64) -> usize
+    ensures { λ r. ⌜ ink (now (out .exit)) r ≡ emits (ink (now (out .entry)) at) (said (now (s .entry)) (a ∷ [])) ⌝ }
+{
+    let to = text::put_bytes(out, at, s);
+    put_after(out, to, a)
+}
+
+// A text and two numbers.
+pub fn put2(out: &mut [u8], at: usize, s: &[u8], a: u64, b: u64) -> usize
+    ensures { λ r. ⌜ ink (now (out .exit)) r ≡ emits (ink (now (out .entry)) at) (said (now (s .entry)) (a ∷ b ∷ [])) ⌝ }
+{
+    let to = text::put_bytes(out, at, s);
+    let to = put_after(out, to, a);
+    put_after(out, to, b)
+}
+
+// A text and three numbers.
+pub fn put3(out: &mut [u8], at: usize, s: &[u8], a: u64, b: u64, c: u64) -> usize
+    ensures { λ r. ⌜ ink (now (out .exit)) r ≡ emits (ink (now (out .entry)) at) (said (now (s .entry)) (a ∷ b ∷ c ∷ [])) ⌝ }
+{
+    let to = text::put_bytes(out, at, s);
+    let to = put_after(out, to, a);
+    let to = put_after(out, to, b);
+    put_after(out, to, c)
+}
+
+// A text and four numbers.
+pub fn put4(out: &mut [u8], at: usize, s: &[u8], a: u64, b: u64, c: u64, d: u64) -> usize
+    ensures { λ r. ⌜ ink (now (out .exit)) r ≡ emits (ink (now (out .entry)) at) (said (now (s .entry)) (a ∷ b ∷ c ∷ d ∷ [])) ⌝ }
+{
+    let to = text::put_bytes(out, at, s);
+    let to = put_after(out, to, a);
+    let to = put_after(out, to, b);
+    let to = put_after(out, to, c);
+    put_after(out, to, d)
+}
+
+// A text and a number, with nothing between.
+pub fn put_pair(out: &mut [u8], at: usize, s: &[u8], n: u64) -> usize
+    ensures { λ r. ⌜ ink (now (out .exit)) r ≡ emits (ink (now (out .entry)) at) (paired (now (s .entry)) n) ⌝ }
+{
+    let to = text::put_bytes(out, at, s);
+    text::put_number(out, to, n)
+}
+
+pub fn bit(b: bool) -> u64
+    ensures { λ r. ⌜ r ≡ one b ⌝ }
+{
+    if b { 1 } else { 0 }
+}
+
+fn op_number(op: Op) -> u64
+    ensures { λ r. ⌜ r ≡ opNumber op ⌝ }
+{
+    match op {
+        Op::AddCreate => 0,
+        Op::AddAssemble => 1,
+        Op::RemoveDelete => 2,
+        Op::RemoveDisassemble => 3,
+    }
+}
+
+fn mode_number(mode: Mode) -> u64
+    ensures { λ r. ⌜ r ≡ modeNumber mode ⌝ }
+{
+    match mode {
+        Mode::Delete => 0,
+        Mode::Disassemble => 1,
+    }
+}
+
+fn put_message(out: &mut [u8], at: usize, m: Message) -> usize
+    ensures { λ r. ⌜ ink (now (out .exit)) r ≡ emits (ink (now (out .entry)) at) (messageText m) ⌝ }
+{
+    match m {
+        Message::Nothing => at,
+        Message::GetVersion(to) => put1(out, at, b" | MAP_GET_VER", to),
+        Message::Ready(to, keep) => put2(out, at, b" | MAP_READY", to, bit(keep)),
+        Message::Send(to, receiver) => put2(out, at, b" | MAP_SEND", to, receiver),
+        Message::Done(to, enable, version, set) => put4(
+            out,
+            at,
+            b" | MAP_DONE",
+            to,
+            bit(enable),
+            version,
+            set,
+        ),
+        Message::LastIo(to, chosen) => put2(out, at, b" | LAST_IO", to, chosen),
+        Message::Enable(to, version, set) => put4(out, at, b" | ENABLE", to, 1, version, set),
+        Message::Leave(to, mode) => put2(out, at, b" | LEAVE", to, mode_number(mode)),
+        Message::Info(to, op, member) => put3(out, at, b" | POOL_INFO", to, op_number(op), member),
+    }
+}
+
+fn is_nothing(m: Message) -> bool
+    ensures { λ r. ⌜ r ≡ isNothing m ⌝ }
+{
+    match m {
+        Message::Nothing => true,
+        Message::GetVersion(to) => false,
+        Message::Ready(to, keep) => false,
+        Message::Send(to, receiver) => false,
+        Message::Done(to, enable, version, set) => false,
+        Message::LastIo(to, chosen) => false,
+        Message::Enable(to, version, set) => false,
+        Message::Leave(to, mode) => false,
+        Message::Info(to, op, member) => false,
+    }
+}
+
+// The awaited message with its number; nothing where none is awaited.
+pub fn put_awaited(out: &mut [u8], at: usize, m: Message, number: u64) -> usize
+    ensures { λ r. ⌜ ink (now (out .exit)) r ≡ emits (ink (now (out .entry)) at) (awaitedText m number) ⌝ }
+{
+    let none = is_nothing(m);
+    if none {
+        return at;
+    }
+    let to = put_message(out, at, m);
+    let to = text::put_bytes(out, to, b" #");
+    text::put_number(out, to, number)
+}
+
+// Three numbers, the id i first, where the set has i.
+fn put3_in(out: &mut [u8], at: usize, s: &[u8], set: u64, i: u64, a: u64, b: u64) -> usize
+    ensures { λ r. ⌜ ink (now (out .exit)) r ≡ emits (ink (now (out .entry)) at) (pick (has set i) (said (now (s .entry)) (i ∷ a ∷ b ∷ [])) []) ⌝ }
+{
+    let there = sets::has(set, i);
+    if there {
+        return put3(out, at, s, i, a, b);
+    }
+    at
+}
+
+fn put4_in(out: &mut [u8], at: usize, s: &[u8], set: u64, i: u64, a: u64, b: u64, c: u64) -> usize
+    ensures { λ r. ⌜ ink (now (out .exit)) r ≡ emits (ink (now (out .entry)) at) (pick (has set i) (said (now (s .entry)) (i ∷ a ∷ b ∷ c ∷ [])) []) ⌝ }
+{
+    let there = sets::has(set, i);
+    if there {
+        return put4(out, at, s, i, a, b, c);
+    }
+    at
+}
+
+// The message to the id i, where one goes there.
+fn put_to(out: &mut [u8], at: usize, t: Told, i: u64) -> usize
+    ensures { λ r. ⌜ ink (now (out .exit)) r ≡ emits (ink (now (out .entry)) at) (toldTo t i) ⌝ }
+{
+    match t {
+        Told::Nothing => at,
+        Told::Marks(set, chunk, list, version) => put4_in(
+            out,
+            at,
+            b" | MARK",
+            set,
+            i,
+            chunk,
+            list,
+            version,
+        ),
+        Told::Clears(set, member, chunk) => put3_in(out, at, b" | CLEAR", set, i, member, chunk),
+        Told::Infos(set, op, member) => put3_in(
+            out,
+            at,
+            b" | POOL_INFO",
+            set,
+            i,
+            op_number(op),
+            member,
+        ),
+        Told::Disable(to) => at,
+        Told::Off(to) => at,
+    }
+}
+
+fn put_each(out: &mut [u8], at: usize, t: Told) -> usize
+    ensures { λ r. ⌜ ink (now (out .exit)) r ≡ emits (ink (now (out .entry)) at) (each (toldTo t) 16 0) ⌝ }
+{
+    let mut to = at;
+    let mut i: u64 = 0;
+    while i < 16 {
+        to = put_to(out, to, t, i);
+        i += 1;
+    }
+    to
+}
+
+// The messages that are not awaited.
+pub fn put_told(out: &mut [u8], at: usize, t: Told) -> usize
+    ensures { λ r. ⌜ ink (now (out .exit)) r ≡ emits (ink (now (out .entry)) at) (toldText t) ⌝ }
+{
+    match t {
+        Told::Nothing => at,
+        Told::Marks(set, chunk, list, version) => put_each(
+            out,
+            at,
+            Told::Marks(set, chunk, list, version),
+        ),
+        Told::Clears(set, member, chunk) => put_each(out, at, Told::Clears(set, member, chunk)),
+        Told::Infos(set, op, member) => put_each(out, at, Told::Infos(set, op, member)),
+        Told::Disable(to) => put1(out, at, b" | MAP_DISABLE", to),
+        Told::Off(to) => put2(out, at, b" | ENABLE", to, 0),
+    }
+}

@@ -1,0 +1,54 @@
+use Rattle.text.proofs.Laws.{emits-end}
+use mathlib.Core.Path.{sym}
+use borrow.Author.Needs.{needs}
+use Rattle.sayclient.proofs.put_outcome.Statement.{statement}
+use Rattle.sayclient.proofs.put_outcome.Tie as tie
+
+enum-told : tie.Need-enum-told
+enum-told c = search needs
+
+enum-known-o : tie.Need-enum-known-o
+enum-known-o c = search needs
+
+slice-aggregate-put-pair : tie.Need-slice-aggregate-put-pair
+slice-aggregate-put-pair c = search needs
+
+put-pair-requires : tie.Need-put-pair-requires
+put-pair-requires c κs = search needs
+
+enum-known-o-2 : tie.Need-enum-known-o-2
+enum-known-o-2 c = search needs
+
+put-written-requires : tie.Need-put-written-requires
+put-written-requires c κs = search needs
+
+returns : tie.Need-returns
+returns c = rw (c .enum-told .given .1) (sym (emits-end _))
+
+same-length : tie.Need-same-length
+same-length c = search needs
+
+returns-2 : tie.Need-returns-2
+returns-2 c = rw (c .before .before .before .before .before .before .o .given .1) (c .before .before .put-pair .ensures)
+
+same-length-2 : tie.Need-same-length-2
+same-length-2 c = search needs
+
+returns-3 : tie.Need-returns-3
+returns-3 c = rw (c .before .before .before .before .before .o2 .given .1) (c .before .before .put-written .ensures)
+
+pub put-outcome-spec : {M : Type 1} → statement M
+put-outcome-spec =
+    tie.close
+    (tie.spec
+    enum-told
+    enum-known-o
+    slice-aggregate-put-pair
+    put-pair-requires
+    enum-known-o-2
+    put-written-requires
+    returns
+    same-length
+    returns-2
+    same-length-2
+    returns-3)

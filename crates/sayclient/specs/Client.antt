@@ -1,0 +1,87 @@
+-- The client's line after an accepted event.
+use Prim.Native.Nat.{ℕ}
+use mathlib.Core.Bool.{Bool, true, false}
+use mathlib.Core.List.{List, [], _∷_, map}
+use Rattle.laws.specs.Words.{pick, one}
+use Rattle.laws.specs.Gather.{gather}
+use Rattle.text.specs.Bytes.{bytes}
+use Rattle.text.specs.Ink.{decimal, joined}
+use Rattle.say.specs.Say.{paired, awaitedText, toldText}
+use Rattle.state.specs.Session.{isDeleting, isOwed}
+use Rattle.state.specs.declared.State.{State}
+use Rattle.state.specs.declared.Session.{Session}
+use Rattle.state.specs.declared.Roster.{Roster}
+use Rattle.state.specs.declared.Phase.{Phase}
+use Rattle.state.specs.declared.Job.{Job}
+use Rattle.state.specs.declared.Outcome.{Outcome}
+use Rattle.state.specs.declared.Pool.{Pool}
+use Rattle.state.specs.declared.Sent.{Sent}
+use Rattle.sayclient.specs.declared.Flag.{Flag}
+
+-- The letter of a session: . none, C CREATED, N NORMAL, F FAILED, R RECONNECTING, X REMOVING.
+abbrev pub letterOf : State → ℕ
+letterOf State.Free = 46
+letterOf State.Created = 67
+letterOf State.Normal = 78
+letterOf State.Failed = 70
+letterOf State.Reconnecting = 82
+letterOf (State.Removing mode owed) = 88
+
+unfoldable pub letter : Session → ℕ
+letter s = letterOf (s .state)
+
+-- what a set of sessions is made of
+abbrev pub isFlag : Flag → ℕ → Session → Bool
+isFlag Flag.Maint i s = s .maintenance
+isFlag Flag.Marked i s = s .mark
+isFlag Flag.Delete i s = isDeleting (s .state)
+isFlag Flag.Owed i s = isOwed (s .state)
+
+-- The ids whose session has the flag, as a set.
+unfoldable pub flagged : Flag → List Session → ℕ
+flagged f ss = gather (isFlag f) 0 ss
+
+abbrev pub phaseText : Phase → List ℕ
+phaseText (Phase.Versions top) = bytes " job=run:versions"
+phaseText (Phase.Base step) = bytes " job=run:base"
+phaseText Phase.LastIo = bytes " job=run:last_io"
+phaseText (Phase.Gather step) = bytes " job=run:gather"
+phaseText Phase.Enable = bytes " job=run:enable"
+phaseText (Phase.Spread step) = bytes " job=run:spread"
+
+abbrev pub jobText : Job → List ℕ
+jobText Job.Idle = bytes " job=none"
+jobText (Job.Running run) = phaseText (run .phase)
+jobText (Job.Removing removal) = paired (bytes " job=remove:") (removal .id)
+
+abbrev pub outcomeText : Outcome → List ℕ
+outcomeText Outcome.Plain = []
+outcomeText (Outcome.Taken taken) = paired (bytes " taken=") taken
+outcomeText (Outcome.Written acked list) = joined (paired (bytes " acked=") (one acked) ∷ paired (bytes " list=") list ∷ [])
+
+-- The state.
+unfoldable pub rosterText : Roster → List ℕ
+rosterText ro =
+    joined
+    (paired (bytes "ok version=") (ro .version)
+    ∷ paired (bytes " count=") (ro .count)
+    ∷ paired (bytes " members=") (ro .members)
+    ∷ bytes " sessions="
+    ∷ map letter (ro .sessions)
+    ∷ [])
+
+unfoldable pub flagsText : List Session → List ℕ
+flagsText ss =
+    joined
+    (paired (bytes " maint=") (flagged Flag.Maint ss)
+    ∷ paired (bytes " marked=") (flagged Flag.Marked ss)
+    ∷ paired (bytes " delete=") (flagged Flag.Delete ss)
+    ∷ paired (bytes " owed=") (flagged Flag.Owed ss)
+    ∷ [])
+
+-- The state, the outcome and the messages.
+unfoldable pub clientText : Pool → Sent → List ℕ
+clientText p s =
+    joined
+    (rosterText (p .roster) ∷ flagsText (p .roster .sessions) ∷ jobText (p .job)
+    ∷ outcomeText (s .outcome) ∷ toldText (s .told) ∷ awaitedText (s .awaited) (s .number) ∷ [])

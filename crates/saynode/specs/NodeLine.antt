@@ -1,0 +1,59 @@
+-- A node's line after an accepted event.
+use Prim.Native.Nat.{ℕ, _-_}
+use mathlib.Core.List.{List, [], _∷_, _++_}
+use lib.ListN.{drop}
+use Rattle.laws.specs.Words.{one}
+use Rattle.text.specs.Bytes.{bytes}
+use Rattle.text.specs.Ink.{decimal, joined}
+use Rattle.say.specs.Say.{paired}
+use Rattle.nodestate.specs.declared.State.{State}
+use Rattle.nodestate.specs.declared.Transfer.{Transfer}
+use Rattle.nodestate.specs.declared.Node.{Node}
+
+abbrev pub stateText : State → List ℕ
+stateText State.Empty = bytes " state=EMPTY"
+stateText State.Registered = bytes " state=REGISTERED"
+stateText State.Created = bytes " state=CREATED"
+stateText State.Normal = bytes " state=NORMAL"
+stateText State.NoIo = bytes " state=NO_IO"
+
+-- 0 none in hand, 1 in hand, 2 in hand and a map taken
+abbrev pub transferNumber : Transfer → ℕ
+transferNumber Transfer.Nothing = 0
+transferNumber Transfer.Ready = 1
+transferNumber Transfer.Taken = 2
+
+-- each number after a comma (44)
+unfoldable pub commas : List ℕ → List ℕ
+commas [] = []
+commas (x ∷ xs) = joined ((44 ∷ decimal x) ∷ commas xs ∷ [])
+
+-- The kept chunks, oldest first, with commas between; - for none.
+unfoldable pub chunksText : List ℕ → List ℕ
+chunksText [] = bytes "-"
+chunksText (x ∷ xs) = joined (decimal x ∷ commas xs ∷ [])
+
+-- The kept chunks are the last ones of the sixteen places.
+unfoldable pub keptText : List ℕ → ℕ → List ℕ
+keptText kept held = chunksText (drop (16 - held) kept)
+
+unfoldable pub frontText : Node → List ℕ
+frontText n =
+    joined
+    (paired (bytes "ok node=") (n .id)
+    ∷ stateText (n .state)
+    ∷ paired (bytes " store=") (one (n .store))
+    ∷ paired (bytes " create=") (one (n .create))
+    ∷ [])
+
+-- The whole line.
+unfoldable pub nodeText : Node → List ℕ
+nodeText n =
+    joined
+    (frontText n
+    ∷ paired (bytes " members=") (n .members)
+    ∷ paired (bytes " version=") (n .version)
+    ∷ bytes " kept="
+    ∷ keptText (n .kept) (n .held)
+    ∷ paired (bytes " transfer=") (transferNumber (n .transfer))
+    ∷ [])
