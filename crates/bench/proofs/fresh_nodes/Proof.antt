@@ -1,0 +1,55 @@
+use borrow.Author.Needs.{needs}
+use lib.ListN.{length}
+use Prim.Native.Nat.{_-_, _≤_}
+use mathlib.Core.Path.{_≡_, refl}
+use Rattle.bench.proofs.fresh_nodes.Statement.{statement}
+use Rattle.bench.proofs.fresh_nodes.Tie as tie
+
+abbrev Inv-loop : tie.InvT-loop
+Inv-loop chunks all₀ i₀ all i = i ≤ 16
+
+abbrev μ-loop : tie.MeasureT-loop
+μ-loop chunks all₀ i₀ all i = 16 - i
+
+fresh-requires : tie.Need-fresh-requires Inv-loop μ-loop
+fresh-requires c κs = search needs
+
+loop-holds : tie.Need-loop-holds Inv-loop μ-loop
+loop-holds c = search needs
+
+fresh-requires-2 : tie.Need-fresh-requires-2 Inv-loop μ-loop
+fresh-requires-2 c κs = search needs
+
+mul-all : tie.Need-mul-all Inv-loop μ-loop
+mul-all c = search needs
+
+array-set-from-all : tie.Need-array-set-from-all Inv-loop μ-loop
+array-set-from-all c = search needs
+
+add-i : tie.Need-add-i Inv-loop μ-loop
+add-i c = search needs
+
+loop-less : tie.Need-loop-less Inv-loop μ-loop
+loop-less c = search needs
+
+loop-again : tie.Need-loop-again Inv-loop μ-loop
+loop-again c = search needs
+
+returns : tie.Need-returns Inv-loop μ-loop
+returns c = search needs
+
+pub fresh-nodes-spec : {M : Type 1} → statement M
+fresh-nodes-spec =
+    tie.close
+    (tie.spec
+    Inv-loop
+    μ-loop
+    fresh-requires
+    loop-holds
+    fresh-requires-2
+    mul-all
+    array-set-from-all
+    add-i
+    loop-less
+    loop-again
+    returns)

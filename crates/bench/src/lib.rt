@@ -1,0 +1,317 @@
+// The lab's bench: one client with its map, sixteen nodes each with its map and its staging map, and what a command does to them. The maps are lent by the
+// program: the client's 8,192 bytes, and 16 times 8,192 for the nodes' maps and for their staging maps.
+pub mod deliver;
+pub mod nodes;
+
+ghost use mathlib.Core.Path.{_≡_};
+ghost use Rattle.bench.specs.Bench.{withAuto, withRoster, rosterOf, pokeVersion, pokeCount, pokeMembers, pokeChunks, pokeSession};
+use client::Client;
+use forms::Event;
+use forms::Which;
+use node::StorageNode;
+use nodestate::Node;
+use nodestate::Transfer;
+use state::Job;
+use state::Message;
+use state::Pool;
+use state::Roster;
+use state::Session;
+
+// lent: how many bytes of each map are lent; the nodes' maps, then their staging maps, then the client's. awaited, number: the awaited message as it was sent.
+pub struct Lab {
+    pub client: Client,
+    pub nodes: [StorageNode; 16],
+    pub lent: [u64; 33],
+    pub auto: bool,
+    pub awaited: Message,
+    pub number: u32,
+}
+
+// A fresh lab: all lent whole, auto off.
+pub fn fresh(sync: bool, chunks: u64) -> Lab {
+    let c = Client::fresh(sync, chunks);
+    Lab {
+        client: c,
+        nodes: fresh_nodes(chunks),
+        lent: [8192; 33],
+        auto: false,
+        awaited: Message::Nothing,
+        number: 0,
+    }
+}
+
+fn fresh_nodes(chunks: u64) -> [StorageNode; 16] {
+    let n = StorageNode::fresh(0, chunks);
+    let mut all = [n; 16];
+    let mut i: u64 = 1;
+    while i < 16 {
+        let at = i as usize;
+        all[at] = StorageNode::fresh(i, chunks);
+        i += 1;
+    }
+    all
+}
+
+// The end of the lent part of a map of 8,192 bytes.
+pub fn cut(lent: u64) -> usize {
+    if 8192 < lent {
+        return 8192;
+    }
+    lent as usize
+}
+
+// How much of map k is lent.
+pub fn lent_of(l: [u64; 33], k: u64) -> usize {
+    if 32 < k {
+        return 0;
+    }
+    let i = k as usize;
+    cut(l[i])
+}
+
+// A client event. The maps are lent as far as the lab lends them.
+pub fn client_event(l: Lab, e: Event, own: &mut [u8], maps: &[u8]) -> client::Out {
+    let c = l.client;
+    let lent = l.lent;
+    match e {
+        Event::JoinCreate(id) => c.join_create(id),
+        Event::JoinAssemble(id, set, version) => c.join_assemble(id, set, version),
+        Event::Enable(id) => c.enable(id),
+        Event::Maintenance(id) => c.maintenance(id),
+        Event::LinkDown(id) => c.link_down(id),
+        Event::StoreCheck(id) => c.store_check(id),
+        Event::Try => c.try_run(),
+        Event::Remove(id, mode) => {
+            let z = 0;
+            let e = lent_of(lent, 32);
+            if own.len() < e {
+                return c.remove(own, id, mode);
+            }
+            c.remove(&mut own[z..e], id, mode)
+        }
+        Event::Write(chunk, reached) => {
+            let z = 0;
+            let e = lent_of(lent, 32);
+            if own.len() < e {
+                return c.write(own, chunk, reached);
+            }
+            c.write(&mut own[z..e], chunk, reached)
+        }
+        Event::Synced(member, chunk, n) => synced(c, lent, maps, member, chunk, n),
+        Event::Answer(number, a) => {
+            let z = 0;
+            let e = lent_of(lent, 32);
+            if own.len() < e {
+                return c.answer(own, number, a);
+            }
+            c.answer(&mut own[z..e], number, a)
+        }
+    }
+}
+
+// Synced, with node n's map lent.
+fn synced(c: Client, lent: [u64; 33], maps: &[u8], member: u64, chunk: u64, n: u64) -> client::Out {
+    if maps.len() < 131072 {
+        return c.synced(maps, member, chunk);
+    }
+    if 15 < n {
+        return c.synced(maps, member, chunk);
+    }
+    let size = lent_of(lent, n);
+    if 8192 < size {
+        return c.synced(maps, member, chunk);
+    }
+    let x = (n as usize) * 8192;
+    let e = x + size;
+    c.synced(&maps[x..e], member, chunk)
+}
+
+// The lab after an accepted client event: the awaited message is the one sent, the one before while a job is in hand, or none.
+pub fn after(mut l: Lab, c: Client, awaited: Message, number: u32) -> Lab {
+    let p = c.pool;
+    let job = p.job;
+    l.client = c;
+    let none = is_nothing(awaited);
+    if !none {
+        return renewed(l, awaited, number);
+    }
+    match job {
+        Job::Idle => renewed(l, Message::Nothing, 0),
+        Job::Running(r) => l,
+        Job::Removing(m) => l,
+    }
+}
+
+fn renewed(l: Lab, awaited: Message, number: u32) -> Lab {
+    let c = l.client;
+    let nodes = l.nodes;
+    let lent = l.lent;
+    Lab {
+        client: c,
+        nodes: nodes,
+        lent: lent,
+        auto: l.auto,
+        awaited: awaited,
+        number: number,
+    }
+}
+
+pub fn is_nothing(m: Message) -> bool {
+    match m {
+        Message::Nothing => true,
+        Message::GetVersion(to) => false,
+        Message::Ready(to, keep) => false,
+        Message::Send(to, receiver) => false,
+        Message::Done(to, enable, version, set) => false,
+        Message::LastIo(to, chosen) => false,
+        Message::Enable(to, version, set) => false,
+        Message::Leave(to, mode) => false,
+        Message::Info(to, op, member) => false,
+    }
+}
+
+// The place of a map among those of lent.
+pub fn index_of(w: Which) -> u64 {
+    match w {
+        Which::Client => 32,
+        Which::Node(n) => n,
+        Which::Staging(n) => std::num::wrapping_add_u64(n, 16),
+    }
+}
+
+pub fn set_auto(mut l: Lab, on: bool) -> Lab
+    ensures { λ r. ⌜ r ≡ withAuto l on ⌝ }
+{
+    l.auto = on;
+    l
+}
+
+pub fn lend(mut l: Lab, w: Which, n: u64) -> Lab {
+    let k = index_of(w);
+    if 32 < k {
+        return l;
+    }
+    let i = k as usize;
+    l.lent[i] = n;
+    l
+}
+
+fn with_roster(mut l: Lab, ro: Roster) -> Lab
+    ensures { λ r. ⌜ r ≡ withRoster l ro ⌝ }
+{
+    let c = l.client;
+    let p = c.pool;
+    let job = p.job;
+    let q = Pool {
+        roster: ro,
+        job: job,
+        number: p.number,
+        chunks: p.chunks,
+    };
+    let next = Client { pool: q };
+    l.client = next;
+    l
+}
+
+fn roster_of(l: Lab) -> Roster
+    ensures { λ r. ⌜ r ≡ rosterOf l ⌝ }
+{
+    let c = l.client;
+    let p = c.pool;
+    p.roster
+}
+
+pub fn poke_version(l: Lab, v: u64) -> Lab
+    ensures { λ r. ⌜ r ≡ pokeVersion l v ⌝ }
+{
+    let mut ro = roster_of(l);
+    ro.version = v;
+    with_roster(l, ro)
+}
+
+pub fn poke_count(l: Lab, v: u64) -> Lab
+    ensures { λ r. ⌜ r ≡ pokeCount l v ⌝ }
+{
+    let mut ro = roster_of(l);
+    ro.count = v;
+    with_roster(l, ro)
+}
+
+pub fn poke_members(l: Lab, v: u64) -> Lab
+    ensures { λ r. ⌜ r ≡ pokeMembers l v ⌝ }
+{
+    let mut ro = roster_of(l);
+    ro.members = v;
+    with_roster(l, ro)
+}
+
+pub fn poke_chunks(mut l: Lab, v: u64) -> Lab
+    ensures { λ r. ⌜ r ≡ pokeChunks l v ⌝ }
+{
+    let c = l.client;
+    let mut p = c.pool;
+    p.chunks = v;
+    let next = Client { pool: p };
+    l.client = next;
+    l
+}
+
+pub fn poke_session(l: Lab, id: u64, s: Session) -> Lab
+    ensures { λ r. ⌜ r ≡ pokeSession l id s ⌝ }
+{
+    let ro = roster_of(l);
+    let changed = roster::store(ro, id, s);
+    with_roster(l, changed)
+}
+
+// A node's state put in, unchecked. Own id, chunk count and kept chunks stay.
+pub fn poke_node(
+    mut l: Lab,
+    n: u64,
+    state: u64,
+    store: bool,
+    create: bool,
+    members: u64,
+    version: u64,
+    transfer: u64,
+) -> Lab {
+    if 15 < n {
+        return l;
+    }
+    let i = n as usize;
+    let was = l.nodes[i];
+    let v = was.node;
+    let kept = v.kept;
+    let changed = Node {
+        id: v.id,
+        chunks: v.chunks,
+        state: state_of(state),
+        store: store,
+        create: create,
+        members: members,
+        version: version,
+        kept: kept,
+        held: v.held,
+        transfer: transfer_of(transfer),
+    };
+    l.nodes[i] = StorageNode { node: changed };
+    l
+}
+
+fn state_of(x: u64) -> nodestate::State {
+    match x {
+        0 => nodestate::State::Empty,
+        1 => nodestate::State::Registered,
+        2 => nodestate::State::Created,
+        3 => nodestate::State::Normal,
+        _ => nodestate::State::NoIo,
+    }
+}
+
+fn transfer_of(x: u64) -> Transfer {
+    match x {
+        0 => Transfer::Nothing,
+        1 => Transfer::Ready,
+        _ => Transfer::Taken,
+    }
+}

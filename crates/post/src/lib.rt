@@ -1,0 +1,96 @@
+// The client's messages as events of their nodes, and a node's answer as the client's.
+ghost use mathlib.Core.Path.{_≡_};
+ghost use Rattle.post.specs.Post.{dueIf, toldTo, addressee as Post·addressee, isDelete, eventOf, replyOf};
+use forms::NodeEvent;
+use nodestate::Answer;
+use state::Brought;
+use state::Message;
+use state::Mode;
+use state::Reply;
+use state::Told;
+
+// The event of a node that a message is, if one goes there.
+pub enum Due {
+    Nothing,
+    One(NodeEvent),
+}
+
+fn one_if(to: bool, e: NodeEvent) -> Due
+    ensures { λ r. ⌜ r ≡ dueIf to e ⌝ }
+{
+    if to { Due::One(e) } else { Due::Nothing }
+}
+
+// What node i gets of the messages that are not awaited.
+pub fn told_to(t: Told, i: u64) -> Due
+    ensures { λ r. ⌜ r ≡ toldTo t i ⌝ }
+{
+    match t {
+        Told::Nothing => Due::Nothing,
+        Told::Marks(set, chunk, list, version) => one_if(
+            sets::has(set, i),
+            NodeEvent::Write(chunk, list, version),
+        ),
+        Told::Clears(set, member, chunk) => one_if(
+            sets::has(set, i),
+            NodeEvent::Synced(member, chunk),
+        ),
+        Told::Infos(set, op, member) => one_if(sets::has(set, i), NodeEvent::PoolInfo(op, member)),
+        Told::Disable(to) => one_if(to == i, NodeEvent::MapDisable),
+        Told::Off(to) => one_if(to == i, NodeEvent::EnableOff),
+    }
+}
+
+// To whom the awaited message goes.
+pub fn addressee(m: Message) -> u64
+    ensures { λ r. ⌜ r ≡ Post·addressee m ⌝ }
+{
+    match m {
+        Message::Nothing => 16,
+        Message::GetVersion(to) => to,
+        Message::Ready(to, keep) => to,
+        Message::Send(to, receiver) => to,
+        Message::Done(to, enable, version, set) => to,
+        Message::LastIo(to, chosen) => to,
+        Message::Enable(to, version, set) => to,
+        Message::Leave(to, mode) => to,
+        Message::Info(to, op, member) => to,
+    }
+}
+
+fn is_delete(m: Mode) -> bool
+    ensures { λ r. ⌜ r ≡ isDelete m ⌝ }
+{
+    match m {
+        Mode::Delete => true,
+        Mode::Disassemble => false,
+    }
+}
+
+// The awaited message as its node's event.
+pub fn event_of(m: Message) -> NodeEvent
+    ensures { λ r. ⌜ r ≡ eventOf m ⌝ }
+{
+    match m {
+        Message::Nothing => NodeEvent::Give,
+        Message::GetVersion(to) => NodeEvent::MapGetVer,
+        Message::Ready(to, keep) => NodeEvent::MapReady(keep),
+        Message::Send(to, receiver) => NodeEvent::Give,
+        Message::Done(to, enable, version, set) => NodeEvent::MapDone(enable, version, set),
+        Message::LastIo(to, chosen) => NodeEvent::LastIo(chosen),
+        Message::Enable(to, version, set) => NodeEvent::EnableOn(version, set),
+        Message::Leave(to, mode) => NodeEvent::Leave(is_delete(mode)),
+        Message::Info(to, op, member) => NodeEvent::PoolInfo(op, member),
+    }
+}
+
+// What the node's answer says to the client.
+pub fn reply_of(a: Answer) -> Reply
+    ensures { λ r. ⌜ r ≡ replyOf a ⌝ }
+{
+    match a {
+        Answer::Refused(n) => Reply::Failed,
+        Answer::Done => Reply::Good(Brought::Nothing),
+        Answer::Version(v) => Reply::Good(Brought::Version(v)),
+    }
+}
