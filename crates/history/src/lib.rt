@@ -133,9 +133,10 @@ fn flush(at: usize, out: &mut [u8]) -> usize {
     0
 }
 
-// The longest answer, a row of 2,048 single chunks, takes less than 12,288 bytes; so much is free before each command where out has 16,384 more than that.
+// No line has more than 20,490 bytes, a row's the most (the laws of sayrow, sayclient and saynode); of 32,768 so much and a newline is free before each
+// command, so no answer is cut.
 fn room(at: usize, out: &mut [u8]) -> usize {
-    if 16384 < at {
+    if 12277 < at {
         return flush(at, out);
     }
     at

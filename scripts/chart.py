@@ -1,0 +1,157 @@
+#!/usr/bin/env python3
+"""A history's messages as a sequence chart in plain text.
+
+  chart.py HISTORY ANSWERS   ANSWERS is what the lab writes for HISTORY (`./lab --chart FILE` runs both)
+
+A column for the client and for each node that takes part. An arrow for each message, with its words on the right; `#N` is the number
+under which an answer is awaited. In brackets, where they change: the letters of the client's sessions (session 0 first), a node's state.
+"""
+import sys
+
+LEFT = 34   # room for the command
+WIDE = 14   # between two columns
+
+
+def pairs(history, answers):
+    """Each command with the line that answers it. Empty lines and comments are answered by nothing; comments stay, as titles."""
+    with open(history, encoding="utf-8", errors="replace") as f:
+        lines = f.read().split("\n")
+    with open(answers, encoding="ascii") as f:
+        said = f.read().split("\n")
+    at = 0
+    for line in lines:
+        if line.startswith("#"):
+            yield line, None
+        elif line:
+            yield line, said[at] if at < len(said) else ""
+            at += 1
+
+
+def messages(answer):
+    """The messages of a client's line: (words, number or None)."""
+    for part in answer.split(" | ")[1:]:
+        words = part.split()
+        number = words.pop()[1:] if words[-1].startswith("#") else None
+        yield words, number
+
+
+def fields(answer):
+    return dict(w.split("=", 1) for w in answer.split(" | ")[0].split() if "=" in w)
+
+
+def nodes_of(rows):
+    """The nodes that take part, ascending."""
+    found = set()
+    for line, answer in rows:
+        if answer is None or not answer.startswith("ok "):
+            continue
+        got = fields(answer)
+        if "node" in got:
+            found.add(int(got["node"]))
+            continue
+        found.update(i for i, c in enumerate(got["sessions"]) if c != ".")
+        for words, _ in messages(answer):
+            found.add(int(words[1]))
+            if words[0] == "MAP_SEND":
+                found.add(int(words[2]))
+    return sorted(found)
+
+
+class Chart:
+    def __init__(self, nodes):
+        self.column = {"client": LEFT}
+        for k, n in enumerate(nodes):
+            self.column[n] = LEFT + WIDE * (k + 1)
+        self.end = LEFT + WIDE * len(nodes) + 4
+        self.rows = []
+
+    def row(self, left="", note="", marks=None, arrow=None):
+        cells = [" "] * (self.end + 12)
+
+        def put(at, text):
+            for i, c in enumerate(text):
+                if at + i < len(cells):
+                    cells[at + i] = c
+
+        for x in self.column.values():
+            put(x, "|")
+        if arrow:
+            a, b = self.column[arrow[0]], self.column[arrow[1]]
+            low, high = min(a, b), max(a, b)
+            put(low + 1, arrow[2] * (high - low - 1))
+            put(high - 1 if b > a else low + 1, ">" if b > a else "<")
+        for who, text in (marks or {}).items():
+            put(self.column[who], "[" + text + "]")
+        body = "".join(cells)
+        if len(left) > LEFT - 2:
+            self.rows.append(left)
+            left = ""
+        self.rows.append((left.ljust(LEFT) + body[LEFT:].rstrip().ljust(self.end - LEFT) + "  " + note).rstrip())
+
+    def title(self, text):
+        self.rows.append(text)
+
+    def head(self):
+        line = " " * LEFT + "client"
+        for n, x in self.column.items():
+            if n != "client":
+                line = line.ljust(x) + "node %d" % n
+        self.rows.append(line)
+
+
+def chart(rows):
+    c = Chart(nodes_of(rows))
+    c.head()
+    letters, states = None, {}
+    awaited = None
+    for line, answer in rows:
+        if answer is None:
+            c.title("")
+            c.title(line)
+            continue
+        words = line.split()
+        if not answer.startswith("ok "):
+            if words[0] == "pool" and answer == "done":
+                letters, states, awaited = None, {}, None
+            c.row(line, "" if answer == "done" else answer)
+            continue
+        got = fields(answer)
+        if "node" in got:
+            n = int(got["node"])
+            changed = states.get(n) != got["state"]
+            states[n] = got["state"]
+            c.row(line, "", {n: got["state"]} if changed else None)
+            continue
+        now = got["sessions"].rstrip(".") or "-"
+        marks = {"client": now} if now != letters else None
+        letters = now
+        notes = ["%s=%s" % (k, got[k]) for k in ("taken", "acked", "list") if k in got]
+        if got["job"] != "none":
+            notes.append(got["job"])
+        if words[0] == "deliver" and awaited:
+            what, number = awaited
+            to = int(what[1])
+            c.row(line)
+            if what[0] == "MAP_SEND" and what[1] != what[2]:
+                c.row("", "the map", None, (to, int(what[2]), "="))
+                to = int(what[2])
+            c.row("", "answer #" + number, None, (to, "client", "."))
+            c.row("", " ".join(notes), marks)
+        else:
+            c.row(line, " ".join(notes), marks)
+        sent = None
+        for what, number in messages(answer):
+            c.row("", " ".join([what[0]] + what[2:]) + (" #" + number if number else ""), None, ("client", int(what[1]), "-"))
+            if number:
+                sent = (what, number)
+        awaited = sent or (awaited if got["job"] != "none" else None)
+    return "\n".join(c.rows) + "\n"
+
+
+def main():
+    if len(sys.argv) != 3:
+        sys.exit(__doc__)
+    sys.stdout.write(chart(list(pairs(sys.argv[1], sys.argv[2]))))
+
+
+main()

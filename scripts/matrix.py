@@ -1,0 +1,253 @@
+#!/usr/bin/env python3
+"""The full matrix of state and event, as a history for the program `matrix` and as a page made from its output.
+
+  matrix.py history   writes the history that crates/matrix is run on
+  matrix.py page      writes docs/MATRIX.md from crates/matrix/stdin and crates/matrix/stdout
+  matrix.py check     says whether the history and the page are those that this script makes
+"""
+import os
+import sys
+
+ROOT = os.path.dirname(os.path.dirname(os.path.abspath(__file__)))
+STDIN = os.path.join(ROOT, "crates", "matrix", "stdin")
+STDOUT = os.path.join(ROOT, "crates", "matrix", "stdout")
+PAGE = os.path.join(ROOT, "docs", "MATRIX.md")
+
+# The acted-on session is 1. Its state: the words, the lab's numbers (state, maintenance, mark, mode, owed), and whether it is a member.
+NONE, CREATED, NORMAL, FAILED, RECONNECTING, REMOVING = range(6)
+SESSIONS = [
+    ("none, no member", (NONE, 0, 0, 0, 0), False),
+    ("none, a member", (NONE, 0, 0, 0, 0), True),
+    ("CREATED", (CREATED, 0, 0, 0, 0), True),
+    ("NORMAL", (NORMAL, 0, 0, 0, 0), True),
+    ("FAILED", (FAILED, 0, 0, 0, 0), True),
+    ("FAILED, marked", (FAILED, 0, 1, 0, 0), True),
+    ("RECONNECTING", (RECONNECTING, 0, 0, 0, 0), True),
+    ("RECONNECTING, marked", (RECONNECTING, 0, 1, 0, 0), True),
+    ("RECONNECTING in maintenance", (RECONNECTING, 1, 0, 0, 0), True),
+    ("REMOVING (delete), LEAVE owed", (REMOVING, 0, 0, 0, 1), True),
+    ("REMOVING (delete), LEAVE done", (REMOVING, 0, 0, 0, 0), False),
+    ("REMOVING (disassemble), LEAVE owed", (REMOVING, 0, 0, 1, 1), True),
+]
+SYNC_STATES = {NONE, CREATED, NORMAL, FAILED, REMOVING}
+
+# Who is beside it (session id: the lab's numbers), and the lines that bring the job into hand.
+BESIDE = [
+    ("alone", {}, []),
+    ("beside a NORMAL session", {0: (NORMAL, 0, 0, 0, 0)}, []),
+    ("beside a candidate", {0: (RECONNECTING, 0, 0, 0, 0)}, []),
+    ("with the mark elsewhere", {0: (FAILED, 0, 1, 0, 0)}, []),
+    ("a run in hand (0 NORMAL, 2 a candidate)", {0: (NORMAL, 0, 0, 0, 0), 2: (RECONNECTING, 0, 0, 0, 0)}, ["try"]),
+    ("a removal in hand (of 2, beside 0 NORMAL)", {0: (NORMAL, 0, 0, 0, 0), 2: (CREATED, 0, 0, 0, 0)}, ["remove 2 0"]),
+]
+SYNC_BESIDE = [
+    ("alone", {}, []),
+    ("beside a NORMAL session", {0: (NORMAL, 0, 0, 0, 0)}, []),
+    ("a removal in hand (of 2)", {0: (NORMAL, 0, 0, 0, 0), 2: (NORMAL, 0, 0, 0, 0)}, ["remove 2 1"]),
+]
+
+CHUNK = 5
+
+
+def client_events(members, normals):
+    """Each event on session 1, with its words."""
+    return [
+        ("join create", "join_create 1"),
+        ("join assemble, our set", "join_assemble 1 %d 3" % (members or 2)),
+        ("join assemble, another set", "join_assemble 1 %d 3" % ((members | 2) ^ 32768)),
+        ("enable", "enable 1"),
+        ("maintenance", "maintenance 1"),
+        ("link down", "link_down 1"),
+        ("store check good", "store_check 1"),
+        ("remove, delete", "remove 1 0"),
+        ("remove, disassemble", "remove 1 1"),
+        ("write, all reached", "write %d %d" % (CHUNK, normals)),
+        ("write, 1 not reached", "write %d %d" % (CHUNK, normals & ~2)),
+        ("write, none reached", "write %d 0" % CHUNK),
+        ("synced, dirty for 1", "synced 1 %d 0" % CHUNK),
+        ("try", "try"),
+        ("answer, failed", "answer 1 0 0"),
+        ("answer, success", "answer 1 1 0"),
+        ("answer, success with a version", "answer 1 2 1"),
+        ("answer, another number", "answer 7 1 0"),
+    ]
+
+
+def client_setups(sync):
+    for words, own, member in SESSIONS:
+        if sync and (own[0] not in SYNC_STATES or own[2] or (own[0] == NONE and member) or (own[0] == REMOVING and (own[3], own[4]) != (0, 1))):
+            continue
+        for beside, others, job in SYNC_BESIDE if sync else BESIDE:
+            sessions = dict(others)
+            sessions[1] = own
+            normals = sum(1 << i for i, s in sessions.items() if s[0] == NORMAL)
+            marks = sum(1 for s in sessions.values() if s[2])
+            if marks > 1 or (marks and normals):
+                continue
+            members = 0 if sync else sum(1 << i for i in others) | (2 if member else 0)
+            lines = ["pool %d 4096" % sync]
+            for i, s in sorted(sessions.items()):
+                if s[0] != NONE:
+                    lines.append("poke session %d %s" % (i, " ".join(map(str, s))))
+            lines += ["poke members %d" % members, "poke count %d" % (0 if sync else bin(normals).count("1"))]
+            lines.append("byte 0 %d %d" % (512 + CHUNK // 8, 1 << CHUNK % 8))
+            after = normals & ~4 if job and job[0].startswith("remove") else normals
+            yield words, beside, lines + job, client_events(members, after)
+
+
+# A node's state: the words, and the lab's numbers (state, store, create, transfer). Node 1, members 0, 1 and 2, version 4.
+NODES = [
+    ("EMPTY", (0, 0, 0, 0)),
+    ("REGISTERED", (1, 1, 0, 0)),
+    ("REGISTERED, marked create", (1, 1, 1, 0)),
+    ("CREATED", (2, 1, 0, 0)),
+    ("NORMAL", (3, 1, 0, 0)),
+    ("NO_IO", (4, 1, 0, 0)),
+    ("NO_IO, MAP_READY taken", (4, 1, 0, 1)),
+    ("NO_IO, a map taken", (4, 1, 0, 2)),
+    ("NO_IO without store", (4, 0, 0, 0)),
+]
+NODE_EVENTS = [
+    ("register create", "register_create"),
+    ("register add", "register_add 7 5"),
+    ("register add, a set without itself", "register_add 5 5"),
+    ("unregister", "unregister 0"),
+    ("unregister, delete", "unregister 1"),
+    ("join create", "join_create 7"),
+    ("assemble or rejoin", "join_assemble"),
+    ("leave", "leave 0"),
+    ("leave, delete", "leave 1"),
+    ("enable 1", "enable1 5 3"),
+    ("enable 1, a set without itself", "enable1 5 5"),
+    ("enable 0", "enable0"),
+    ("fault", "fault"),
+    ("write", "write 9 5 6"),
+    ("synced", "synced 1 9"),
+    ("MAP_READY, start empty", "map_ready 0"),
+    ("MAP_READY, keep", "map_ready 1"),
+    ("give", "give"),
+    ("take a map", "take 2"),
+    ("MAP_DONE", "map_done 0 5 7"),
+    ("MAP_DONE, enabling", "map_done 1 5 7"),
+    ("MAP_DISABLE", "map_disable"),
+    ("MAP_GET_VER", "map_get_ver"),
+    ("LAST_IO_TO_MAP", "last_io 0"),
+    ("POOL_INFO, add-create", "pool_info 0 3"),
+    ("POOL_INFO, add-assemble", "pool_info 1 2"),
+    ("POOL_INFO, add-assemble of no member", "pool_info 1 3"),
+    ("POOL_INFO, remove-delete", "pool_info 2 2"),
+    ("POOL_INFO, remove-disassemble", "pool_info 3 2"),
+    ("POOL_INFO about itself", "pool_info 0 1"),
+]
+
+
+def node_setups():
+    for words, (state, store, create, transfer) in NODES:
+        members = 0 if state == 0 else 7
+        lines = ["pool 0 4096", "poke_node 1 %d %d %d %d 4 %d" % (state, store, create, members, transfer)]
+        yield words, lines, NODE_EVENTS
+
+
+def blocks():
+    """Every block: its table, its row, its event, the lines that set it up, and the line of the event."""
+    for sync in (0, 1):
+        for words, beside, lines, events in client_setups(sync):
+            for name, line in events:
+                yield ("client", sync, beside), words, name, lines, line
+    for words, lines, events in node_setups():
+        for name, line in events:
+            yield ("node",), words, name, lines, "node 1 " + line
+
+
+def history():
+    out = []
+    for _, words, name, lines, line in blocks():
+        out.append("# %s: %s" % (words, name))
+        out += lines
+        out.append(line)
+    return "\n".join(out) + "\n"
+
+
+def cell(line):
+    """An answer, short."""
+    if line.startswith("refused "):
+        return line[8:]
+    head, *messages = line.split(" | ")
+    fields = dict(w.split("=", 1) for w in head.split() if "=" in w)
+    if "node" in fields:
+        words = [fields["state"]]
+        words += ["%s=%s" % (k, fields[k]) for k in ("store", "create", "members", "version", "kept", "transfer")]
+    else:
+        words = [fields["sessions"].rstrip(".") or "-", "v%s" % fields["version"], "n%s" % fields["count"]]
+        for k in ("members", "maint", "marked", "delete", "owed"):
+            if fields[k] != "0":
+                words.append("%s=%s" % (k, fields[k]))
+        if fields["job"] != "none":
+            words.append(fields["job"])
+        for k in ("taken", "acked", "list"):
+            if k in fields:
+                words.append("%s=%s" % (k, fields[k]))
+    return " ".join(words) + "".join("; " + m for m in messages)
+
+
+def page():
+    with open(STDOUT, encoding="ascii") as f:
+        answers = f.read().split("\n")
+    at = 0
+    tables = {}
+    for table, words, name, lines, _ in blocks():
+        at += len(lines)
+        tables.setdefault(table, {}).setdefault(words, []).append((name, cell(answers[at])))
+        at += 1
+    if answers[at:] != [""]:
+        sys.exit("matrix: the output does not fit the history")
+    out = [
+        "# The matrix: every state with every event",
+        "",
+        "Made by `scripts/matrix.py` from the output of the program `matrix`, which the gate runs; the gate also compares this page with it.",
+        "",
+        "A number alone is the refusal. Else the answer: for the client the session letters (session 0 first; the acted-on session is 1), `v` the pool version,",
+        "`n` the NORMAL count, the sets that are not empty, the job, what the answer counts, and after each `;` a message; for the node its state and fields.",
+        "The numbers and words are those of the lab (README).",
+    ]
+    for table, rows in tables.items():
+        if table[0] == "client":
+            out += ["", "## Client, %s pool, %s" % ("sync" if table[1] else "non-sync", table[2])]
+        else:
+            out += ["", "## Node"]
+        for words, cells in rows.items():
+            out += ["", "**%s**" % words, "", "| event | answer |", "|---|---|"]
+            out += ["| %s | %s |" % (name, text) for name, text in cells]
+    return "\n".join(out) + "\n"
+
+
+def same(path, text):
+    try:
+        with open(path, encoding="utf-8") as f:
+            return f.read() == text
+    except FileNotFoundError:
+        return False
+
+
+def write(path, text):
+    os.makedirs(os.path.dirname(path), exist_ok=True)
+    with open(path, "w", encoding="utf-8") as f:
+        f.write(text)
+
+
+def main():
+    what = sys.argv[1] if len(sys.argv) == 2 else ""
+    if what == "history":
+        write(STDIN, history())
+    elif what == "page":
+        write(PAGE, page())
+    elif what == "check":
+        stale = [p for p, t in ((STDIN, history()), (PAGE, page())) if not same(p, t)]
+        for p in stale:
+            print("matrix: stale: %s" % os.path.relpath(p, ROOT))
+        sys.exit(1 if stale else 0)
+    else:
+        sys.exit(__doc__)
+
+
+main()
