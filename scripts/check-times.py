@@ -1,7 +1,7 @@
 #!/usr/bin/env python3
 """docs/CHECK-TIMES.md from the log of a whole run of the gate.
 
-  .ci/run > LOG; scripts/check-times.py LOG
+  { time .ci/run; } > LOG 2>&1; scripts/check-times.py LOG
 """
 import glob
 import os
@@ -26,14 +26,16 @@ def main():
         log = f.read()
     proved = re.findall(r"^rt: (\w+) proved \((\d+) s\)", log, re.M)
     edits = re.findall(r"^rt: must-fail (\w+)/(\w+): refused.*?(?:first at ([^;]*); )?(\d+) s\)", log, re.M)
-    last = [line for line in log.split("\n") if line][-1]
+    last = re.findall(r"^\d+ passed, \d+ failed$", log, re.M)[-1]
+    real = re.findall(r"^real\t(\d+)m", log, re.M)[-1]
     out = [
         "# Check times",
         "",
-        "Made by `scripts/check-times.py` from the log of a whole run of the gate on two cores, two crates or edits at a time: seconds of wall time, so that every",
-        "later change can say what it cost. Lines: code with contracts, definitions, proofs and laws.",
+        "Made by `scripts/check-times.py` from the log of a whole run of the gate on two cores, two checks at a time, so that every later change can say what it cost:",
+        "seconds of wall time. Lines: code with contracts, definitions, proofs and laws.",
         "",
-        "Last line of that run: `%s`. Sum of the times below: %d s of proofs, %d s of must-fail edits." % (last, sum(int(s) for _, s in proved), sum(int(e[3]) for e in edits)),
+        "Last line of that run: `%s`, after %d minutes. Sum of the times below: %d s of proofs, %d s of must-fail edits."
+        % (last, int(real) + 1, sum(int(s) for _, s in proved), sum(int(e[3]) for e in edits)),
         "",
         "| crate | seconds | code | definitions | proofs | edits |",
         "|---|---|---|---|---|---|",

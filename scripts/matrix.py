@@ -208,7 +208,7 @@ def page():
         "",
         "A number alone is the refusal. Else the answer: for the client the session letters (session 0 first; the acted-on session is 1), `v` the pool version,",
         "`n` the NORMAL count, the sets that are not empty, the job, what the answer counts, and after each `;` a message; for the node its state and fields.",
-        "The numbers and words are those of the lab (README).",
+        "The numbers and words are those of the lab (docs/HISTORIES.md).",
     ]
     for table, rows in tables.items():
         if table[0] == "client":

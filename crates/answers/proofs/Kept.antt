@@ -1,17 +1,17 @@
 -- An answer keeps the state rules, in a run and in a removal.
 use mathlib.Core.Path.{_≡_, refl, sym, ap, _∙_, subst}
-use mathlib.Core.Bool.{Bool, true, false, not, _&&_, _||_}
+use mathlib.Core.Bool.{Bool, true, false, not, _&&_}
 use mathlib.Core.Logic.{_≢_}
 use Prim.Native.Nat.{ℕ, _+_, _≤_, _<_}
 use native.Mathlib.Decide.{ℕ-discrete, decLt}
 use native.Mathlib.Omega.{arith}
 use lib.Dec.{eqb, ltb}
 use lib.ListN.{length, List·getD-eq-default}
-use borrow.Author.Tests.{eqb-true, eqb-false, ne-eqb}
+use borrow.Author.Tests.{eqb-true}
 use Rattle.laws.specs.Words.{pick}
-use Rattle.laws.specs.Tests.{by-cases, clash, and-left, and-right, and-both}
-use Rattle.refusals.specs.Limits.{chunkLimit, versionLimit}
-use Rattle.sets.specs.Sets.{has, without, lowest}
+use Rattle.laws.specs.Tests.{by-cases, clash, and-left, and-right}
+use Rattle.refusals.specs.Limits.{chunkLimit, answerLimit, versionLimit}
+use Rattle.sets.specs.Sets.{has, lowest}
 use Rattle.sets.proofs.Laws.{has-without-same, lowest-in, lowest-zero, still}
 use Rattle.state.specs.declared.State.{State}
 use Rattle.state.specs.declared.Session.{Session}
@@ -25,23 +25,24 @@ use Rattle.state.specs.declared.Brought.{Brought}
 use Rattle.state.specs.declared.Reply.{Reply}
 use Rattle.state.specs.Session.{isNormal, isReconnecting, isRemoving, candidate, free}
 use Rattle.roster.specs.declared.Kind.{Kind}
-use Rattle.roster.specs.Roster.{sessionAt, unmarked, entered, idsOf}
+use Rattle.roster.specs.Roster.{sessionAt, idsOf}
+use Rattle.changes.specs.Changes.{unmarked, entered}
 use Rattle.run.specs.declared.Who.{Who}
 use Rattle.run.specs.declared.Next.{Next}
 use Rattle.run.specs.declared.Move.{Move}
-use Rattle.run.specs.Run.{hand, rest, counted, ahead, toSpread, toVersions, wentOn, becameNormal, ended, passedOver, failedAt, failed, versionBrought, goodAt, good, takes}
+use Rattle.run.specs.Run.{hand, rest, counted, ahead, toSpread, wentOn, becameNormal, failedAt, failed, versionBrought, goodAt, good, takes}
 use Rattle.run.specs.Still.{possible}
-use Rattle.run.proofs.Bound.{Some, Fit, FitAt, FitNext, stillIn, Carries, Lowers, taken-well, some-left, lowers}
-use Rattle.rules.specs.Rules.{allAsked, oneAsked, sourceOk, handOk, runOk, jobOk}
-use Rattle.recovery.specs.Recovery.{withRoster, posted, over, goneOn}
+use Rattle.run.proofs.Bound.{counted-most, Some, FitAt, FitNext, stillIn, Carries, Lowers, taken-well, some-left, lowers}
+use Rattle.rules.specs.Rules.{allAsked, oneAsked, sourceOk, handOk, jobOk}
+use Rattle.recovery.specs.Recovery.{withRoster, posted, goneOn}
 use Rattle.exits.specs.Exit.{refused}
 use Rattle.kept.specs.Ids.{Long}
 use Rattle.kept.specs.Rosters.{Ok}
 use Rattle.kept.specs.Pools.{Valid}
 use Rattle.kept.specs.Legal.{changes, Moves, moves-none, moves-entered}
-use Rattle.kept.specs.Runs.{AllCandidates, RunOk, run-facts, run-of, candidate-member, candidate-normal, entered-same, entered-other, entered-members, entered-version, entered-sync, candidate-enters, Asking, asking-facts, asking-of, Sound, Within, spread-sound, gather-sound, last-sound, base-sound, versions-sound}
-use Rattle.removal.proofs.Kept.{Removes, answers-keep}
-use Rattle.removal.proofs.Moves.{Ends, ends-moves, answered-ends}
+use Rattle.kept.specs.Runs.{AllCandidates, RunOk, run-facts, run-of, candidate-member, candidate-normal, entered-same, entered-other, entered-members, entered-version, entered-sync, candidate-enters, Asking, asking-facts, Sound, Within, spread-sound, gather-sound, last-sound, base-sound, versions-sound}
+use Rattle.removal.proofs.Kept.{answers-keep}
+use Rattle.removal.proofs.Moves.{ends-moves, answered-ends}
 use Rattle.answers.specs.Answers.{answerRefusal, enteredBy, moved, reported, answered, answer}
 
 -- ---- the run in hand
@@ -222,16 +223,9 @@ fit-hand (Phase.Gather t) members r f = (f .0 .0, not-empty (r .left) (f .0 .1))
 fit-hand Phase.Enable members r f = (f, refl)
 fit-hand (Phase.Spread t) members r f = (f .0, not-empty (r .left) (f .1))
 
-counted-most : (n : ℕ) → counted n ≤ n + 1
-counted-most n = at (ltb n 168)
-  where
-    at : (b : Bool) → pick b (n + 1) n ≤ n + 1
-    at true = omega arith
-    at false = omega arith
-
 -- the pool with the next message sent, or the run over
 next-valid : (n : Next) (p : Pool) (taken before : ℕ) → 1 ≤ p .chunks → p .chunks ≤ chunkLimit → Ok (p .roster) → p .roster .sync ≡ false → p .roster .version ≤ versionLimit
-    → FitNext (p .roster .members) n → Sound (p .roster) n → Carries (counted taken) n → stillIn (p .roster .members) n < before → taken + before ≤ 168 → Valid (goneOn n p .pool)
+    → FitNext (p .roster .members) n → Sound (p .roster) n → Carries (counted taken) n → stillIn (p .roster .members) n < before → taken + before ≤ answerLimit → Valid (goneOn n p .pool)
 unfolding posted
 next-valid Next.Over p taken before a b k e l f s c w m = record { some = a; most = b; ok = k; job = refl }
 next-valid (Next.On r) p taken before a b k e l f s c w m =

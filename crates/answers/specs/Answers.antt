@@ -1,19 +1,18 @@
 -- The answer to an awaited message.
-use mathlib.Core.Bool.{Bool, true, false, _&&_, not}
+use mathlib.Core.Bool.{Bool, _&&_, not}
 use mathlib.Core.List.{List, [], _∷_}
 use Prim.Native.Nat.{ℕ}
 use lib.Dec.{eqb}
 use Rattle.laws.specs.Words.{pick}
-use Rattle.refusals.specs.Refusals.{test, refusal}
+use Rattle.refusals.specs.Refusals.{Test, test, refusal}
 use Rattle.state.specs.declared.Roster.{Roster}
-use Rattle.state.specs.declared.Run.{Run}
 use Rattle.state.specs.declared.Job.{Job}
 use Rattle.state.specs.declared.Pool.{Pool}
 use Rattle.state.specs.declared.Outcome.{Outcome}
 use Rattle.state.specs.declared.Reply.{Reply}
 use Rattle.state.specs.declared.Effect.{Effect}
 use Rattle.state.specs.declared.Turn.{Turn}
-use Rattle.roster.specs.Roster.{entered}
+use Rattle.changes.specs.Changes.{entered}
 use Rattle.run.specs.declared.Who.{Who}
 use Rattle.run.specs.declared.Move.{Move}
 use Rattle.run.specs.Run.{takes}
@@ -29,10 +28,13 @@ use Rattle.removal.specs.Remove.{gone}
 abbrev pub awaits : Pool → ℕ → Bool
 awaits p number = not (isIdle (p .job)) && eqb number (p .number)
 
--- `sound`: the lent client map is whole, with no bit past the chunk count
+-- `sound` says that the lent client map is
+abbrev pub answerTests : Pool → Bool → ℕ → List Test
+answerTests p sound number =
+    test 1 (not (validPool p)) ∷ test 2 (not sound) ∷ test 13 (not (awaits p number)) ∷ []
+
 unfoldable pub answerRefusal : Pool → Bool → ℕ → ℕ
-answerRefusal p sound number =
-    refusal (test 1 (not (validPool p)) ∷ test 2 (not sound) ∷ test 13 (not (awaits p number)) ∷ [])
+answerRefusal p sound number = refusal (answerTests p sound number)
 
 -- who became NORMAL, if one did
 abbrev pub enteredBy : Who → Roster → Roster

@@ -1,9 +1,9 @@
 // The answer to an awaited message.
 ghost use mathlib.Core.Path.{_≡_};
-ghost use mathlib.Core.Bool.{Bool};
 ghost use Rattle.run.specs.Run.{takes};
 ghost use Rattle.answers.specs.Answers.{awaits, answerRefusal, enteredBy, moved, reported, answered, answer};
 use recovery::Posted;
+use refusals::first;
 use run::Move;
 use run::Who;
 use state::Effect;
@@ -28,11 +28,7 @@ fn answer_refusal(p: Pool, sound: bool, number: u64) -> u64
 {
     let ok = rules::valid(p);
     let some = awaits(p, number);
-    refusals::first(
-        !ok,
-        1,
-        refusals::first(!sound, 2, refusals::first(!some, 13, 0)),
-    )
+    first(!ok, 1, first(!sound, 2, first(!some, 13, 0)))
 }
 
 fn enter(w: Who, ro: Roster) -> Roster
@@ -40,7 +36,7 @@ fn enter(w: Who, ro: Roster) -> Roster
 {
     match w {
         Who::Nobody => ro,
-        Who::One(id) => roster::enter(ro, id),
+        Who::One(id) => changes::enter(ro, id),
     }
 }
 
@@ -90,7 +86,7 @@ fn answered(j: Job, p: Pool, a: Reply) -> Turn
         Job::Running(r) => in_run(p, r, a),
         Job::Removing(m) => {
             let g = removal::answer(m, p, a);
-            removal::event::accept(p, g)
+            removal::remove::accept(p, g)
         }
     }
 }

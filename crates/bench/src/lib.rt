@@ -6,7 +6,6 @@ pub mod nodes;
 ghost use mathlib.Core.Path.{_≡_};
 ghost use Rattle.bench.specs.Bench.{withAuto, withRoster, rosterOf, pokeVersion, pokeCount, pokeMembers, pokeChunks, pokeSession};
 use client::Client;
-use forms::Event;
 use forms::Which;
 use node::StorageNode;
 use nodestate::Node;
@@ -52,86 +51,12 @@ fn fresh_nodes(chunks: u64) -> [StorageNode; 16] {
     all
 }
 
-// The end of the lent part of a map of 8,192 bytes.
-pub fn cut(lent: u64) -> usize {
-    if 8192 < lent {
-        return 8192;
-    }
-    lent as usize
-}
-
-// How much of map k is lent.
-pub fn lent_of(l: [u64; 33], k: u64) -> usize {
-    if 32 < k {
-        return 0;
-    }
-    let i = k as usize;
-    cut(l[i])
-}
-
-// A client event. The maps are lent as far as the lab lends them.
-pub fn client_event(l: Lab, e: Event, own: &mut [u8], maps: &[u8]) -> client::Out {
-    let c = l.client;
-    let lent = l.lent;
-    match e {
-        Event::JoinCreate(id) => c.join_create(id),
-        Event::JoinAssemble(id, set, version) => c.join_assemble(id, set, version),
-        Event::Enable(id) => c.enable(id),
-        Event::Maintenance(id) => c.maintenance(id),
-        Event::LinkDown(id) => c.link_down(id),
-        Event::StoreCheck(id) => c.store_check(id),
-        Event::Try => c.try_run(),
-        Event::Remove(id, mode) => {
-            let z = 0;
-            let e = lent_of(lent, 32);
-            if own.len() < e {
-                return c.remove(own, id, mode);
-            }
-            c.remove(&mut own[z..e], id, mode)
-        }
-        Event::Write(chunk, reached) => {
-            let z = 0;
-            let e = lent_of(lent, 32);
-            if own.len() < e {
-                return c.write(own, chunk, reached);
-            }
-            c.write(&mut own[z..e], chunk, reached)
-        }
-        Event::Synced(member, chunk, n) => synced(c, lent, maps, member, chunk, n),
-        Event::Answer(number, a) => {
-            let z = 0;
-            let e = lent_of(lent, 32);
-            if own.len() < e {
-                return c.answer(own, number, a);
-            }
-            c.answer(&mut own[z..e], number, a)
-        }
-    }
-}
-
-// Synced, with node n's map lent.
-fn synced(c: Client, lent: [u64; 33], maps: &[u8], member: u64, chunk: u64, n: u64) -> client::Out {
-    if maps.len() < 131072 {
-        return c.synced(maps, member, chunk);
-    }
-    if 15 < n {
-        return c.synced(maps, member, chunk);
-    }
-    let size = lent_of(lent, n);
-    if 8192 < size {
-        return c.synced(maps, member, chunk);
-    }
-    let x = (n as usize) * 8192;
-    let e = x + size;
-    c.synced(&maps[x..e], member, chunk)
-}
-
 // The lab after an accepted client event: the awaited message is the one sent, the one before while a job is in hand, or none.
 pub fn after(mut l: Lab, c: Client, awaited: Message, number: u32) -> Lab {
     let p = c.pool;
     let job = p.job;
     l.client = c;
-    let none = is_nothing(awaited);
+    let none = state::is_nothing(awaited);
     if !none {
         return renewed(l, awaited, number);
     }
@@ -153,20 +78,6 @@ fn renewed(l: Lab, awaited: Message, number: u32) -> Lab {
         auto: l.auto,
         awaited: awaited,
         number: number,
-    }
-}
-
-pub fn is_nothing(m: Message) -> bool {
-    match m {
-        Message::Nothing => true,
-        Message::GetVersion(to) => false,
-        Message::Ready(to, keep) => false,
-        Message::Send(to, receiver) => false,
-        Message::Done(to, enable, version, set) => false,
-        Message::LastIo(to, chosen) => false,
-        Message::Enable(to, version, set) => false,
-        Message::Leave(to, mode) => false,
-        Message::Info(to, op, member) => false,
     }
 }
 

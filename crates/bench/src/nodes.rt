@@ -1,8 +1,6 @@
 // A node's event, its two maps lent as far as the lab lends them.
 use crate::Lab;
-use crate::lent_of;
 use forms::NodeEvent;
-use node::StorageNode;
 use nodestate::Answer;
 
 pub struct Ran {
@@ -28,18 +26,18 @@ pub fn node_event(
     let i = n as usize;
     let was = l.nodes[i];
     let lent = l.lent;
-    let given = taken_from(e);
-    let size = lent_of(lent, given);
-    fetch(scratch, maps, given);
-    let out = at_node(
+    let given = lendnode::taken_from(e);
+    let size = lendclient::lent_of(lent, given);
+    lendnode::fetch(scratch, maps, given);
+    let out = lendnode::at_node(
         was,
         e,
         maps,
         stagings,
         scratch,
         n,
-        lent_of(lent, n),
-        lent_of(lent, n + 16),
+        lendclient::lent_of(lent, n),
+        lendclient::lent_of(lent, n + 16),
         size,
     );
     let next = out.node;
@@ -48,105 +46,5 @@ pub fn node_event(
     Ran {
         lab: l,
         answer: answer,
-    }
-}
-
-// Whose map is taken, 33 where none is.
-fn taken_from(e: NodeEvent) -> u64 {
-    let NodeEvent::Take(m) = e else {
-        return 33;
-    };
-    m
-}
-
-fn fetch(scratch: &mut [u8], maps: &[u8], n: u64) {
-    if maps.len() < 131072 {
-        return;
-    }
-    if 15 < n {
-        return;
-    }
-    let x = (n as usize) * 8192;
-    let e = x + 8192;
-    maps::copy(scratch, &maps[x..e]);
-}
-
-// Maps that are not there as a whole, or more lent than there is: refused as a lent map of another length is.
-fn missing(n: StorageNode) -> node::Out {
-    node::Out {
-        answer: Answer::Refused(2),
-        node: n,
-    }
-}
-
-fn at_node(
-    n: StorageNode,
-    e: NodeEvent,
-    maps: &mut [u8],
-    stagings: &mut [u8],
-    scratch: &[u8],
-    k: u64,
-    a: usize,
-    b: usize,
-    size: usize,
-) -> node::Out {
-    if maps.len() < 131072 {
-        return missing(n);
-    }
-    if stagings.len() < 131072 {
-        return missing(n);
-    }
-    if 15 < k {
-        return missing(n);
-    }
-    if 8192 < a {
-        return missing(n);
-    }
-    if 8192 < b {
-        return missing(n);
-    }
-    if scratch.len() < size {
-        return missing(n);
-    }
-    let x = (k as usize) * 8192;
-    let xe = x + a;
-    let se = x + b;
-    let z = 0;
-    run(
-        n,
-        e,
-        &mut maps[x..xe],
-        &mut stagings[x..se],
-        &scratch[z..size],
-    )
-}
-
-fn run(
-    n: StorageNode,
-    e: NodeEvent,
-    map: &mut [u8],
-    staging: &mut [u8],
-    other: &[u8],
-) -> node::Out {
-    match e {
-        NodeEvent::RegisterCreate => n.register_create(map, staging),
-        NodeEvent::RegisterAdd(set, version) => n.register_add(map, staging, set, version),
-        NodeEvent::Unregister(delete) => n.unregister(map, staging, delete),
-        NodeEvent::JoinCreate(set) => n.join_create(map, staging, set),
-        NodeEvent::JoinAssemble => n.assemble(map, staging),
-        NodeEvent::Leave(delete) => n.leave(map, staging, delete),
-        NodeEvent::EnableOn(version, set) => n.enable1(map, staging, version, set),
-        NodeEvent::EnableOff => n.enable0(map, staging),
-        NodeEvent::Fault => n.fault(map, staging),
-        NodeEvent::Write(chunk, set, version) => n.write(map, staging, chunk, set, version),
-        NodeEvent::Synced(member, chunk) => n.synced(map, staging, member, chunk),
-        NodeEvent::PoolInfo(op, member) => n.pool_info(map, staging, op, member),
-        NodeEvent::LastIo(chosen) => n.last_io_to_map(map, staging, chosen),
-        NodeEvent::MapReady(keep) => n.map_ready(map, staging, keep),
-        NodeEvent::Give => n.give(map, staging),
-        NodeEvent::Take(m) => n.take(map, staging, other),
-        NodeEvent::MapDone(enable, version, set) => n.map_done(map, staging, enable, version, set),
-        NodeEvent::MapDisable => n.map_disable(map, staging),
-        NodeEvent::MapGetVer => n.map_get_ver(map, staging),
     }
 }

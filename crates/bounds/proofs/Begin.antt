@@ -24,7 +24,8 @@ use Rattle.state.specs.declared.Effect.{Effect}
 use Rattle.state.specs.declared.Turn.{Turn}
 use Rattle.state.specs.Session.{isDeleting, isOwed, isCreated}
 use Rattle.roster.specs.declared.Kind.{Kind}
-use Rattle.roster.specs.Roster.{sessionAt, idsOf, memberDropped}
+use Rattle.roster.specs.Roster.{sessionAt, idsOf}
+use Rattle.changes.specs.Changes.{memberDropped}
 use Rattle.rules.specs.Jobs.{isIdle, isRunning, isPeer}
 use Rattle.run.specs.declared.Next.{Next}
 use Rattle.run.specs.Still.{possible}
@@ -35,7 +36,8 @@ use Rattle.exits.specs.Exit.{refused}
 use Rattle.exits.proofs.Laws.{halts}
 use Rattle.kept.specs.Rosters.{Ok}
 use Rattle.joins.specs.Joins.{createRefusal, createDone, joinCreate, assembleRefusal, assembleDone, joinAssemble}
-use Rattle.links.specs.Links.{enableRefusal, enableDone, enable, maintenanceRefusal, maintenanceDone, maintenance, downRefusal, dropped, downAt, downDone, linkDown, checkRefusal, checkDone, storeCheck, tryRefusal, tryRun}
+use Rattle.enables.specs.Enables.{enableRefusal, enableDone, enable, maintenanceRefusal, maintenanceDone, maintenance}
+use Rattle.links.specs.Links.{downRefusal, dropped, downAt, downDone, linkDown, checkRefusal, checkDone, storeCheck, tryRefusal, tryRun}
 use Rattle.removal.specs.declared.Gone.{Gone}
 use Rattle.removal.specs.Removal as removal
 use Rattle.removal.specs.Remove.{removeRefusal, remove}

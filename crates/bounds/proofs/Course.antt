@@ -6,7 +6,7 @@ use Prim.Native.Nat.{ℕ, _+_, _-_, _≤_, _<_}
 use native.Mathlib.Omega.{arith}
 use lib.Dec.{eqb}
 use lib.ListN.{length}
-use borrow.Author.Tests.{eqb-true, eq-eqb, lt-ltb, not-false}
+use borrow.Author.Tests.{eqb-true, eq-eqb, not-false}
 use Rattle.laws.specs.Words.{pick, one}
 use Rattle.laws.specs.Tests.{clash, and-left}
 use Rattle.maps.specs.Map.{sound}
@@ -23,7 +23,7 @@ use Rattle.run.specs.declared.Next.{Next}
 use Rattle.run.specs.declared.Move.{Move}
 use Rattle.run.specs.Run as run
 use Rattle.run.specs.Still.{possible}
-use Rattle.run.proofs.Bound.{stillIn, Carries, Lowers, taken-well, lowers}
+use Rattle.run.proofs.Bound.{counted-one, stillIn, Carries, Lowers, taken-well, lowers}
 use Rattle.recovery.specs.Recovery.{withRoster, over, posted, goneOn}
 use Rattle.exits.specs.Exit.{refused}
 use Rattle.kept.specs.Pools.{Valid, valid-of}
@@ -123,8 +123,7 @@ some-possible c r h = omega (arith, fewer c r Reply.Failed h .fewer)
 -- the count is raised by one
 raised : (c : Client) (r : Run) → InHand c r → run.counted (r .taken) ≡ r .taken + 1
 raised c r h =
-    let l : r .taken < 168 = omega (arith, facts c r h .most, some-possible c r h) in
-    ap (λ (b : Bool). pick b (r .taken + 1) (r .taken)) (lt-ltb (r .taken) 168 l)
+    counted-one (r .taken) (omega (arith, facts c r h .most, some-possible c r h))
 
 -- a session that becomes NORMAL leaves the membership
 same-members : (w : Who) (ro : Roster) → ro .sync ≡ false → answers.enteredBy w ro .members ≡ ro .members
@@ -172,10 +171,6 @@ movedOn c r a = withRoster (c .pool) (answers.enteredBy (takesIn c r a .normal) 
 took-turn : (c : Client) (r : Run) (xs : List ℕ) (number : ℕ) (a : Reply) → c .pool .job ≡ Job.Running r → eqb (answers.answerRefusal (c .pool) (soundFor c xs) number) 0 ≡ true
     → turnOf (Event.answer xs number a) c ≡ answers.reported (c .pool) (takesIn c r a)
 took-turn c r xs number a e z = answer-turn c xs number a true z ∙ ap (λ (j : Job). answers.answered j (c .pool) a) e
-
-took-pool : (c : Client) (r : Run) (a : Reply) → answers.reported (c .pool) (takesIn c r a) .pool ≡ goneOn (takesIn c r a .next) (movedOn c r a) .pool
-unfolding answers.moved
-took-pool c r a = refl
 
 took : (gs : List Given) → Ahead gs → (g : Given) (c : Client) (r : Run) → InHand c r → eqb (answers.answerRefusal (c .pool) (soundFor c (g .map)) (g .number)) 0 ≡ true
     → CourseBy gs (answers.reported (c .pool) (takesIn c r (g .reply))) (r .taken) (possible (c .pool .roster .members) r)

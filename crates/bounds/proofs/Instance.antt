@@ -6,7 +6,8 @@ use Rattle.laws.specs.Words.{bit}
 use Rattle.sets.specs.Sets.{has, with, without, size, lowest}
 use Rattle.state.specs.declared.Phase.{Phase}
 use Rattle.state.specs.declared.Run.{Run}
-use Rattle.roster.specs.Roster.{idsOf, went}
+use Rattle.roster.specs.Roster.{idsOf}
+use Rattle.changes.specs.Changes.{went}
 use Rattle.run.specs.Run.{awaitedIn}
 use Rattle.run.specs.Still.{possible}
 use Rattle.recovery.specs.Cases as cases

@@ -1,6 +1,6 @@
 -- What the set of clean members says: it holds exactly the ids for which the chunk is not dirty.
-use mathlib.Core.Path.{_≡_, refl, sym, ap, _∙_}
-use mathlib.Core.Bool.{Bool, true, false, not, _&&_}
+use mathlib.Core.Path.{_≡_, refl, _∙_}
+use mathlib.Core.Bool.{Bool, true, false, not}
 use mathlib.Core.List.{List}
 use mathlib.Core.Logic.{_≢_}
 use Prim.Native.Nat.{ℕ, zero, suc, _<_, _≤_}
@@ -8,10 +8,9 @@ use native.Mathlib.Decide.{ℕ-discrete}
 use native.Mathlib.Omega.{arith}
 use lib.Dec.{eqb}
 use Rattle.laws.specs.Words.{pick}
-use Rattle.laws.specs.Tests.{by-cases, clash}
 use Rattle.sets.specs.Sets.{has, with}
 use Rattle.sets.proofs.Laws.{has-none, has-with-same, has-with-other}
-use Rattle.maps.specs.Map.{dirty}
+use Rattle.chunks.specs.Chunk.{dirty}
 use Rattle.client.specs.Client.{cleanTo}
 
 -- nobody at n or above is in it yet

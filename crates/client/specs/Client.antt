@@ -6,7 +6,8 @@ use lib.Dec.{eqb}
 use lib.ListN.{replicate}
 use Rattle.laws.specs.Words.{pick}
 use Rattle.sets.specs.Sets.{with}
-use Rattle.maps.specs.Map.{dirty, markedFor, zeroRow, zeroed, sound}
+use Rattle.chunks.specs.Chunk.{dirty, markedFor}
+use Rattle.maps.specs.Map.{zeroRow, zeroed, sound}
 use Rattle.state.specs.declared.Mode.{Mode}
 use Rattle.state.specs.declared.Reply.{Reply}
 use Rattle.state.specs.declared.Job.{Job}

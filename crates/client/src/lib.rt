@@ -1,12 +1,9 @@
 // The compute client: its state, and one method for each event, which takes the state and hands the next one back with the answer. Ids, chunks, sets,
 // versions and answer numbers may be anything; a lent map may have any length.
 ghost use mathlib.Core.Path.{_≡_};
-ghost use lib.Dec.{eqb};
-ghost use Rattle.laws.specs.Words.{pick};
-ghost use Rattle.sets.specs.Sets.{with};
-ghost use Rattle.maps.specs.Map.{dirty};
 ghost use Rattle.joins.specs.Joins.{joinCreate, joinAssemble};
-ghost use Rattle.links.specs.Links.{enable, maintenance, linkDown, storeCheck, tryRun};
+ghost use Rattle.enables.specs.Enables.{enable, maintenance};
+ghost use Rattle.links.specs.Links.{linkDown, storeCheck, tryRun};
 ghost use Rattle.client.specs.Client.{fresh, handed, carried, removeTurn, writeTurn, answerTurn, cleanTo, syncedTurn};
 use state::Answer;
 use state::Effect;
@@ -30,13 +27,13 @@ pub struct Out {
 }
 
 impl Client {
-    pub const MEMBERS: u64 = 16;
+    pub const MEMBERS: u64 = refusals::MEMBERS;
 
-    pub const CHUNK_LIMIT: u64 = 4096;
+    pub const CHUNK_LIMIT: u64 = refusals::CHUNK_LIMIT;
 
-    pub const MAP_BYTES: usize = 8192;
+    pub const MAP_BYTES: usize = refusals::MAP_BYTES;
 
-    pub const VERSION_LIMIT: u64 = 9223372036854775775;
+    pub const VERSION_LIMIT: u64 = refusals::VERSION_LIMIT;
 
     // A fresh client. A chunk count outside 1 to 4,096 gives a value that every event refuses.
     pub fn fresh(sync: bool, chunks: u64) -> Client
@@ -78,7 +75,7 @@ impl Client {
         ensures { λ r. ⌜ r ≡ handed (enable (self .pool) id) ⌝ }
     {
         let p = self.pool;
-        let t = links::enable(p, id);
+        let t = enables::enable(p, id);
         let answer = t.answer;
         let next = t.pool;
         self.pool = next;
@@ -92,7 +89,7 @@ impl Client {
         ensures { λ r. ⌜ r ≡ handed (maintenance (self .pool) id) ⌝ }
     {
         let p = self.pool;
-        hand(links::maintenance(p, id))
+        hand(enables::maintenance(p, id))
     }
 
     pub fn link_down(mut self, id: u64) -> Out
@@ -129,8 +126,8 @@ impl Client {
         ensures { λ r. ⌜ now (map .exit) ≡ carried (removeTurn self (now (map .entry)) id mode .effect) (now (map .entry)) ⌝ }
     {
         let p = self.pool;
-        let whole = maps::is_sound(map, p.chunks);
-        let t = removal::event::remove(p, whole, id, mode);
+        let sound = maps::is_sound(map, p.chunks);
+        let t = removal::remove::remove(p, sound, id, mode);
         let effect = t.effect;
         carry(map, effect);
         hand(t)
@@ -141,8 +138,8 @@ impl Client {
         ensures { λ r. ⌜ now (map .exit) ≡ carried (writeTurn self (now (map .entry)) chunk reached .effect) (now (map .entry)) ⌝ }
     {
         let p = self.pool;
-        let whole = maps::is_sound(map, p.chunks);
-        let t = writes::write_ended(p, whole, chunk, reached);
+        let sound = maps::is_sound(map, p.chunks);
+        let t = writes::write_ended(p, sound, chunk, reached);
         let effect = t.effect;
         carry(map, effect);
         let answer = t.answer;
@@ -159,9 +156,9 @@ impl Client {
         ensures { λ r. ⌜ r ≡ handed (syncedTurn self (now (map .entry)) member chunk) ⌝ }
     {
         let p = self.pool;
-        let whole = maps::is_sound(map, p.chunks);
+        let sound = maps::is_sound(map, p.chunks);
         let clean = clean_ids(map, chunk);
-        hand(writes::synced(p, whole, member, chunk, clean))
+        hand(writes::synced(p, sound, member, chunk, clean))
     }
 
     pub fn answer(mut self, map: &mut [u8], number: u64, a: Reply) -> Out
@@ -169,8 +166,8 @@ impl Client {
         ensures { λ r. ⌜ now (map .exit) ≡ carried (answerTurn self (now (map .entry)) number a .effect) (now (map .entry)) ⌝ }
     {
         let p = self.pool;
-        let whole = maps::is_sound(map, p.chunks);
-        let t = answers::answer(p, whole, number, a);
+        let sound = maps::is_sound(map, p.chunks);
+        let t = answers::answer(p, sound, number, a);
         let effect = t.effect;
         carry(map, effect);
         let answer = t.answer;
@@ -200,7 +197,7 @@ fn carry(map: &mut [u8], effect: Effect)
 {
     match effect {
         Effect::Keep => {}
-        Effect::Mark(set, chunk) => maps::mark_for(map, set, chunk),
+        Effect::Mark(set, chunk) => chunks::mark_for(map, set, chunk),
         Effect::ZeroRow(m) => maps::zero_row(map, m),
         Effect::ZeroAll => maps::zero(map),
     }
@@ -213,9 +210,9 @@ fn clean_ids(map: &[u8], chunk: u64) -> u64
     let mut ids: u64 = 0;
     let mut m: u64 = 0;
     while m < 16 {
-        let dirty = maps::test(map, m, chunk);
+        let dirty = chunks::test(map, m, chunk);
         let more = sets::with(ids, m);
-        ids = sets::choose(dirty, ids, more);
+        ids = numbers::choose(dirty, ids, more);
         m += 1;
     }
     ids

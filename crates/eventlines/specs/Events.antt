@@ -43,8 +43,8 @@ storeEvents f rest =
     (pick (node f JOIN-CREATE 4) (Command.Node (f .x1) (NodeEvent.JoinCreate (f .x3)))
     (pick (node f JOIN-ASSEMBLE 3) (Command.Node (f .x1) NodeEvent.JoinAssemble)
     (pick (node f LEAVE 4 && ltb (f .x3) 2) (Command.Node (f .x1) (NodeEvent.Leave (eqb (f .x3) 1)))
-    (pick (node f ENABLE1 5) (Command.Node (f .x1) (NodeEvent.EnableOn (f .x3) (f .x4)))
-    (pick (node f ENABLE0 3) (Command.Node (f .x1) NodeEvent.EnableOff)
+    (pick (node f ENABLE1 5) (Command.Node (f .x1) (NodeEvent.Enable1 (f .x3) (f .x4)))
+    (pick (node f ENABLE0 3) (Command.Node (f .x1) NodeEvent.Enable0)
     rest)))))))
 
 -- A node's events: fault, write, synced, POOL_INFO, LAST_IO.

@@ -65,9 +65,9 @@ pub fn store_events(f: Form, rest: Command) -> Command
     let x3 = f.x3;
     let x4 = f.x4;
     let is = node(f, names::ENABLE0, 3);
-    let r = first(is, Command::Node(x1, NodeEvent::EnableOff), rest);
+    let r = first(is, Command::Node(x1, NodeEvent::Enable0), rest);
     let is = node(f, names::ENABLE1, 5);
-    let r = first(is, Command::Node(x1, NodeEvent::EnableOn(x3, x4)), r);
+    let r = first(is, Command::Node(x1, NodeEvent::Enable1(x3, x4)), r);
     let is = node(f, names::LEAVE, 4) & (x3 < 2);
     let r = first(is, Command::Node(x1, NodeEvent::Leave(x3 == 1)), r);
     let is = node(f, names::JOIN_ASSEMBLE, 3);

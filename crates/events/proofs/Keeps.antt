@@ -15,7 +15,8 @@ use Rattle.kept.specs.Rosters.{ok-facts}
 use Rattle.kept.specs.Pools.{Valid}
 use Rattle.kept.specs.Legal.{Moves, moves-none}
 use Rattle.joins.proofs.Kept.{create-keeps, create-moves, assemble-keeps, assemble-moves}
-use Rattle.links.proofs.Kept.{enable-keeps, enable-moves, maintenance-keeps, maintenance-moves, down-keeps, down-moves, check-keeps, check-moves, try-keeps, try-moves}
+use Rattle.enables.proofs.Kept.{enable-keeps, enable-moves, maintenance-keeps, maintenance-moves}
+use Rattle.links.proofs.Kept.{down-keeps, down-moves, check-keeps, check-moves, try-keeps, try-moves}
 use Rattle.writes.proofs.Kept.{write-keeps, write-moves, synced-same, synced-keeps}
 use Rattle.removal.proofs.Kept.{remove-keeps}
 use Rattle.removal.proofs.Moves.{Through, ends-moves, remove-moves}

@@ -15,7 +15,8 @@ use Rattle.state.specs.declared.Job.{Job}
 use Rattle.state.specs.declared.Pool.{Pool}
 use Rattle.state.specs.declared.Reply.{Reply}
 use Rattle.state.specs.Session.{isRemoving, free}
-use Rattle.roster.specs.Roster.{sessionAt, unmarked}
+use Rattle.roster.specs.Roster.{sessionAt}
+use Rattle.changes.specs.Changes.{unmarked}
 use Rattle.rules.specs.Rules.{jobOk}
 use Rattle.run.specs.declared.Who.{Who}
 use Rattle.run.specs.Run.{takes}
@@ -28,7 +29,8 @@ use Rattle.kept.specs.Runs.{run-facts}
 use Rattle.kept.specs.Tried.{tried-roster}
 use Rattle.joins.proofs.Kept.{create-others, assemble-others}
 use Rattle.links.specs.Links.{tryRefusal, tryRun}
-use Rattle.links.proofs.Kept.{enable-others, maintenance-others, down-others, check-others}
+use Rattle.enables.proofs.Kept.{enable-others, maintenance-others}
+use Rattle.links.proofs.Kept.{down-others, check-others}
 use Rattle.writes.specs.Writes.{loses, missed, marks, writeRefusal, writeDone, writeEnded}
 use Rattle.writes.proofs.Kept.{missed-spares, synced-same}
 use Rattle.removal.proofs.Moves.{remove-moves, answered-ends}

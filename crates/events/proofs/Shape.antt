@@ -20,7 +20,8 @@ use Rattle.roster.specs.Roster.{sessionAt}
 use Rattle.rules.specs.Jobs.{isIdle}
 use Rattle.exits.specs.Exit.{refused, triedAfter}
 use Rattle.joins.specs.Joins.{createRefusal, createDone, joinCreate, assembleRefusal, assembleDone, joinAssemble}
-use Rattle.links.specs.Links.{enableRefusal, enableDone, enable, maintenanceRefusal, maintenanceDone, maintenance, downRefusal, downAt, downDone, linkDown, checkRefusal, checkDone, storeCheck, tryRefusal, tryRun}
+use Rattle.enables.specs.Enables.{enableRefusal, enableDone, enable, maintenanceRefusal, maintenanceDone, maintenance}
+use Rattle.links.specs.Links.{downRefusal, downAt, downDone, linkDown, checkRefusal, checkDone, storeCheck, tryRefusal, tryRun}
 use Rattle.removal.specs.Remove.{removeRefusal, removeBegun, gone, remove}
 use Rattle.writes.specs.Writes.{writeRefusal, marks, writeDone, writeEnded, syncRefusal, syncDone, synced}
 use Rattle.answers.specs.Answers.{awaits, answerRefusal, answered, answer}

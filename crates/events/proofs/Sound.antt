@@ -20,7 +20,8 @@ use Rattle.state.specs.declared.Reply.{Reply}
 use Rattle.state.specs.declared.Effect.{Effect}
 use Rattle.state.specs.declared.Turn.{Turn}
 use Rattle.state.specs.Session.{isCreated, isDelete, isDeleting, isOwed}
-use Rattle.roster.specs.Roster.{sessionAt, memberDropped}
+use Rattle.roster.specs.Roster.{sessionAt}
+use Rattle.changes.specs.Changes.{memberDropped}
 use Rattle.rules.specs.Jobs.{isPeer}
 use Rattle.run.specs.declared.Next.{Next}
 use Rattle.run.specs.Run.{takes}
@@ -30,7 +31,8 @@ use Rattle.exits.specs.Exit.{refused, haltedIf}
 use Rattle.exits.proofs.Laws.{picked, turned, halts}
 use Rattle.kept.specs.Pools.{Valid}
 use Rattle.joins.specs.Joins.{createRefusal, createDone, joinCreate, assembleRefusal, assembleDone, joinAssemble}
-use Rattle.links.specs.Links.{enableRefusal, enableDone, enable, maintenanceRefusal, maintenanceDone, maintenance, downRefusal, dropped, downAt, downDone, linkDown, checkRefusal, checkDone, storeCheck, tryRefusal, tryRun}
+use Rattle.enables.specs.Enables.{enableRefusal, enableDone, enable, maintenanceRefusal, maintenanceDone, maintenance}
+use Rattle.links.specs.Links.{downRefusal, dropped, downAt, downDone, linkDown, checkRefusal, checkDone, storeCheck, tryRefusal, tryRun}
 use Rattle.removal.specs.declared.Gone.{Gone}
 use Rattle.removal.specs.Removal as removal
 use Rattle.removal.specs.Remove.{removeRefusal, remove}

@@ -20,7 +20,8 @@ use Rattle.state.specs.declared.Effect.{Effect}
 use Rattle.state.specs.declared.Turn.{Turn}
 use Rattle.state.specs.Session.{isDelete, isDeleting, isOwed, isCreated, moved}
 use Rattle.roster.specs.declared.Kind.{Kind}
-use Rattle.roster.specs.Roster.{sessionAt, idsOf, went, freed, memberDropped, removing}
+use Rattle.roster.specs.Roster.{sessionAt, idsOf}
+use Rattle.changes.specs.Changes.{went, freed, memberDropped, removing}
 use Rattle.recovery.specs.Recovery.{withRoster, posted}
 use Rattle.rules.specs.Rules.{jobOk}
 use Rattle.exits.specs.Exit.{refused}
@@ -28,7 +29,8 @@ use Rattle.kept.specs.Ids.{Long, stored-same}
 use Rattle.kept.specs.Pools.{Valid}
 use Rattle.kept.specs.Changes.{removing-at}
 use Rattle.joins.specs.Joins.{createRefusal, createDone, joinCreate, assembleRefusal, assembleDone, joinAssemble}
-use Rattle.links.specs.Links.{enableRefusal, enableDone, enable, maintenanceRefusal, maintenanceDone, maintenance, downRefusal, downAt, downDone, linkDown, checkRefusal, checkDone, storeCheck, tryRefusal, tryRun}
+use Rattle.enables.specs.Enables.{enableRefusal, enableDone, enable, maintenanceRefusal, maintenanceDone, maintenance}
+use Rattle.links.specs.Links.{downRefusal, downAt, downDone, linkDown, checkRefusal, checkDone, storeCheck, tryRefusal, tryRun}
 use Rattle.removal.specs.declared.Gone.{Gone}
 use Rattle.removal.specs.Removal as removal
 use Rattle.removal.specs.Remove.{removeRefusal, removeBegun, remove}
@@ -39,8 +41,7 @@ use Rattle.client.specs.declared.Client.{Client}
 use Rattle.client.specs.Client.{soundFor, removeTurn, writeTurn, answerTurn, syncedTurn, cleanTo}
 use Rattle.events.specs.Events.{Event, turnOf, next}
 use Rattle.events.proofs.Others.{removing-below}
-use Rattle.events.specs.Tests.{stateOf}
-use Rattle.events.specs.Demand2.{nobodyLeft, keeps, removalTouches, answerTouches, touches}
+use Rattle.events.specs.Demand2.{nobodyLeft, keeps, removalTouches, answerTouches, touches, stateOf}
 
 -- ---- an event is what it does, or refused
 

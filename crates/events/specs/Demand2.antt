@@ -7,6 +7,7 @@ use lib.Dec.{eqb}
 use Rattle.refusals.specs.Limits.{chunkLimit}
 use Rattle.sets.specs.Sets.{has}
 use Rattle.maps.specs.Map.{sound}
+use Rattle.state.specs.declared.State.{State}
 use Rattle.state.specs.declared.Job.{Job}
 use Rattle.state.specs.declared.Roster.{Roster}
 use Rattle.state.specs.declared.Answer.{Answer}
@@ -14,7 +15,8 @@ use Rattle.state.specs.declared.Effect.{Effect}
 use Rattle.state.specs.declared.Reply.{Reply}
 use Rattle.state.specs.Session.{isNormal, isDelete, isDeleting}
 use Rattle.roster.specs.declared.Kind.{Kind}
-use Rattle.roster.specs.Roster.{sessionAt, idsOf, unmarked}
+use Rattle.roster.specs.Roster.{sessionAt, idsOf}
+use Rattle.changes.specs.Changes.{unmarked}
 use Rattle.run.specs.declared.Who.{Who}
 use Rattle.run.specs.Run.{takes}
 use Rattle.rules.specs.Rules.{validPool}
@@ -22,7 +24,6 @@ use Rattle.kept.specs.Legal.{Moves}
 use Rattle.client.specs.declared.Client.{Client}
 use Rattle.client.specs.Client.{fresh}
 use Rattle.events.specs.Events.{Event, turnOf, outOf, next, Lent, lentTo, mapLeft}
-use Rattle.events.specs.Tests.{stateOf}
 
 -- A client is reached if it is a fresh one of a pool of 1 to 4,096 chunks, sync or not, or what an event handed back at a reached one: any event, with any
 -- data and any lent bytes, accepted or refused.
@@ -52,6 +53,10 @@ ByTheTable = (c : Client) → Reached c → (e : Event) → Changes (c .pool .ro
 -- At every reached client, no event lowers the version.
 abbrev pub VersionNeverFalls : Type 0
 VersionNeverFalls = (c : Client) → Reached c → (e : Event) → c .pool .roster .version ≤ next e c .pool .roster .version
+
+-- the state of an id's session
+abbrev pub stateOf : Client → ℕ → State
+stateOf c id = sessionAt (c .pool .roster) id .state
 
 -- the one that an answer makes NORMAL
 abbrev pub isOne : Who → ℕ → Bool

@@ -6,6 +6,7 @@ use Rattle.state.specs.declared.Mode.{Mode}
 use Rattle.state.specs.declared.Reply.{Reply}
 use Rattle.state.specs.declared.Turn.{Turn}
 use Rattle.joins.specs.Joins as Joins
+use Rattle.enables.specs.Enables as Enables
 use Rattle.links.specs.Links as Links
 use Rattle.client.specs.declared.Client.{Client}
 use Rattle.client.specs.declared.Out.{Out}
@@ -30,8 +31,8 @@ pub data Event : Type 0 where
 abbrev pub turnOf : Event → Client → Turn
 turnOf (Event.joinCreate id) c = Joins.joinCreate (c .pool) id
 turnOf (Event.joinAssemble id set version) c = Joins.joinAssemble (c .pool) id set version
-turnOf (Event.enable id) c = Links.enable (c .pool) id
-turnOf (Event.maintenance id) c = Links.maintenance (c .pool) id
+turnOf (Event.enable id) c = Enables.enable (c .pool) id
+turnOf (Event.maintenance id) c = Enables.maintenance (c .pool) id
 turnOf (Event.linkDown id) c = Links.linkDown (c .pool) id
 turnOf (Event.storeCheck id) c = Links.storeCheck (c .pool) id
 turnOf Event.tryRun c = Links.tryRun (c .pool)

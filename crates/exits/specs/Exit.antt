@@ -2,15 +2,16 @@
 use mathlib.Core.Bool.{Bool}
 use Prim.Native.Nat.{ℕ}
 use Rattle.laws.specs.Words.{pick}
+use Rattle.state.specs.declared.Roster.{Roster}
 use Rattle.state.specs.declared.Pool.{Pool}
 use Rattle.state.specs.declared.Message.{Message}
 use Rattle.state.specs.declared.Told.{Told}
 use Rattle.state.specs.declared.Outcome.{Outcome}
-use Rattle.state.specs.declared.Sent.{Sent}
 use Rattle.state.specs.declared.Answer.{Answer}
 use Rattle.state.specs.declared.Effect.{Effect}
 use Rattle.state.specs.declared.Turn.{Turn}
-use Rattle.recovery.specs.Recovery.{over, tried}
+use Rattle.state.specs.Session.{isNothing}
+use Rattle.recovery.specs.Recovery.{withRoster, over, tried}
 
 -- A refusal leaves the state and the client map as they were, with no message.
 abbrev pub refused : Pool → ℕ → Turn
@@ -18,15 +19,7 @@ refused p n = record { answer = Answer.Refused n; pool = p; effect = Effect.Keep
 
 -- the number that goes with an awaited message: that of the last awaited one, 0 beside none
 abbrev pub numberOf : Message → ℕ → ℕ
-numberOf Message.Nothing n = 0
-numberOf (Message.GetVersion to) n = n
-numberOf (Message.Ready to keep) n = n
-numberOf (Message.Send from to) n = n
-numberOf (Message.Done to enable version members) n = n
-numberOf (Message.LastIo to chosen) n = n
-numberOf (Message.Enable to version members) n = n
-numberOf (Message.Leave to mode) n = n
-numberOf (Message.Info to op member) n = n
+numberOf m n = pick (isNothing m) 0 n
 
 -- An accepted event: the state before and after, what it reports, the messages not awaited, the awaited one, and what is done to the client map.
 abbrev pub accepted : Pool → Pool → Outcome → Told → Message → Effect → Turn
@@ -36,6 +29,10 @@ accepted before after outcome told awaited effect =
       pool = after;
       effect = effect;
     }
+
+-- an accepted event that changes the sessions and awaits nothing
+abbrev pub changed : Pool → Roster → Told → Turn
+changed p ro told = accepted p (withRoster p ro) Outcome.Plain told Message.Nothing Effect.Keep
 
 -- An accepted event after which recovery is tried; the event stands if no run begins.
 abbrev pub triedAfter : Pool → Pool → Outcome → Told → Turn

@@ -1,11 +1,12 @@
 // How every client event ends.
 ghost use mathlib.Core.Path.{_≡_};
-ghost use Rattle.exits.specs.Exit.{refused, numberOf, accepted, triedAfter, haltedIf};
+ghost use Rattle.exits.specs.Exit.{refused, numberOf, accepted, changed, triedAfter, haltedIf};
 use state::Answer;
 use state::Effect;
 use state::Message;
 use state::Outcome;
 use state::Pool;
+use state::Roster;
 use state::Sent;
 use state::Told;
 use state::Turn;
@@ -23,17 +24,7 @@ pub fn refuse(p: Pool, n: u64) -> Turn
 fn number_of(m: Message, n: u32) -> u32
     ensures { λ r. ⌜ r ≡ numberOf m n ⌝ }
 {
-    match m {
-        Message::Nothing => 0,
-        Message::GetVersion(to) => n,
-        Message::Ready(to, keep) => n,
-        Message::Send(from, to) => n,
-        Message::Done(to, enable, version, members) => n,
-        Message::LastIo(to, chosen) => n,
-        Message::Enable(to, version, members) => n,
-        Message::Leave(to, mode) => n,
-        Message::Info(to, op, member) => n,
-    }
+    if state::is_nothing(m) { 0 } else { n }
 }
 
 // The one exit of every accepted event.
@@ -61,7 +52,22 @@ pub fn accept(
     }
 }
 
-// The same, recovery being tried after it.
+// An accepted event that changes the sessions and awaits nothing.
+pub fn change(p: Pool, ro: Roster, told: Told) -> Turn
+    ensures { λ r. ⌜ r ≡ changed p ro told ⌝ }
+{
+    let after = recovery::with_roster(p, ro);
+    accept(
+        p,
+        after,
+        Outcome::Plain,
+        told,
+        Message::Nothing,
+        Effect::Keep,
+    )
+}
+
+// An accepted event after which recovery is tried.
 pub fn try_after(before: Pool, after: Pool, outcome: Outcome, told: Told) -> Turn
     ensures { λ r. ⌜ r ≡ triedAfter before after outcome told ⌝ }
 {

@@ -1,6 +1,6 @@
 -- What numbers of a line stand for.
 use Prim.Native.Nat.{ℕ}
-use mathlib.Core.Bool.{Bool, true, false, _&&_, _||_, not}
+use mathlib.Core.Bool.{Bool, _&&_, _||_, not}
 use lib.Dec.{ltb, eqb}
 use Rattle.laws.specs.Words.{pick}
 use Rattle.state.specs.declared.Mode.{Mode}

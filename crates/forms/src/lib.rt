@@ -34,8 +34,8 @@ pub enum NodeEvent {
     JoinCreate(u64),
     JoinAssemble,
     Leave(bool),
-    EnableOn(u64, u64),
-    EnableOff,
+    Enable1(u64, u64),
+    Enable0,
     Fault,
     Write(u64, u64, u64),
     Synced(u64, u64),
@@ -56,9 +56,8 @@ pub enum Which {
     Staging(u64),
 }
 
-// Passed: an empty line, or one that begins with #. Pool: sync, chunks. Row: the dirty chunks of a member. Byte: place, value. The rest is put into the client's
-// state or a node's, unchecked. PokeSession: id, record. PokeNode: node, state,
-// store, create, members, version, transfer.
+// Passed: an empty line, or one that begins with #. Pool: sync, chunks. Row: the dirty chunks of a member. Byte: place, value. The rest is put into the
+// client's state or a node's, unchecked. PokeSession: id, record. PokeNode: node, state, store, create, members, version, transfer.
 pub enum Command {
     Passed,
     Unreadable,
@@ -107,13 +106,13 @@ pub fn form_of(l: Line) -> Form
     let t5 = l.toks[5];
     let t6 = l.toks[6];
     let t7 = l.toks[7];
-    let numbers = (t3.name == 0)
+    let rest = (t3.name == 0)
         & ((t4.name == 0) & ((t5.name == 0) & ((t6.name == 0) & (t7.name == 0))));
     Form {
         a: t0.name,
         b: t1.name,
         c: t2.name,
-        count: sets::choose(numbers, l.count, 9),
+        count: numbers::choose(rest, l.count, 9),
         x1: t1.num,
         x2: t2.num,
         x3: t3.num,

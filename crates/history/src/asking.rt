@@ -64,7 +64,9 @@ fn client_line(
     scratch: &mut [u8],
     out: &mut [u8],
 ) -> Said {
-    let o = bench::client_event(l, e, own, maps);
+    let before = l.client;
+    let lent = l.lent;
+    let o = lendclient::client_event(before, lent, e, own, maps);
     let a = o.answer;
     let c = o.client;
     match a {
@@ -143,7 +145,7 @@ fn deliver_line(
     out: &mut [u8],
 ) -> Said {
     let m = l.awaited;
-    let none = bench::is_nothing(m);
+    let none = state::is_nothing(m);
     if none {
         let to = text::put_bytes(out, at, b"idle\n");
         return Said { lab: l, at: to };

@@ -1,7 +1,6 @@
 // A history in, its answers out: one line for each command. The program lends the maps and the buffers.
 pub mod arranging;
 pub mod asking;
-pub mod reading;
 
 use bench::Lab;
 use reading::Cur;

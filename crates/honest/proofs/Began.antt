@@ -1,8 +1,8 @@
 -- Which run begins in each case, and that none begins in a sync pool or above the version limit.
-use mathlib.Core.Path.{_≡_, refl, sym, ap, _∙_}
-use mathlib.Core.Bool.{Bool, true, false, not, _||_, _&&_}
+use mathlib.Core.Path.{_≡_, refl}
+use mathlib.Core.Bool.{Bool, true, false, not, _||_}
 use mathlib.Core.Logic.{_≢_}
-use Prim.Native.Nat.{ℕ, zero, suc, _+_, _≤_, _<_}
+use Prim.Native.Nat.{ℕ, _≤_, _<_}
 use native.Mathlib.Omega.{arith}
 use lib.Dec.{eqb, ltb}
 use borrow.Author.Tests.{eq-eqb, ne-eqb, eqb-true, eqb-false, ltb-false}
@@ -16,11 +16,11 @@ use Rattle.state.specs.declared.Step.{Step}
 use Rattle.state.specs.declared.Phase.{Phase}
 use Rattle.state.specs.declared.Run.{Run}
 use Rattle.state.specs.declared.Roster.{Roster}
-use Rattle.state.specs.Session.{isReconnecting, candidate}
+use Rattle.state.specs.Session.{isReconnecting}
 use Rattle.roster.specs.declared.Kind.{Kind}
-use Rattle.roster.specs.Roster.{sessionAt, misplaced, unsynced, outside, odd, idsOf}
+use Rattle.roster.specs.Roster.{sessionAt, misplaced, unsynced, odd, idsOf}
 use Rattle.run.specs.declared.Next.{Next}
-use Rattle.recovery.specs.Cases.{case1, case2, case3, caseOf, begun}
+use Rattle.recovery.specs.Cases.{caseOf, begun}
 use Rattle.kept.specs.Ids.{none-ids}
 use Rattle.kept.specs.Rosters.{Ok}
 use Rattle.honest.proofs.Course.{at}

@@ -1,7 +1,6 @@
 -- The hypothesis that a run begins is what every event leaves that tries recovery.
-use mathlib.Core.Path.{_≡_, refl, sym, ap, _∙_}
-use mathlib.Core.Bool.{Bool, true, false}
-use Prim.Native.Nat.{ℕ}
+use mathlib.Core.Path.{_≡_, refl}
+use mathlib.Core.Bool.{true}
 use lib.ListN.{length}
 use Rattle.maps.specs.Map.{sound}
 use Rattle.state.specs.declared.Run.{Run}
@@ -11,8 +10,7 @@ use Rattle.state.specs.declared.Outcome.{Outcome}
 use Rattle.run.specs.declared.Next.{Next}
 use Rattle.rules.specs.Rules.{validPool}
 use Rattle.recovery.specs.Cases.{begun}
-use Rattle.recovery.specs.Recovery.{tried}
-use Rattle.exits.specs.Exit.{numberOf, triedAfter}
+use Rattle.exits.specs.Exit.{triedAfter}
 use Rattle.world.specs.World.{World, heard}
 use Rattle.honest.specs.Demand.{Begins}
 use Rattle.honest.proofs.Ends.{tried-number}

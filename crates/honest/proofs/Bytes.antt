@@ -1,16 +1,16 @@
 -- A map with the rows outside a set zeroed, byte for byte. Assumes nothing.
-use mathlib.Core.Path.{_≡_, refl, sym, ap, _∙_}
-use mathlib.Core.Bool.{Bool, true, false}
+use mathlib.Core.Path.{_≡_, sym, ap, _∙_}
+use mathlib.Core.Bool.{true, false}
 use mathlib.Core.List.{List}
-use Prim.Native.Nat.{ℕ, _+_, _*_, _/_, _%_, _^_, _≤_, _<_, min}
+use Prim.Native.Nat.{ℕ, _+_, _*_, _/_, _%_, _≤_, _<_, min}
 use native.Mathlib.Omega.{arith}
 use lib.Dec.{lit<}
-use lib.ListN.{getD, length}
+use lib.ListN.{getD}
 use Rattle.laws.specs.Words.{one, bit}
 use Rattle.laws.specs.Bits.{bits-same, bit-none}
 use Rattle.sets.specs.Sets.{has}
-use Rattle.maps.specs.Map.{dirty, kept}
-use Rattle.maps.proofs.Laws.{dirty-lt}
+use Rattle.maps.specs.Map.{kept}
+use Rattle.chunks.proofs.Laws.{dirty-lt}
 use Rattle.maps.proofs.Chunks.{dirty-kept}
 use Rattle.maps.proofs.Sound.{Sound, sound-kept, sound-byte, dirty-at}
 

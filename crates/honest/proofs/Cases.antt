@@ -1,34 +1,32 @@
 -- The three cases: which run begins in each, and what it comes to among honest nodes.
 use mathlib.Core.Path.{_≡_, refl, sym, ap, _∙_}
-use mathlib.Core.Bool.{Bool, true, false, not, _||_}
+use mathlib.Core.Bool.{true, false, not, _||_}
 use mathlib.Core.Logic.{_≢_}
-use Prim.Native.Nat.{ℕ, zero, suc, _+_, _*_, _-_, _≤_, _<_}
+use Prim.Native.Nat.{ℕ, _+_, _*_, _-_, _≤_, _<_}
 use native.Mathlib.Omega.{arith}
-use lib.Dec.{eqb, ltb}
-use borrow.Author.Tests.{eq-eqb, ne-eqb, eqb-true, eqb-false, ltb-false}
-use Rattle.laws.specs.Words.{pick}
+use lib.Dec.{eqb}
+use borrow.Author.Tests.{eqb-false}
 use Rattle.laws.specs.Tests.{by-cases, clash}
 use Rattle.refusals.specs.Limits.{versionLimit}
 use Rattle.sets.specs.Sets.{has, without, size, lowest}
-use Rattle.sets.proofs.Laws.{has-below, has-without-same, still, without-lt, lowest-in, lowest-le, empty-set, size-le, size-without, size-some}
-use Rattle.state.specs.declared.State.{State}
+use Rattle.sets.proofs.Laws.{has-below, has-without-same, still, without-lt, lowest-in, size-le, size-without, size-some}
 use Rattle.state.specs.declared.Step.{Step}
 use Rattle.state.specs.declared.Phase.{Phase}
 use Rattle.state.specs.declared.Run.{Run}
 use Rattle.state.specs.declared.Roster.{Roster}
 use Rattle.state.specs.declared.Pool.{Pool}
-use Rattle.state.specs.Session.{isNormal, candidate}
+use Rattle.state.specs.Session.{candidate}
 use Rattle.roster.specs.declared.Kind.{Kind}
 use Rattle.roster.specs.Roster.{sessionAt, idsOf}
 use Rattle.run.specs.declared.Next.{Next}
-use Rattle.kept.specs.Ids.{Long, ids-has, ids-lt}
+use Rattle.kept.specs.Ids.{ids-has, ids-lt}
 use Rattle.kept.specs.Rosters.{Ok}
 use Rattle.kept.specs.Pools as pools
 use Rattle.kept.specs.Runs.{candidate-member, candidate-normal}
 use Rattle.world.specs.Station.{Station}
 use Rattle.world.specs.World.{World, upd, exchanges}
-use Rattle.honest.specs.Demand.{Able, Begins, Honest, Up, Recovered, Chosen, AllHonest, Case1, Case2, Case3}
-use Rattle.roster.specs.Roster.{entered}
+use Rattle.honest.specs.Demand.{Honest, Up, Recovered, AllHonest, Case1, Case2, Case3}
+use Rattle.changes.specs.Changes.{entered}
 use Rattle.honest.proofs.Began.{some-lowest, begun-limit, begun-1, begun-2, begun-3, begun-plain, or-none}
 use Rattle.honest.proofs.Ground.{some, upd-same}
 use Rattle.honest.proofs.Stations.{Fine, fine, enabledTo, fine-enabled}

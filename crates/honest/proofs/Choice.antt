@@ -1,26 +1,26 @@
 -- Case 3: the versions asked in turn, lowest id first. The chosen has the highest version, and of those that have it the lowest id.
 use mathlib.Core.Path.{_≡_, refl, sym, ap, _∙_}
-use mathlib.Core.Bool.{Bool, true, false}
-use mathlib.Core.Logic.{_≢_}
-use Prim.Native.Nat.{ℕ, zero, suc, _+_, _≤_, _<_}
+use mathlib.Core.Bool.{true, false}
+use Prim.Native.Nat.{ℕ, _+_, _≤_, _<_}
 use native.Mathlib.Omega.{arith}
 use native.Mathlib.Decide.{ℕ-discrete}
-use lib.Dec.{eqb, ltb}
+use lib.Dec.{ltb}
 use borrow.Author.Tests.{ltb-true, ltb-false, le-ltb}
 use Rattle.laws.specs.Words.{pick}
 use Rattle.laws.specs.Tests.{by-cases, clash}
+use Rattle.refusals.specs.Limits.{answerLimit}
 use Rattle.sets.specs.Sets.{has, without, size, lowest}
-use Rattle.sets.proofs.Laws.{has-none, has-below, has-without-same, has-without-other, still, lowest-in, lowest-first, size-zero}
+use Rattle.sets.proofs.Laws.{has-none, has-without-same, has-without-other, still, lowest-in, lowest-first, size-zero}
 use Rattle.state.specs.declared.Phase.{Phase}
 use Rattle.state.specs.declared.Roster.{Roster}
 use Rattle.run.specs.declared.Next.{Next}
 use Rattle.run.specs.Run.{awaitedIn, good}
 use Rattle.world.specs.Station.{Station}
-use Rattle.world.specs.World.{upd}
 use Rattle.honest.specs.Demand.{Chosen}
 use Rattle.honest.proofs.Ground.{upd-back, some, by-left, one-fewer}
-use Rattle.honest.proofs.Stations.{Fine, asked-law}
-use Rattle.honest.proofs.Course.{Course, course, step, steps, steps-one, at, baseHead, versionsHead, counts}
+use Rattle.honest.proofs.Stations.{asked-law}
+use Rattle.run.proofs.Bound.{counted-one}
+use Rattle.honest.proofs.Course.{Course, course, step, steps, steps-one, at, baseHead, versionsHead}
 use Rattle.honest.proofs.Phases.{Fines}
 
 -- l are still to be asked; of the others src has the version best
@@ -96,14 +96,14 @@ module _ (m v c : ℕ) (ro : Roster) (f : ℕ → Station) (fs : Fines m c f) (f
   ver : ℕ → ℕ
   ver j = f j .node .version
 
-  ask-step : (best src l t u : ℕ) → t < 168 → has m (lowest l) ≡ true
+  ask-step : (best src l t u : ℕ) → t < answerLimit → has m (lowest l) ≡ true
       → step m v (course ro (Next.On (at (Phase.Versions best) src l t)) u f)
       ≡ course ro (versionsHead m (pick (ltb best (f (lowest l) .node .version)) (f (lowest l) .node .version) best) (pick (ltb best (f (lowest l) .node .version)) (lowest l) src) (without l (lowest l)) (t + 1)) (t + 1) f
   unfolding step awaitedIn good
-  ask-step best src l t u h q = rw (asked-law c (lowest l) (f (lowest l)) (fs (lowest l) q), le-ltb v (f (lowest l) .node .version) (few (lowest l) q), upd-back f (lowest l), counts t h)
+  ask-step best src l t u h q = rw (asked-law c (lowest l) (f (lowest l)) (fs (lowest l) q), le-ltb v (f (lowest l) .node .version) (few (lowest l) q), upd-back f (lowest l), counted-one t h)
 
   abbrev Asking : ℕ → Type 0
-  Asking l = (best src t : ℕ) → t + size l ≤ 168 → Inv m (λ j. f j .node .version) l best src → Chose m v ro f (size l) t (course ro (versionsHead m best src l t) t f)
+  Asking l = (best src t : ℕ) → t + size l ≤ answerLimit → Inv m (λ j. f j .node .version) l best src → Chose m v ro f (size l) t (course ro (versionsHead m best src l t) t f)
 
   ask-none : Asking 0
   unfolding steps
@@ -142,7 +142,7 @@ module _ (m v c : ℕ) (ro : Roster) (f : ℕ → Station) (fs : Fines m c f) (f
   asking = by-left Asking ask-none ask-more
 
   -- all members asked, from the beginning
-  pub choosing : (t : ℕ) → m < 65536 → lowest m < 16 → t + size m ≤ 168 → Chose m v ro f (size m) t (course ro (versionsHead m 0 (lowest m) m t) t f)
+  pub choosing : (t : ℕ) → m < 65536 → lowest m < 16 → t + size m ≤ answerLimit → Chose m v ro f (size m) t (course ro (versionsHead m 0 (lowest m) m t) t f)
   choosing t hm h few-t = asking m hm 0 (lowest m) t few-t (record {
     member = lowest-in m h;
     inside = λ j q. q;

@@ -1,35 +1,29 @@
 -- The course of a run without message numbers and refusals: each exchange is what the run's own rules say of the answer that the nodes give. Sim shows
 -- that the client's events follow it.
-use mathlib.Core.Path.{_≡_, refl, sym, ap, _∙_}
+use mathlib.Core.Path.{_≡_}
 use mathlib.Core.Bool.{Bool, true, false}
 use mathlib.Core.Logic.{_≢_}
-use mathlib.Core.List.{List, [], _∷_}
 use Prim.Native.Nat.{ℕ, zero, suc, _+_, _*_, _-_, _≤_, _<_}
 use native.Mathlib.Omega.{arith}
-use lib.Dec.{eqb, ltb}
-use borrow.Author.Tests.{lt-ltb, le-ltb}
+use lib.Dec.{eqb}
 use Rattle.laws.specs.Words.{pick}
-use Rattle.refusals.specs.Limits.{versionLimit}
-use Rattle.sets.specs.Sets.{has, without, size, lowest}
-use Rattle.sets.proofs.Laws.{lowest-in}
-use Rattle.maps.proofs.Sound.{Sound}
+use Rattle.refusals.specs.Limits.{answerLimit, versionLimit}
+use Rattle.sets.specs.Sets.{has, without, lowest}
 use Rattle.state.specs.declared.Step.{Step}
 use Rattle.state.specs.declared.Phase.{Phase}
 use Rattle.state.specs.declared.Run.{Run}
 use Rattle.state.specs.declared.Roster.{Roster}
-use Rattle.state.specs.declared.Brought.{Brought}
-use Rattle.state.specs.declared.Reply.{Reply}
-use Rattle.roster.specs.Roster.{entered}
-use Rattle.run.specs.declared.Who.{Who}
+use Rattle.changes.specs.Changes.{entered}
 use Rattle.run.specs.declared.Next.{Next}
 use Rattle.run.specs.declared.Move.{Move}
-use Rattle.run.specs.Run.{takes, good, awaitedIn, counted}
+use Rattle.run.specs.Run.{takes, good, awaitedIn}
+use Rattle.run.proofs.Bound.{counted-one}
 use Rattle.answers.specs.Answers.{enteredBy}
 use Rattle.world.specs.Station.{Station}
 use Rattle.recovery.specs.Recovery.{disabling}
-use Rattle.world.specs.World.{upd, Delivered, deliver, replyOf, tell}
-use Rattle.honest.proofs.Ground.{upd-same, upd-other, upd-upd, upd-back, some}
-use Rattle.honest.proofs.Stations.{Fine, did, readyTo, tookIn, doneTo, enabledTo, lastTo, readies-law, gives-law, asked-law, marks-law, takes-law, commits-law, enables-law, fine-ready, in-hand, fine-took, was-taken}
+use Rattle.world.specs.World.{upd, Delivered, deliver, tell}
+use Rattle.honest.proofs.Ground.{upd-same, upd-other, upd-upd, some}
+use Rattle.honest.proofs.Stations.{Fine, readyTo, tookIn, doneTo, readies-law, gives-law, takes-law, commits-law, fine-ready, in-hand, fine-took, was-taken}
 
 -- the sessions, how the run goes on, the answers taken, the nodes
 pub record Course : Type 0 where
@@ -92,9 +86,6 @@ baseHead m src l t = pick (eqb l 0) (lastHead m src m t) (Next.On (at (Phase.Bas
 abbrev pub versionsHead : ℕ → ℕ → ℕ → ℕ → ℕ → Next
 versionsHead m best src l t = pick (eqb l 0) (baseHead m src (without m src) t) (Next.On (at (Phase.Versions best) src l t))
 
-pub counts : (t : ℕ) → t < 168 → counted t ≡ t + 1
-counts t h = rw (lt-ltb t 168 h)
-
 -- ---- the three spreads
 
 pub data Kind : Type 0 where
@@ -149,36 +140,36 @@ spreadTo k m v a b = doneTo (on k) v m (tookIn (a .map) (readyTo (keep k) b))
 -- ---- one equation for each message
 
 module _ (m v c : ℕ) where
-  ready : (k : Kind) (ro : Roster) (src l t u : ℕ) (f : ℕ → Station) → t < 168 → Fine c (to k src (lowest l)) (f (to k src (lowest l)))
+  ready : (k : Kind) (ro : Roster) (src l t u : ℕ) (f : ℕ → Station) → t < answerLimit → Fine c (to k src (lowest l)) (f (to k src (lowest l)))
       → step m v (course ro (Next.On (at (phaseOf k Step.Ready) src l t)) u f)
       ≡ course ro (Next.On (at (phaseOf k Step.Send) src l (t + 1))) (t + 1) (upd f (to k src (lowest l)) (readyTo (keep k) (f (to k src (lowest l)))))
   unfolding step awaitedIn good
-  ready base ro src l t u f h a = rw (readies-law c (lowest l) false (f (lowest l)) a, counts t h)
-  ready gather ro src l t u f h a = rw (readies-law c src true (f src) a, counts t h)
-  ready spread ro src l t u f h a = rw (readies-law c (lowest l) false (f (lowest l)) a, counts t h)
+  ready base ro src l t u f h a = rw (readies-law c (lowest l) false (f (lowest l)) a, counted-one t h)
+  ready gather ro src l t u f h a = rw (readies-law c src true (f src) a, counted-one t h)
+  ready spread ro src l t u f h a = rw (readies-law c (lowest l) false (f (lowest l)) a, counted-one t h)
 
-  send : (k : Kind) (ro : Roster) (src l t u : ℕ) (f : ℕ → Station) → t < 168
+  send : (k : Kind) (ro : Roster) (src l t u : ℕ) (f : ℕ → Station) → t < answerLimit
       → Fine c (from k src (lowest l)) (f (from k src (lowest l))) → Fine c (to k src (lowest l)) (f (to k src (lowest l)))
       → Rattle.nodestate.specs.States.inHand (f (to k src (lowest l)) .node .transfer) ≡ true
       → step m v (course ro (Next.On (at (phaseOf k Step.Send) src l t)) u f)
       ≡ course ro (Next.On (at (phaseOf k Step.Done) src l (t + 1))) (t + 1) (upd f (to k src (lowest l)) (tookIn (f (from k src (lowest l)) .map) (f (to k src (lowest l)))))
   unfolding step awaitedIn good
-  send base ro src l t u f h a b i = rw (gives-law c src (f src) a, takes-law c (lowest l) (f src .map) (f (lowest l)) b i (a .map), counts t h)
-  send gather ro src l t u f h a b i = rw (gives-law c (lowest l) (f (lowest l)) a, takes-law c src (f (lowest l) .map) (f src) b i (a .map), counts t h)
-  send spread ro src l t u f h a b i = rw (gives-law c src (f src) a, takes-law c (lowest l) (f src .map) (f (lowest l)) b i (a .map), counts t h)
+  send base ro src l t u f h a b i = rw (gives-law c src (f src) a, takes-law c (lowest l) (f src .map) (f (lowest l)) b i (a .map), counted-one t h)
+  send gather ro src l t u f h a b i = rw (gives-law c (lowest l) (f (lowest l)) a, takes-law c src (f (lowest l) .map) (f src) b i (a .map), counted-one t h)
+  send spread ro src l t u f h a b i = rw (gives-law c src (f src) a, takes-law c (lowest l) (f src .map) (f (lowest l)) b i (a .map), counted-one t h)
 
   module _ (hv : v ≤ versionLimit) (hm : m < 65536) where
-    finish : (k : Kind) (ro : Roster) (src l t u : ℕ) (f : ℕ → Station) → t < 168 → Fine c (to k src (lowest l)) (f (to k src (lowest l)))
+    finish : (k : Kind) (ro : Roster) (src l t u : ℕ) (f : ℕ → Station) → t < answerLimit → Fine c (to k src (lowest l)) (f (to k src (lowest l)))
         → Rattle.nodestate.specs.States.isTaken (f (to k src (lowest l)) .node .transfer) ≡ true → has m (to k src (lowest l)) ≡ true
         → step m v (course ro (Next.On (at (phaseOf k Step.Done) src l t)) u f)
         ≡ course (ups k ro (lowest l)) (headOf k m src (without l (lowest l)) (t + 1)) (t + 1) (upd f (to k src (lowest l)) (doneTo (on k) v m (f (to k src (lowest l)))))
     unfolding step awaitedIn good
-    finish base ro src l t u f h a i own = rw (commits-law c (lowest l) false v m (f (lowest l)) a i hv hm own, counts t h)
-    finish gather ro src l t u f h a i own = rw (commits-law c src false v m (f src) a i hv hm own, counts t h)
-    finish spread ro src l t u f h a i own = rw (commits-law c (lowest l) true v m (f (lowest l)) a i hv hm own, counts t h)
+    finish base ro src l t u f h a i own = rw (commits-law c (lowest l) false v m (f (lowest l)) a i hv hm own, counted-one t h)
+    finish gather ro src l t u f h a i own = rw (commits-law c src false v m (f src) a i hv hm own, counted-one t h)
+    finish spread ro src l t u f h a i own = rw (commits-law c (lowest l) true v m (f (lowest l)) a i hv hm own, counted-one t h)
 
     -- three exchanges serve the one in hand
-    pub three : (k : Kind) (ro : Roster) (src l t u : ℕ) (f : ℕ → Station) → t + 2 < 168
+    pub three : (k : Kind) (ro : Roster) (src l t u : ℕ) (f : ℕ → Station) → t + 2 < answerLimit
         → Fine c (from k src (lowest l)) (f (from k src (lowest l))) → Fine c (to k src (lowest l)) (f (to k src (lowest l)))
         → from k src (lowest l) ≢ to k src (lowest l) → has m (to k src (lowest l)) ≡ true
         → step m v (step m v (step m v (course ro (Next.On (at (phaseOf k Step.Ready) src l t)) u f)))

@@ -1,26 +1,21 @@
 -- From the course of a run to the client's and the nodes' states: how a world begins a run, and what its end says.
 use mathlib.Core.Path.{_≡_, refl, sym, ap, _∙_}
-use mathlib.Core.Bool.{Bool, true, false, not}
+use mathlib.Core.Bool.{true, false}
 use mathlib.Core.List.{List}
-use Prim.Native.Nat.{ℕ, zero, suc, _+_, _*_, _/_, _≤_, _<_}
+use Prim.Native.Nat.{ℕ, zero, _+_, _*_, _<_}
 use native.Mathlib.Omega.{arith}
 use lib.ListN.{length, getD}
-use Rattle.laws.specs.Tests.{clash}
 use Rattle.sets.specs.Sets.{has, size}
 use Rattle.maps.specs.Map.{kept}
 use Rattle.maps.proofs.Sound.{Sound, sound-kept}
 use Rattle.state.specs.declared.State.{State}
 use Rattle.state.specs.declared.Run.{Run}
 use Rattle.state.specs.declared.Roster.{Roster}
-use Rattle.state.specs.declared.Job.{Job}
 use Rattle.state.specs.declared.Pool.{Pool}
 use Rattle.state.specs.declared.Outcome.{Outcome}
-use Rattle.state.specs.declared.Sent.{Sent}
-use Rattle.state.specs.declared.Reply.{Reply}
 use Rattle.roster.specs.Roster.{sessionAt}
 use Rattle.run.specs.declared.Next.{Next}
 use Rattle.run.specs.Run.{awaitedIn}
-use Rattle.run.proofs.Bound.{Carries}
 use Rattle.rules.specs.Rules.{validPool}
 use Rattle.rules.specs.Jobs.{isRunning}
 use Rattle.recovery.specs.declared.Posted.{Posted}
@@ -33,13 +28,13 @@ use Rattle.kept.specs.Pools as pools
 use Rattle.kept.specs.Tried.{tried-keeps}
 use Rattle.nodestate.specs.declared.State as node
 use Rattle.world.specs.Station.{Station}
-use Rattle.world.specs.World.{World, exchange, exchanges}
-use Rattle.honest.specs.Demand.{Able, Begins, Up, Copied, Recovered}
+use Rattle.world.specs.World.{World, exchanges}
+use Rattle.honest.specs.Demand.{Begins, Up, Copied, Recovered}
 use Rattle.honest.proofs.Began.{begun-plain}
 use Rattle.honest.proofs.Bytes.{kept-in, kept-out}
-use Rattle.honest.proofs.Course.{Course, course, step, steps}
+use Rattle.honest.proofs.Course.{Course, course, steps}
 use Rattle.honest.proofs.Spread.{Served, Spreads}
-use Rattle.honest.proofs.Sim.{jobOf, awaitedOf, poolOf, worldOf, Whole, run-numbered, Sim, Keeps, sim-steps}
+use Rattle.honest.proofs.Sim.{jobOf, poolOf, Whole, run-numbered, Sim, Keeps, sim-steps}
 use Rattle.honest.proofs.Exact.{Tied, not-before}
 
 -- every answer keeps the state rules

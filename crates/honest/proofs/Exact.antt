@@ -5,7 +5,6 @@ use Prim.Native.Nat.{ℕ, zero, suc, _+_, _-_, _≤_, _<_}
 use native.Mathlib.Omega.{arith}
 use lib.Dec.{eqb, ltb}
 use Rattle.laws.specs.Words.{pick}
-use Rattle.laws.specs.Tests.{clash}
 use Rattle.sets.specs.Sets.{without}
 use Rattle.state.specs.declared.Step.{Step}
 use Rattle.state.specs.declared.Phase.{Phase}
@@ -15,20 +14,13 @@ use Rattle.state.specs.declared.Brought.{Brought}
 use Rattle.state.specs.declared.Reply.{Reply}
 use Rattle.run.specs.declared.Next.{Next}
 use Rattle.run.specs.declared.Move.{Move}
-use Rattle.run.specs.Run.{hand, rest, counted, go, ahead, toSpread, toGather, toLast, toBase, toVersions, wentOn, becameNormal, ended, passedOver, failedAt, failed, versionBrought, baseNext, gatherNext, spreadGood, goodAt, good, takes, awaitedIn}
-use Rattle.run.proofs.Bound.{Carries}
+use Rattle.run.specs.Run.{hand, rest, counted, toSpread, toGather, toLast, toBase, toVersions, wentOn, failedAt, failed, versionBrought, goodAt, good, takes, awaitedIn}
+use Rattle.run.proofs.Bound.{counted-most, Carries}
 use Rattle.world.specs.Station.{Station}
 use Rattle.world.specs.World.{deliver}
 use Rattle.honest.proofs.Course.{Course, course, step, steps, steps-add}
 
 -- ---- one answer raises the count by at most one
-
-counted-le : (t : ℕ) → counted t ≤ t + 1
-counted-le t = at (ltb t 168)
-  where
-    at : (b : Bool) → pick b (t + 1) t ≤ t + 1
-    at true = omega arith
-    at false = omega arith
 
 either : (t : ℕ) (b : Bool) (x y : Next) → Carries t x → Carries t y → Carries t (pick b x y)
 either t true x y p q = p
@@ -110,7 +102,7 @@ step-at m v ro Next.Over t f h = record { most = omega arith; tied = tt }
 step-at m v ro (Next.On r) t f h =
     let a = takes-raised m v r (deliver (awaitedIn m v r) f .reply) in
     record {
-      most = omega (arith, a .count, counted-le (r .taken), h);
+      most = omega (arith, a .count, counted-most (r .taken), h);
       tied = carry (takes m v r (deliver (awaitedIn m v r) f .reply) .next) (counted (r .taken)) _ (sym (a .count)) (a .carries);
     }
 

@@ -1,16 +1,14 @@
 -- Laws of one place changed, of tests, and the induction over a set. Assumes nothing.
-use mathlib.Core.Path.{_≡_, refl, sym, ap, _∙_, fun-ext}
+use mathlib.Core.Path.{_≡_, refl, ap, _∙_, fun-ext}
 use mathlib.Core.Bool.{Bool, true, false}
 use mathlib.Core.Logic.{_≢_}
-use Prim.Native.Nat.{ℕ, zero, suc, _+_, _≤_, _<_}
-use native.Mathlib.Omega.{arith}
-use native.Mathlib.Decide.{ℕ-discrete}
-use lib.Dec.{eqb, ltb}
-use borrow.Author.Tests.{eq-eqb, ne-eqb, eqb-true, lt-ltb}
+use Prim.Native.Nat.{ℕ, _+_, _<_}
+use lib.Dec.{eqb}
+use borrow.Author.Tests.{eq-eqb, ne-eqb, eqb-true}
 use Rattle.laws.specs.Words.{pick}
 use Rattle.laws.specs.Tests.{by-cases, clash}
 use Rattle.sets.specs.Sets.{has, without, size, lowest}
-use Rattle.sets.proofs.Laws.{has-none, has-without-same, has-without-other, still, without-lt, empty-set, lowest-in, by-lowest, size-zero, size-without}
+use Rattle.sets.proofs.Laws.{has-none, still, without-lt, empty-set, lowest-in, by-lowest, size-without}
 use Rattle.world.specs.Station.{Station}
 use Rattle.world.specs.World.{upd}
 

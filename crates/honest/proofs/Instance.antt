@@ -1,23 +1,23 @@
 -- The hypotheses can be met: a pool of two members and eight chunks, in each of the three cases, with nodes whose maps hold marks of a member and of an id
 -- that is no member.
-use mathlib.Core.Path.{_≡_, refl, sym, ap, _∙_}
+use mathlib.Core.Path.{_≡_, refl}
 use mathlib.Core.Bool.{Bool, true, false}
 use mathlib.Core.Logic.{_≢_}
-use mathlib.Core.List.{List, [], _∷_}
-use Prim.Native.Nat.{ℕ, zero, suc, _+_, _*_, _-_, _≤_, _<_}
+use mathlib.Core.List.{List, _∷_}
+use Prim.Native.Nat.{ℕ, _-_, _≤_, _<_}
 use native.Mathlib.Omega.{arith}
 use lib.Dec.{leb, eqb, lit≤, lit<}
-use lib.ListN.{length, getD, replicate}
+use lib.ListN.{replicate}
 use Rattle.laws.specs.Words.{pick, bit}
-use Rattle.laws.specs.Tests.{clash, and-both}
+use Rattle.laws.specs.Tests.{and-both}
 use Rattle.refusals.specs.Limits.{versionTop}
 use Rattle.sets.specs.Sets.{has, with, without, size, lowest}
 use Rattle.sets.proofs.Laws.{still}
-use Rattle.maps.specs.Map.{sound, marked, cleanFrom, spare, room}
+use Rattle.chunks.specs.Chunk.{marked}
+use Rattle.maps.specs.Map.{sound, cleanFrom, spare, room}
 use Rattle.maps.proofs.Sound.{Sound, sound-fact, sound-test, sound-marked}
 use Rattle.state.specs.declared.State.{State}
 use Rattle.state.specs.declared.Session.{Session}
-use Rattle.state.specs.declared.Roster.{Roster}
 use Rattle.state.specs.declared.Run.{Run}
 use Rattle.state.specs.declared.Job.{Job}
 use Rattle.state.specs.declared.Pool.{Pool}
@@ -29,16 +29,15 @@ use Rattle.roster.specs.declared.Kind.{Kind}
 use Rattle.roster.specs.Roster.{idsOf}
 use Rattle.run.specs.declared.Next.{Next}
 use Rattle.run.specs.Still.{possible}
-use Rattle.rules.specs.Rules.{rosterOk, allAsked, oneAsked, runOk, validPool}
+use Rattle.rules.specs.Rules.{rosterOk, runOk, validPool}
 use Rattle.recovery.specs.Cases.{caseOf, begun}
 use Rattle.recovery.specs.Recovery.{tried}
 use Rattle.nodestate.specs.declared.State as node
 use Rattle.nodestate.specs.declared.Transfer.{Transfer}
-use Rattle.nodestate.specs.declared.Node.{Node}
-use Rattle.nodestate.specs.Rules.{keptOk, valid}
+use Rattle.nodestate.specs.StateRules.{keptOk, valid}
 use Rattle.world.specs.Station.{Station}
 use Rattle.world.specs.World.{World}
-use Rattle.honest.specs.Demand.{Able, Begins, Honest, AllHonest, Case1, Case2, Case3}
+use Rattle.honest.specs.Demand.{Able, Begins, Case1, Case2, Case3}
 use Rattle.honest.proofs.Cases.{case-1, case-2, case-3}
 
 -- ---- the pool: sessions 0 and 1, members both, eight chunks, version 4

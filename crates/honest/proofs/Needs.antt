@@ -1,14 +1,10 @@
 -- The hypotheses are needed: where one does not hold, an awaited answer is a failed one or is refused, and nobody becomes NORMAL by it.
-use mathlib.Core.Path.{_≡_, refl, sym, ap, _∙_}
-use mathlib.Core.Bool.{Bool, true, false, not}
-use mathlib.Core.List.{List, [], _∷_}
-use Prim.Native.Nat.{ℕ, _≤_, _<_}
-use native.Mathlib.Omega.{arith}
-use lib.Dec.{eqb, ltb}
-use borrow.Author.Tests.{lt-ltb, le-ltb}
-use Rattle.laws.specs.Words.{pick}
+use mathlib.Core.Path.{_≡_, refl}
+use mathlib.Core.Bool.{Bool, true, false}
+use Prim.Native.Nat.{ℕ, _<_}
+use lib.Dec.{ltb}
+use borrow.Author.Tests.{lt-ltb}
 use Rattle.sets.specs.Sets.{has}
-use Rattle.maps.specs.Map.{sound}
 use Rattle.state.specs.declared.Phase.{Phase}
 use Rattle.state.specs.declared.Run.{Run}
 use Rattle.state.specs.declared.Pool.{Pool}
@@ -22,10 +18,10 @@ use Rattle.exits.specs.Exit as exits
 use Rattle.answers.specs.Answers.{answerRefusal, answer}
 use Rattle.nodestate.specs.declared.Answer.{Answer}
 use Rattle.nodestate.specs.States.{isServing}
-use Rattle.nodestate.specs.Rules.{valid}
+use Rattle.nodestate.specs.StateRules.{valid}
 use Rattle.nodestate.specs.Turns.{settled}
-use Rattle.transfer.specs.Serve.{serveRefusal, mapReady, give}
-use Rattle.transfer.specs.Hand.{mapDoneRefusal, mapDone}
+use Rattle.nodeserve.specs.Serve.{serveRefusal, mapReady, give}
+use Rattle.nodehand.specs.Hand.{mapDoneRefusal, mapDone}
 use Rattle.node.specs.Events.{Event}
 use Rattle.world.specs.Station.{Station, bothSound, does}
 

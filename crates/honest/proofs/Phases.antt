@@ -1,26 +1,24 @@
 -- The phases of case 3 between the choice of the source and its enabling, among honest nodes: each comes to its end, and leaves every member's node honest.
 use mathlib.Core.Path.{_≡_, refl, sym, ap, _∙_}
-use mathlib.Core.Bool.{Bool, true, false}
+use mathlib.Core.Bool.{true, false}
 use mathlib.Core.Logic.{_≢_}
-use Prim.Native.Nat.{ℕ, zero, suc, _+_, _*_, _-_, _≤_, _<_}
+use Prim.Native.Nat.{ℕ, _+_, _*_, _-_, _≤_, _<_}
 use native.Mathlib.Omega.{arith}
 use native.Mathlib.Decide.{ℕ-discrete}
-use lib.Dec.{eqb, ltb}
-use Rattle.laws.specs.Words.{pick}
 use Rattle.laws.specs.Tests.{clash}
-use Rattle.refusals.specs.Limits.{versionLimit}
+use Rattle.refusals.specs.Limits.{answerLimit, versionLimit}
 use Rattle.sets.specs.Sets.{has, without, size, lowest}
-use Rattle.sets.proofs.Laws.{has-below, has-without-same, still, without-lt, lowest-in, size-zero, size-le}
-use Rattle.state.specs.declared.Step.{Step}
+use Rattle.sets.proofs.Laws.{has-below, has-without-same, still, without-lt, lowest-in, size-zero}
 use Rattle.state.specs.declared.Phase.{Phase}
 use Rattle.state.specs.declared.Roster.{Roster}
 use Rattle.run.specs.declared.Next.{Next}
 use Rattle.run.specs.Run.{awaitedIn, good}
 use Rattle.world.specs.Station.{Station}
 use Rattle.world.specs.World.{upd}
-use Rattle.honest.proofs.Ground.{upd-same, upd-other, not-in, out-still, some, by-left, one-fewer}
+use Rattle.honest.proofs.Ground.{upd-same, upd-other, out-still, some, by-left, one-fewer}
 use Rattle.honest.proofs.Stations.{Fine, lastTo, marks-law, fine-last, fine-done}
-use Rattle.honest.proofs.Course.{Course, course, step, steps, steps-add, steps-one, steps-three, at, gatherHead, lastHead, baseHead, counts, Kind, base, gather, spread, phaseOf, from, to, keep, on, ups, headOf, head-some, spreadTo, three}
+use Rattle.run.proofs.Bound.{counted-one}
+use Rattle.honest.proofs.Course.{Course, course, step, steps, steps-add, steps-one, steps-three, at, gatherHead, lastHead, baseHead, Kind, base, gather, spread, from, to, keep, on, ups, headOf, head-some, spreadTo, three}
 
 -- every member's node is honest
 abbrev pub Fines : ℕ → ℕ → (ℕ → Station) → Type 0
@@ -85,7 +83,7 @@ pub record Round (m src l : ℕ) : Type 0 where
 module _ (m v c : ℕ) (hv : v ≤ versionLimit) (hm : m < 65536) (src : ℕ) (own : has m src ≡ true) (ro : Roster) where
   module _ (k : Kind) (quiet : (x : ℕ) → ups k ro x ≡ ro) (last : (t : ℕ) → headOf k m src 0 t ≡ nextOf k m src t) where
     abbrev pub Looping : ℕ → Type 0
-    Looping l = (t : ℕ) (f : ℕ → Station) → t + 3 * size l ≤ 168 → Round m src l → Fines m c f
+    Looping l = (t : ℕ) (f : ℕ → Station) → t + 3 * size l ≤ answerLimit → Round m src l → Fines m c f
         → Passed m v c ro (nextOf k m src) (3 * size l) t (course ro (headOf k m src l t) t f)
 
     loop-none : Looping 0
@@ -140,13 +138,13 @@ module _ (m v c : ℕ) (hv : v ≤ versionLimit) (hm : m < 65536) (src : ℕ) (o
     loop = by-left Looping loop-none loop-more
 
   -- ---- LAST_IO_TO_MAP: one exchange for each
-  mark-step : (l t u : ℕ) (f : ℕ → Station) → t < 168 → src < 16 → Fine c (lowest l) (f (lowest l))
+  mark-step : (l t u : ℕ) (f : ℕ → Station) → t < answerLimit → src < 16 → Fine c (lowest l) (f (lowest l))
       → step m v (course ro (Next.On (at Phase.LastIo src l t)) u f) ≡ course ro (lastHead m src (without l (lowest l)) (t + 1)) (t + 1) (upd f (lowest l) (lastTo src (f (lowest l))))
   unfolding step awaitedIn good
-  mark-step l t u f h b a = rw (marks-law c (lowest l) src (f (lowest l)) a b, counts t h)
+  mark-step l t u f h b a = rw (marks-law c (lowest l) src (f (lowest l)) a b, counted-one t h)
 
   abbrev pub Marking : ℕ → Type 0
-  Marking l = (t : ℕ) (f : ℕ → Station) → t + size l ≤ 168 → ((j : ℕ) → has l j ≡ true → has m j ≡ true) → Fines m c f
+  Marking l = (t : ℕ) (f : ℕ → Station) → t + size l ≤ answerLimit → ((j : ℕ) → has l j ≡ true → has m j ≡ true) → Fines m c f
       → Passed m v c ro (gatherHead m src (without m src)) (size l) t (course ro (lastHead m src l t) t f)
 
   mark-none : Marking 0
@@ -180,7 +178,7 @@ module _ (m v c : ℕ) (hv : v ≤ versionLimit) (hm : m < 65536) (src : ℕ) (o
   marking = by-left Marking mark-none mark-more
 
   -- ---- the three phases: from the choice of the source to its enabling
-  pub middle : (t : ℕ) (f : ℕ → Station) → t + (3 * size (without m src) + (size m + 3 * size (without m src))) ≤ 168 → Fines m c f
+  pub middle : (t : ℕ) (f : ℕ → Station) → t + (3 * size (without m src) + (size m + 3 * size (without m src))) ≤ answerLimit → Fines m c f
       → Passed m v c ro (λ q. Next.On (at Phase.Enable src (without m src) q)) (3 * size (without m src) + (size m + 3 * size (without m src))) t (course ro (baseHead m src (without m src) t) t f)
   middle t f few fs =
       both m v c ro (λ q. lastHead m src m q) (λ q. Next.On (at Phase.Enable src (without m src) q)) (3 * size o) (size m + 3 * size o) t (course ro (baseHead m src o t) t f)

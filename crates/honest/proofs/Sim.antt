@@ -1,10 +1,8 @@
 -- The client's events follow the course of a run: no answer of an honest run is refused.
 use mathlib.Core.Path.{_≡_, refl, sym, ap, _∙_}
-use mathlib.Core.Bool.{Bool, true, false, not}
-use mathlib.Core.List.{List, [], _∷_}
-use Prim.Native.Nat.{ℕ, zero, suc, _+_, _≤_, _<_}
-use native.Mathlib.Omega.{arith}
-use lib.Dec.{eqb, ltb}
+use mathlib.Core.Bool.{Bool, true, false}
+use mathlib.Core.List.{List}
+use Prim.Native.Nat.{ℕ, zero, suc, _<_}
 use borrow.Author.Tests.{eq-eqb}
 use Rattle.laws.specs.Words.{pick}
 use Rattle.maps.specs.Map.{sound}
@@ -21,7 +19,8 @@ use Rattle.state.specs.declared.Told.{Told}
 use Rattle.state.specs.declared.Outcome.{Outcome}
 use Rattle.state.specs.declared.Reply.{Reply}
 use Rattle.state.specs.Session.{moved}
-use Rattle.roster.specs.Roster.{sessionAt, stored, allUnmarked, numbered, more, entered}
+use Rattle.roster.specs.Roster.{sessionAt, stored}
+use Rattle.changes.specs.Changes.{allUnmarked, numbered, more, entered}
 use Rattle.run.specs.declared.Who.{Who}
 use Rattle.run.specs.declared.Next.{Next}
 use Rattle.run.specs.declared.Move.{Move}

@@ -3,34 +3,31 @@ use mathlib.Core.Path.{_≡_, refl, sym, ap, _∙_}
 use mathlib.Core.Bool.{Bool, true, false}
 use mathlib.Core.Logic.{_≢_}
 use mathlib.Core.List.{List}
-use Prim.Native.Nat.{ℕ, zero, suc, _+_, _*_, _-_, _≤_, _<_}
+use Prim.Native.Nat.{ℕ, _+_, _*_, _-_, _≤_, _<_}
 use native.Mathlib.Omega.{arith}
 use native.Mathlib.Decide.{ℕ-discrete}
-use lib.Dec.{eqb, ltb}
 use Rattle.laws.specs.Words.{pick}
-use Rattle.laws.specs.Tests.{by-cases, clash}
-use Rattle.refusals.specs.Limits.{versionLimit}
+use Rattle.laws.specs.Tests.{clash}
+use Rattle.refusals.specs.Limits.{answerLimit, versionLimit}
 use Rattle.sets.specs.Sets.{has, without, size, lowest}
-use Rattle.sets.proofs.Laws.{has-none, has-below, has-without-same, has-without-other, still, lowest-in, size-zero}
+use Rattle.sets.proofs.Laws.{has-none, has-without-same, has-without-other, still, lowest-in, size-zero}
 use Rattle.maps.specs.Map.{kept}
 use Rattle.state.specs.declared.State.{State}
-use Rattle.state.specs.declared.Step.{Step}
-use Rattle.state.specs.declared.Phase.{Phase}
 use Rattle.state.specs.declared.Session.{Session}
 use Rattle.state.specs.declared.Roster.{Roster}
 use Rattle.state.specs.Session.{moved}
 use Rattle.nodestate.specs.declared.State as node
 use Rattle.nodestate.specs.Change as change
-use Rattle.roster.specs.Roster.{sessionAt, stored, allUnmarked, numbered, more, entered}
+use Rattle.roster.specs.Roster.{sessionAt, stored}
+use Rattle.changes.specs.Changes.{allUnmarked, numbered, more, entered}
 use Rattle.run.specs.declared.Next.{Next}
 use Rattle.kept.specs.Ids.{Long, stored-long, stored-same, stored-other, unmarked-long, unmarked-at}
-use Rattle.transfer.specs.Serve.{readied}
-use Rattle.transfer.specs.Hand.{taken, committed}
+use Rattle.nodehand.specs.Hand.{taken, committed}
 use Rattle.world.specs.Station.{Station}
 use Rattle.world.specs.World.{upd}
 use Rattle.honest.proofs.Ground.{upd-same, upd-other, not-in, out-still, by-left, one-fewer}
-use Rattle.honest.proofs.Stations.{Fine, doneTo, tookIn, readyTo, copy-law, fine-done}
-use Rattle.honest.proofs.Course.{Course, course, step, steps, steps-three, at, spreadHead, head-some, Kind, base, gather, spread, spreadTo, three}
+use Rattle.honest.proofs.Stations.{Fine, copy-law}
+use Rattle.honest.proofs.Course.{Course, course, steps, steps-three, at, spreadHead, head-some, spread, spreadTo, three}
 
 -- ---- a session enters NORMAL
 
@@ -92,12 +89,12 @@ pub record Spreads (m v c src l t : ℕ) (ro : Roster) (f : ℕ → Station) (e 
   pub same-node : (j : ℕ) → has l j ≡ false → e .nodes j ≡ f j
 
 serve-law : (m v c x : ℕ) (a b : Station) (src : ℕ) → Fine c src a → Fine c x b → Served m v (a .map) (spreadTo spread m v a b)
-unfolding committed change.instructed change.storedVersion change.tookOver change.endedTransfer change.transferred change.moved
+unfolding committed change.instructed change.storedVersion change.takenOver change.endedTransfer change.transferred change.moved
 serve-law m v c x a b src ha hb = record { normal = refl; version = refl; members = refl; map = copy-law c x true v m (a .map) b hb (ha .map) }
 
 module _ (m v c : ℕ) (hv : v ≤ versionLimit) (hm : m < 65536) (src : ℕ) where
   abbrev pub Spreading : ℕ → Type 0
-  Spreading l = (ro : Roster) (t : ℕ) (f : ℕ → Station) → Long ro → t + 3 * size l ≤ 168 → CanSpread m c src l f
+  Spreading l = (ro : Roster) (t : ℕ) (f : ℕ → Station) → Long ro → t + 3 * size l ≤ answerLimit → CanSpread m c src l f
       → Spreads m v c src l t ro f (steps m v (3 * size l) (course ro (spreadHead src l t) t f))
 
   spread-none : Spreading 0

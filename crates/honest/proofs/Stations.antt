@@ -1,36 +1,34 @@
 -- Laws of one honest node: it takes each message of a run, and is honest after it.
-use mathlib.Core.Path.{_≡_, refl, sym, ap, _∙_}
+use mathlib.Core.Path.{_≡_, refl, sym, _∙_}
 use mathlib.Core.Bool.{Bool, true, false, not, _&&_, _||_}
-use mathlib.Core.List.{List, [], _∷_}
+use mathlib.Core.List.{List}
 use Prim.Native.Nat.{ℕ, zero, suc, _+_, _≤_, _<_}
 use native.Mathlib.Omega.{arith}
-use lib.Dec.{eqb, ltb, leb}
-use lib.ListN.{length, getD}
-use borrow.Author.Tests.{le-ltb, le-leb, ltb-true}
+use lib.Dec.{eqb, ltb}
+use lib.ListN.{getD}
+use borrow.Author.Tests.{le-ltb}
 use Rattle.laws.specs.Words.{pick}
 use Rattle.laws.specs.Loops.{runAt}
-use Rattle.laws.specs.Tests.{by-cases, clash, and-left, and-right, and-both}
+use Rattle.laws.specs.Tests.{clash, and-left, and-right, and-both}
 use Rattle.refusals.specs.Limits.{versionLimit, versionTop}
-use Rattle.refusals.specs.Refusals.{refusal, test}
 use Rattle.sets.specs.Sets.{has, without}
-use Rattle.maps.specs.Map.{sound, copied, kept, zeroed, orIn, markedFor, dirty}
+use Rattle.chunks.specs.Chunk.{markedFor, dirty}
+use Rattle.maps.specs.Map.{sound, copied, kept, zeroed, orIn}
 use Rattle.maps.proofs.Sound.{Sound, sound-fact, sound-test, sound-or, sound-copied, sound-zeroed, sound-kept, sound-markedFor}
 use Rattle.maps.proofs.Rows.{copied-all, or-into-zero}
 use Rattle.nodestate.specs.declared.State.{State}
 use Rattle.nodestate.specs.declared.Transfer.{Transfer}
-use Rattle.nodestate.specs.declared.OnMap.{OnMap}
-use Rattle.nodestate.specs.declared.OnStaging.{OnStaging}
 use Rattle.nodestate.specs.declared.Answer.{Answer}
 use Rattle.nodestate.specs.declared.Node.{Node}
-use Rattle.nodestate.specs.States.{isEmpty, isRegistered, isNoIo, isJoined, isServing, inHand, isTaken}
-use Rattle.nodestate.specs.Change.{moved, transferred, endedTransfer, instructed, storedVersion, tookOver}
-use Rattle.nodestate.specs.Rules.{standing, storeOk, valid, keptOk, isKept}
+use Rattle.nodestate.specs.States.{isJoined, isServing, inHand, isTaken}
+use Rattle.nodestate.specs.Change.{moved, transferred, endedTransfer, instructed, storedVersion, takenOver}
+use Rattle.nodestate.specs.StateRules.{standing, valid, keptOk, isKept}
 use Rattle.nodestate.specs.Turns.{settled}
-use Rattle.nodestate.proofs.Valid.{Valid, valid-facts, valid-of, kept-below}
+use Rattle.nodestate.proofs.Valid.{valid-facts, valid-of, kept-below}
 use Rattle.nodemaps.specs.Carry.{mapAfter, stagingAfter, takenIn, lastIos, lastIoAt, lastIo}
-use Rattle.transfer.specs.Serve.{serveRefusal, readied, fills, mapReady, give, mapGetVer, lastIoRefusal, lastIoToMap}
-use Rattle.transfer.specs.Hand.{handRefusal, taken, take, mapDoneRefusal, committed, mapDone}
-use Rattle.service.specs.Enable.{enable1Refusal, enabled, enable1}
+use Rattle.nodeserve.specs.Serve.{serveRefusal, readied, mapReady, give, mapGetVer, lastIoRefusal, lastIoToMap}
+use Rattle.nodehand.specs.Hand.{handRefusal, taken, take, mapDoneRefusal, committed, mapDone}
+use Rattle.nodeenables.specs.Enable.{enable1Refusal, enabled, enable1}
 use Rattle.node.specs.Events.{Event}
 use Rattle.node.specs.Face.{mapBy, stagingBy}
 use Rattle.world.specs.Station.{Station, Did, bothSound, does}
@@ -164,30 +162,30 @@ valid-taken c j n k =
     let r = core-taken c j (readied n) (core-ready c j n k) in
     valid-core c j (taken (readied n)) r (stand-in-hand (n .store) (n .create) (has (n .members) (n .id)) Transfer.Taken (k .own) (k .plain) (k .store))
 
-stand-done : (on store create own : Bool) → own ≡ true → create ≡ false → store ≡ true → standing (Rattle.transfer.specs.Hand.doneTo on State.NoIo) store create Transfer.Nothing own ≡ true
+stand-done : (on store create own : Bool) → own ≡ true → create ≡ false → store ≡ true → standing (Rattle.nodehand.specs.Hand.doneTo on State.NoIo) store create Transfer.Nothing own ≡ true
 stand-done true store create own o p s = rw (o, p, s) refl
 stand-done false store create own o p s = rw (o, p) refl
 
-joined-done : (on : Bool) → isJoined (Rattle.transfer.specs.Hand.doneTo on State.NoIo) ≡ true
+joined-done : (on : Bool) → isJoined (Rattle.nodehand.specs.Hand.doneTo on State.NoIo) ≡ true
 joined-done true = refl
 joined-done false = refl
 
 core-done : (c j : ℕ) (n : Node) (on : Bool) (v m : ℕ) → Core c j n → v ≤ versionLimit → m < 65536 → has m j ≡ true → Core c j (committed (taken (readied n)) on v m)
-unfolding committed instructed storedVersion tookOver endedTransfer taken readied transferred moved keptOk
+unfolding committed instructed storedVersion takenOver endedTransfer taken readied transferred moved keptOk
 core-done c j n on v m k hv hm own = record { id = k .id; below = k .below; chunks = k .chunks; some = k .some; few = k .few; own = rw (k .id) own; plain = k .plain; store = k .store; joined = joined-done on; ids = hm; top = omega arith; keeps = k .keeps }
 
 valid-done : (c j : ℕ) (n : Node) (on : Bool) (v m : ℕ) → Core c j n → v ≤ versionLimit → m < 65536 → has m j ≡ true → valid (committed (taken (readied n)) on v m) ≡ true
-unfolding committed instructed storedVersion tookOver endedTransfer taken readied transferred moved
+unfolding committed instructed storedVersion takenOver endedTransfer taken readied transferred moved
 valid-done c j n on v m k hv hm own =
     valid-core c j (committed (taken (readied n)) on v m) (core-done c j n on v m k hv hm own)
     (stand-done on (n .store) (n .create) (has m (n .id)) (rw (k .id) own) (k .plain) (k .store))
 
 core-enabled : (c j : ℕ) (n : Node) (v m : ℕ) → Core c j n → v ≤ versionLimit → m < 65536 → has m j ≡ true → Core c j (enabled n v m)
-unfolding enabled instructed storedVersion tookOver endedTransfer transferred moved keptOk
+unfolding enabled instructed storedVersion takenOver endedTransfer transferred moved keptOk
 core-enabled c j n v m k hv hm own = record { id = k .id; below = k .below; chunks = k .chunks; some = k .some; few = k .few; own = rw (k .id) own; plain = k .plain; store = k .store; joined = refl; ids = hm; top = omega arith; keeps = k .keeps }
 
 valid-enabled : (c j : ℕ) (n : Node) (v m : ℕ) → Core c j n → v ≤ versionLimit → m < 65536 → has m j ≡ true → valid (enabled n v m) ≡ true
-unfolding enabled instructed storedVersion tookOver endedTransfer transferred moved
+unfolding enabled instructed storedVersion takenOver endedTransfer transferred moved
 valid-enabled c j n v m k hv hm own =
     valid-core c j (enabled n v m) (core-enabled c j n v m k hv hm own)
     (stand-done true (n .store) (n .create) (has m (n .id)) (rw (k .id) own) (k .plain) (k .store))

@@ -1,8 +1,7 @@
--- The third demand, second half: what is asked of the pool and its nodes, and what the run comes to.
+-- Demand 3, second half: what is asked of the pool and its nodes, and what the run comes to.
 use mathlib.Core.Path.{_≡_}
-use mathlib.Core.Bool.{Bool, true, false}
-use mathlib.Core.List.{List}
-use Prim.Native.Nat.{ℕ, _+_, _/_, _≤_, _<_}
+use mathlib.Core.Bool.{true, false}
+use Prim.Native.Nat.{ℕ, _/_, _≤_, _<_}
 use lib.ListN.{length, getD}
 use Rattle.sets.specs.Sets.{has, without}
 use Rattle.maps.specs.Map.{sound, kept}
@@ -19,7 +18,7 @@ use Rattle.recovery.specs.Cases.{begun}
 use Rattle.recovery.specs.Recovery.{tried}
 use Rattle.nodestate.specs.declared.State as node
 use Rattle.nodestate.specs.States.{isServing}
-use Rattle.nodestate.specs.Rules.{valid}
+use Rattle.nodestate.specs.StateRules.{valid}
 use Rattle.world.specs.Station.{Station, bothSound}
 use Rattle.world.specs.World.{World, exchanges}
 

@@ -1,1 +1,1 @@
-// No code: a recovery run among honest nodes, the second half of the third demand.
+// No code: a recovery run among honest nodes, the second half of demand 3.

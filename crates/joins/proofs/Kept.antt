@@ -1,29 +1,27 @@
 -- Joins, accepted or refused: the state rules are kept; a session's state changes only by the table, and the version never falls; the other sessions' records
 -- stay.
-use mathlib.Core.Path.{_≡_, refl, sym, ap, _∙_, subst}
+use mathlib.Core.Path.{_≡_, refl, sym, ap, _∙_}
 use mathlib.Core.Bool.{Bool, true, false, not, _&&_, _||_}
 use mathlib.Core.Logic.{_≢_}
-use Prim.Native.Nat.{ℕ, _≤_, _<_, max}
+use Prim.Native.Nat.{ℕ, _≤_, _<_}
 use native.Mathlib.Omega.{arith}
 use lib.Dec.{eqb, ltb}
 use borrow.Author.Tests.{eqb-true, ltb-false, not-false}
 use Rattle.laws.specs.Words.{pick}
-use Rattle.laws.specs.Tests.{by-cases, clash, passed}
+use Rattle.laws.specs.Tests.{clash, passed}
 use Rattle.refusals.specs.Limits.{versionLimit}
-use Rattle.sets.specs.Sets.{has, with}
+use Rattle.sets.specs.Sets.{has}
 use Rattle.sets.proofs.Laws.{has-with-same}
 use Rattle.state.specs.declared.State.{State}
 use Rattle.state.specs.declared.Session.{Session}
 use Rattle.state.specs.declared.Roster.{Roster}
-use Rattle.state.specs.declared.Job.{Job}
 use Rattle.state.specs.declared.Pool.{Pool}
-use Rattle.state.specs.declared.Turn.{Turn}
-use Rattle.state.specs.Session.{isFree, isNormal, newSession, moved}
-use Rattle.roster.specs.Roster.{sessionAt, begun, went, memberEntered, takenOver}
-use Rattle.recovery.specs.Recovery.{withRoster, tried}
-use Rattle.exits.specs.Exit.{refused}
-use Rattle.exits.proofs.Laws.{picked, turned}
-use Rattle.rules.specs.Rules.{validPool, jobOk}
+use Rattle.state.specs.Session.{isFree, newSession, moved}
+use Rattle.roster.specs.Roster.{sessionAt}
+use Rattle.changes.specs.Changes.{begun, went, memberEntered, takenOver}
+use Rattle.recovery.specs.Recovery.{withRoster}
+use Rattle.exits.proofs.Laws.{turned}
+use Rattle.rules.specs.Rules.{validPool}
 use Rattle.rules.specs.Jobs.{isIdle}
 use Rattle.kept.specs.Ids.{Long, stored-same, stored-other, stored-long}
 use Rattle.kept.specs.Rosters.{Ok}
@@ -31,7 +29,7 @@ use Rattle.kept.specs.Pools.{Valid}
 use Rattle.kept.specs.Links.{reconnects-keeps}
 use Rattle.kept.specs.Joins.{entered-keeps, taken-keeps, begun-keeps, sync-begun}
 use Rattle.kept.specs.Tried.{idle-valid, tried-keeps, tried-roster}
-use Rattle.kept.specs.Legal.{changes, Moves, begins, moves-none, moves-one}
+use Rattle.kept.specs.Legal.{Moves, begins, moves-none, moves-one}
 use Rattle.joins.specs.Joins.{createRefusal, created, createDone, joinCreate, setBars, assembleRefusal, assembled, assembleDone, joinAssemble}
 
 -- one roster or the other

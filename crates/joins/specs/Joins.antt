@@ -1,26 +1,25 @@
 -- Join: create and assemble.
-use mathlib.Core.Bool.{Bool, true, false, _&&_, _||_, not}
+use mathlib.Core.Bool.{Bool, _&&_, _||_, not}
 use mathlib.Core.List.{List, [], _∷_}
 use Prim.Native.Nat.{ℕ}
 use lib.Dec.{eqb, ltb}
 use Rattle.laws.specs.Words.{pick}
 use Rattle.refusals.specs.Limits.{versionLimit}
-use Rattle.refusals.specs.Refusals.{refusal, test}
+use Rattle.refusals.specs.Refusals.{Test, test, refusal}
 use Rattle.sets.specs.Sets.{has, without}
 use Rattle.state.specs.declared.State.{State}
 use Rattle.state.specs.declared.Roster.{Roster}
 use Rattle.state.specs.declared.Pool.{Pool}
 use Rattle.state.specs.declared.Op.{Op}
-use Rattle.state.specs.declared.Message.{Message}
 use Rattle.state.specs.declared.Told.{Told}
 use Rattle.state.specs.declared.Outcome.{Outcome}
-use Rattle.state.specs.declared.Effect.{Effect}
 use Rattle.state.specs.declared.Turn.{Turn}
 use Rattle.state.specs.Session.{isFree}
 use Rattle.roster.specs.declared.Kind.{Kind}
-use Rattle.roster.specs.Roster.{sessionAt, idsOf, begun, went, memberEntered, takenOver}
+use Rattle.roster.specs.Roster.{sessionAt, idsOf}
+use Rattle.changes.specs.Changes.{begun, went, memberEntered, takenOver}
 use Rattle.recovery.specs.Recovery.{withRoster}
-use Rattle.exits.specs.Exit.{refused, accepted, triedAfter}
+use Rattle.exits.specs.Exit.{refused, changed, triedAfter}
 use Rattle.rules.specs.Rules.{validPool}
 use Rattle.rules.specs.Jobs.{isIdle}
 
@@ -30,23 +29,24 @@ joinTold ro op id = pick (ro .sync) Told.Nothing (Told.Infos (without (idsOf Kin
 
 -- ---- join, create
 
-unfoldable pub createRefusal : Pool → ℕ → ℕ
-createRefusal p id =
-    refusal
-    (test 1 (not (validPool p))
+abbrev pub createTests : Pool → ℕ → List Test
+createTests p id =
+    test 1 (not (validPool p))
     ∷ test 3 (ltb 15 id)
     ∷ test 6 (not (isIdle (p .job)))
     ∷ test 8 (not (isFree (sessionAt (p .roster) id .state)))
     ∷ test 10 (has (p .roster .members) id)
-    ∷ [])
+    ∷ []
+
+unfoldable pub createRefusal : Pool → ℕ → ℕ
+createRefusal p id = refusal (createTests p id)
 
 -- A new session CREATED, the member entered. In a sync pool it is NORMAL, and nobody is a member.
 unfoldable pub created : Roster → ℕ → Roster
 created ro id = pick (ro .sync) (begun ro id State.Normal) (memberEntered (begun ro id State.Created) id)
 
 unfoldable pub createDone : Pool → ℕ → Turn
-createDone p id =
-    accepted p (withRoster p (created (p .roster) id)) Outcome.Plain (joinTold (p .roster) Op.AddCreate id) Message.Nothing Effect.Keep
+createDone p id = changed p (created (p .roster) id) (joinTold (p .roster) Op.AddCreate id)
 
 unfoldable pub joinCreate : Pool → ℕ → Turn
 joinCreate p id = pick (eqb (createRefusal p id) 0) (createDone p id) (refused p (createRefusal p id))
@@ -57,17 +57,19 @@ joinCreate p id = pick (eqb (createRefusal p id) 0) (createDone p id) (refused p
 unfoldable pub setBars : ℕ → ℕ → ℕ → Bool
 setBars members set id = not (has set id) || (not (eqb members 0) && not (eqb set members))
 
-unfoldable pub assembleRefusal : Pool → ℕ → ℕ → ℕ → ℕ
-assembleRefusal p id set version =
-    refusal
-    (test 1 (not (validPool p))
+abbrev pub assembleTests : Pool → ℕ → ℕ → ℕ → List Test
+assembleTests p id set version =
+    test 1 (not (validPool p))
     ∷ test 3 (ltb 15 id || ltb 65535 set)
     ∷ test 5 (p .roster .sync)
     ∷ test 6 (not (isIdle (p .job)))
     ∷ test 8 (not (isFree (sessionAt (p .roster) id .state)))
     ∷ test 10 (setBars (p .roster .members) set id)
     ∷ test 14 (ltb versionLimit version)
-    ∷ [])
+    ∷ []
+
+unfoldable pub assembleRefusal : Pool → ℕ → ℕ → ℕ → ℕ
+assembleRefusal p id set version = refusal (assembleTests p id set version)
 
 -- An empty membership takes the set over, the larger version stands, and the session is CREATED, then RECONNECTING.
 unfoldable pub assembled : Roster → ℕ → ℕ → ℕ → Roster

@@ -3,8 +3,6 @@ ghost use mathlib.Core.Path.{_≡_};
 ghost use Rattle.joins.specs.Joins.{joinTold, createRefusal, created, createDone, joinCreate, setBars, assembleRefusal, assembled, assembleDone, joinAssemble};
 use refusals::first;
 use roster::Kind;
-use state::Effect;
-use state::Message;
 use state::Op;
 use state::Outcome;
 use state::Pool;
@@ -51,10 +49,10 @@ fn create(ro: Roster, id: u64) -> Roster
     ensures { λ r. ⌜ r ≡ created ro id ⌝ }
 {
     if ro.sync {
-        return roster::begin(ro, id, State::Normal);
+        return changes::begin(ro, id, State::Normal);
     }
-    let with_session = roster::begin(ro, id, State::Created);
-    roster::enter_member(with_session, id)
+    let with_session = changes::begin(ro, id, State::Created);
+    changes::enter_member(with_session, id)
 }
 
 fn create_done(p: Pool, id: u64) -> Turn
@@ -63,15 +61,7 @@ fn create_done(p: Pool, id: u64) -> Turn
     let ro = p.roster;
     let told = join_told(ro, Op::AddCreate, id);
     let next = create(ro, id);
-    let after = recovery::with_roster(p, next);
-    exits::accept(
-        p,
-        after,
-        Outcome::Plain,
-        told,
-        Message::Nothing,
-        Effect::Keep,
-    )
+    exits::change(p, next, told)
 }
 
 pub fn join_create(p: Pool, id: u64) -> Turn
@@ -117,9 +107,9 @@ fn assemble_refusal(p: Pool, id: u64, set: u64, version: u64) -> u64
 fn assemble(ro: Roster, id: u64, set: u64, version: u64) -> Roster
     ensures { λ r. ⌜ r ≡ assembled ro id set version ⌝ }
 {
-    let taken = roster::take_over(ro, set, version);
-    let with_session = roster::begin(taken, id, State::Created);
-    roster::go(with_session, id, State::Reconnecting)
+    let taken = changes::take_over(ro, set, version);
+    let with_session = changes::begin(taken, id, State::Created);
+    changes::go(with_session, id, State::Reconnecting)
 }
 
 fn assemble_done(p: Pool, id: u64, set: u64, version: u64) -> Turn

@@ -1,12 +1,11 @@
 -- Laws that the named changes of a removal keep the state rules of the sessions.
 use mathlib.Core.Path.{_≡_, refl, sym, ap, _∙_, subst}
 use mathlib.Core.Bool.{Bool, true, false, not, _&&_, _||_}
-use mathlib.Core.Logic.{_≢_}
-use Prim.Native.Nat.{ℕ, _+_, _-_, _≤_, _<_}
+use Prim.Native.Nat.{ℕ, _-_, _<_}
 use native.Mathlib.Decide.{ℕ-discrete}
 use native.Mathlib.Omega.{arith}
-use lib.Dec.{eqb, leb, ltb}
-use borrow.Author.Tests.{eqb-true, eq-eqb}
+use lib.Dec.{eqb}
+use borrow.Author.Tests.{eqb-true}
 use Rattle.laws.specs.Words.{pick}
 use Rattle.laws.specs.Tests.{by-cases, clash}
 use Rattle.sets.specs.Sets.{has, without, size}
@@ -15,11 +14,12 @@ use Rattle.state.specs.declared.Mode.{Mode}
 use Rattle.state.specs.declared.State.{State}
 use Rattle.state.specs.declared.Session.{Session}
 use Rattle.state.specs.declared.Roster.{Roster}
-use Rattle.state.specs.Session.{isFree, isNormal, isFailed, isReconnecting, isRemoving, isOwed, free, moved}
+use Rattle.state.specs.Session.{isFree, isNormal, isFailed, isReconnecting, isRemoving, free, moved}
 use Rattle.roster.specs.declared.Kind.{Kind}
-use Rattle.roster.specs.declared.Way.{Way}
-use Rattle.roster.specs.Roster.{sessionAt, stored, odd, idsOf, numbered, left, went, owes, removing, freed, memberDropped}
-use Rattle.kept.specs.Ids.{Long, stored-same, stored-other, stored-long, ids-has, ids-lt}
+use Rattle.changes.specs.declared.Way.{Way}
+use Rattle.roster.specs.Roster.{sessionAt, stored, odd, idsOf}
+use Rattle.changes.specs.Changes.{numbered, left, went, owes, removing, freed, memberDropped}
+use Rattle.kept.specs.Ids.{Long, stored-same, ids-has}
 use Rattle.kept.specs.Rosters.{Ok, oddBy, plain-even, quiet-keeps, sync-keeps, leave-keeps, count-is, without-none}
 
 and-none : (b : Bool) → (b && false) ≡ false

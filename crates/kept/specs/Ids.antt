@@ -1,23 +1,22 @@
 -- Laws of the sets that are read off the sixteen records: what they hold, and what storing one record or taking all marks away does to them.
 use mathlib.Core.Path.{_≡_, refl, sym, ap, _∙_}
-use mathlib.Core.Bool.{Bool, true, false, not, _&&_, _||_}
+use mathlib.Core.Bool.{Bool, true, false}
 use mathlib.Core.List.{List, [], _∷_, map}
 use mathlib.Core.Logic.{_≢_}
-use Prim.Native.Nat.{ℕ, zero, suc, _+_, _^_, _≤_, _<_}
+use Prim.Native.Nat.{ℕ, zero, suc, _<_}
 use native.Mathlib.Decide.{ℕ-discrete}
 use native.Mathlib.Omega.{arith}
-use lib.ListN.{length, getD, set, length-set, length-map}
+use lib.ListN.{length, getD, length-set, length-map}
 use lib.Seq.{getD-set-same, getD-set-other}
-use Rattle.laws.specs.Words.{pick, one, bit}
 use Rattle.laws.specs.Gather.{gather, gather-bit, gather-lt}
-use Rattle.sets.specs.Sets.{has, with, without, size, lowest}
-use Rattle.sets.proofs.Laws.{has-one, has-out, has-none, has-with-same, has-with-other, has-without-same, has-without-other, with-lt, without-lt, same-set, size-zero, size-with, size-without}
-use Rattle.state.specs.declared.State.{State}
+use Rattle.sets.specs.Sets.{has, with, without}
+use Rattle.sets.proofs.Laws.{has-one, has-none, has-with-same, has-with-other, has-without-same, has-without-other, with-lt, without-lt, same-set}
 use Rattle.state.specs.declared.Session.{Session}
 use Rattle.state.specs.declared.Roster.{Roster}
 use Rattle.state.specs.Session.{free}
 use Rattle.roster.specs.declared.Kind.{Kind}
-use Rattle.roster.specs.Roster.{sessionAt, stored, isKind, idsOf, unmarked, allUnmarked}
+use Rattle.roster.specs.Roster.{sessionAt, stored, isKind, idsOf}
+use Rattle.changes.specs.Changes.{unmarked, allUnmarked}
 
 -- the array is whole
 abbrev pub Long : Roster → Type 0

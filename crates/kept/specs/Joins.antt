@@ -12,12 +12,11 @@ use Rattle.sets.specs.Sets.{has, with, size}
 use Rattle.sets.proofs.Laws.{has-none, has-with-same, has-with-other, with-lt, size-le}
 use native.Mathlib.Decide.{ℕ-discrete}
 use Rattle.state.specs.declared.State.{State}
-use Rattle.state.specs.declared.Session.{Session}
 use Rattle.state.specs.declared.Roster.{Roster}
 use Rattle.state.specs.Session.{isFree, isNormal, isFailed, isReconnecting, isRemoving, newSession}
 use Rattle.roster.specs.declared.Kind.{Kind}
-use Rattle.roster.specs.Roster.{sessionAt, odd, idsOf, numbered, begun, withMembers, memberEntered, takenOver}
-use Rattle.kept.specs.Ids.{Long}
+use Rattle.roster.specs.Roster.{sessionAt, odd, idsOf}
+use Rattle.changes.specs.Changes.{numbered, begun, withMembers, memberEntered, takenOver}
 use Rattle.kept.specs.Rosters.{Ok, oddBy, plain-even, quiet-keeps, sync-keeps, count-is}
 
 -- ---- a membership that holds every member it held

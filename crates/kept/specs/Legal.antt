@@ -1,23 +1,24 @@
 -- Every event changes a session's state only by source document 001's table, and the version never falls: the statement, and its laws for the named changes.
-use mathlib.Core.Path.{_≡_, refl, sym, ap, _∙_, subst}
-use mathlib.Core.Bool.{Bool, true, false, not, _&&_, _||_}
+use mathlib.Core.Path.{_≡_, refl, ap, _∙_}
+use mathlib.Core.Bool.{Bool, true, false, _&&_, _||_}
 use mathlib.Core.Logic.{_≢_}
-use Prim.Native.Nat.{ℕ, _+_, _-_, _≤_, _<_}
+use Prim.Native.Nat.{ℕ, _-_, _≤_, _<_}
 use native.Mathlib.Decide.{ℕ-discrete, decLt}
 use native.Mathlib.Omega.{arith}
 use lib.Dec.{eqb}
 use lib.ListN.{length, getD, List·getD-eq-default}
 use borrow.Author.Tests.{eq-eqb}
 use Rattle.laws.specs.Words.{pick}
-use Rattle.laws.specs.Tests.{by-cases, clash, and-left}
+use Rattle.laws.specs.Tests.{by-cases, clash}
 use Rattle.state.specs.declared.State.{State}
 use Rattle.state.specs.declared.Session.{Session}
 use Rattle.state.specs.declared.Roster.{Roster}
-use Rattle.state.specs.Session.{isFree, isCreated, isNormal, isFailed, isReconnecting, isRemoving, free, newSession, moved, marked, flagged}
+use Rattle.state.specs.Session.{isFree, isCreated, isNormal, isRemoving, free, moved}
 use Rattle.state.specs.Table.{legal}
-use Rattle.roster.specs.declared.Cause.{Cause}
-use Rattle.roster.specs.declared.Way.{Way}
-use Rattle.roster.specs.Roster.{sessionAt, stored, more, numbered, unmarked, allUnmarked, entered, isFailing, arrived, left, failed, went, begun, flaggedAt}
+use Rattle.changes.specs.declared.Cause.{Cause}
+use Rattle.changes.specs.declared.Way.{Way}
+use Rattle.roster.specs.Roster.{sessionAt, stored}
+use Rattle.changes.specs.Changes.{more, unmarked, allUnmarked, entered, isFailing, arrived, left, failed, went}
 use Rattle.kept.specs.Ids.{Long, stored-long, stored-same, stored-other, unmarked-long, unmarked-at}
 use Rattle.kept.specs.Links.{more-le}
 

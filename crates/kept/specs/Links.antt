@@ -1,26 +1,26 @@
 -- Laws that the named changes of links and writes keep the state rules of the sessions.
 use mathlib.Core.Path.{_≡_, refl, sym, ap, _∙_, subst}
 use mathlib.Core.Bool.{Bool, true, false, not, _&&_, _||_}
-use mathlib.Core.Logic.{_≢_}
 use Prim.Native.Nat.{ℕ, _+_, _-_, _≤_, _<_}
 use native.Mathlib.Omega.{arith}
 use lib.Dec.{eqb, ltb}
 use borrow.Author.Tests.{eqb-true}
 use Rattle.laws.specs.Words.{pick}
-use Rattle.laws.specs.Tests.{by-cases, clash, and-left, and-right}
+use Rattle.laws.specs.Tests.{by-cases, clash, and-left}
 use Rattle.refusals.specs.Limits.{versionLimit, versionTop}
-use Rattle.sets.specs.Sets.{has, with, size}
+use Rattle.sets.specs.Sets.{has, with}
 use Rattle.sets.proofs.Laws.{size-le, size-with, size-some}
 use Rattle.state.specs.declared.State.{State}
 use Rattle.state.specs.declared.Session.{Session}
 use Rattle.state.specs.declared.Roster.{Roster}
-use Rattle.state.specs.Session.{isFree, isCreated, isNormal, isFailed, isReconnecting, isRemoving, moved, marked, flagged}
+use Rattle.state.specs.Session.{isFree, isNormal, isFailed, isReconnecting, isRemoving, moved, marked, flagged}
 use Rattle.roster.specs.declared.Kind.{Kind}
-use Rattle.roster.specs.declared.Cause.{Cause}
-use Rattle.roster.specs.declared.Way.{Way}
-use Rattle.roster.specs.Roster.{sessionAt, stored, odd, idsOf, more, numbered, entered, isFailing, arrived, left, failed, went, flaggedAt}
-use Rattle.kept.specs.Ids.{Long, ids-has, ids-lt}
-use Rattle.kept.specs.Rosters.{Ok, oddBy, normal-even, plain-even, quiet-keeps, sync-keeps, leave-keeps, count-is, enter-keeps}
+use Rattle.changes.specs.declared.Cause.{Cause}
+use Rattle.changes.specs.declared.Way.{Way}
+use Rattle.roster.specs.Roster.{sessionAt, stored, odd, idsOf}
+use Rattle.changes.specs.Changes.{more, numbered, entered, isFailing, arrived, left, failed, went, flaggedAt}
+use Rattle.kept.specs.Ids.{ids-has}
+use Rattle.kept.specs.Rosters.{Ok, oddBy, plain-even, quiet-keeps, sync-keeps, leave-keeps, count-is, enter-keeps}
 use Rattle.kept.specs.Changes.{moved-plain}
 
 -- ---- what the rule about one record says in a state of a session that is neither none nor REMOVING

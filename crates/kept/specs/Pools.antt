@@ -1,15 +1,12 @@
 -- The state rules of a pool as facts.
-use mathlib.Core.Path.{_≡_, refl, sym, ap, _∙_, subst}
-use mathlib.Core.Bool.{Bool, true, false}
-use mathlib.Core.List.{List, [], _∷_}
-use Prim.Native.Nat.{ℕ, _≤_}
-use lib.Dec.{leb}
+use mathlib.Core.Path.{_≡_}
+use mathlib.Core.Bool.{true}
+use Prim.Native.Nat.{_≤_}
 use borrow.Author.Tests.{le-leb, leb-true}
-use Rattle.laws.specs.Words.{all}
 use Rattle.laws.specs.Tests.{all-at}
 use Rattle.refusals.specs.Limits.{chunkLimit}
 use Rattle.state.specs.declared.Pool.{Pool}
-use Rattle.rules.specs.Rules.{rosterOk, jobOk, rules, validPool}
+use Rattle.rules.specs.Rules.{jobOk, rules, validPool}
 use Rattle.kept.specs.Ids.{Long}
 use Rattle.kept.specs.Rosters.{Ok, ok-facts, ok-of}
 

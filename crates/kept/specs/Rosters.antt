@@ -1,28 +1,26 @@
 -- Laws that the changes of one session keep the state rules of the sessions.
 use mathlib.Core.Path.{_≡_, refl, sym, ap, _∙_, subst}
 use mathlib.Core.Bool.{Bool, true, false, not, _&&_, _||_}
-use mathlib.Core.List.{List, [], _∷_}
 use mathlib.Core.Logic.{_≢_}
-use Prim.Native.Nat.{ℕ, zero, suc, _+_, _-_, _≤_, _<_}
+use Prim.Native.Nat.{ℕ, _+_, _-_, _≤_, _<_}
 use native.Mathlib.Decide.{ℕ-discrete}
 use native.Mathlib.Omega.{arith}
-use lib.Dec.{eqb, leb, ltb}
-use lib.ListN.{length}
-use borrow.Author.Tests.{eqb-true, eqb-false, eq-eqb, ne-eqb, lt-ltb, le-leb, leb-true, ltb-true}
-use Rattle.laws.specs.Words.{pick, all}
+use lib.Dec.{eqb}
+use borrow.Author.Tests.{eqb-true, eq-eqb, lt-ltb, le-leb, leb-true, ltb-true}
+use Rattle.laws.specs.Words.{pick}
 use Rattle.laws.specs.Tests.{by-cases, clash, all-at}
 use Rattle.refusals.specs.Limits.{versionTop}
 use Rattle.sets.specs.Sets.{has, with, without, size}
-use Rattle.sets.proofs.Laws.{has-none, has-out, has-without-other, same-set, without-lt, size-zero, size-le, size-with, size-without, size-some}
+use Rattle.sets.proofs.Laws.{has-none, same-set, without-lt, size-zero, size-with, size-without, size-some}
 use Rattle.state.specs.declared.State.{State}
 use Rattle.state.specs.declared.Session.{Session}
 use Rattle.state.specs.declared.Roster.{Roster}
-use Rattle.state.specs.Session.{isFree, isNormal, isFailed, isReconnecting, isRemoving, free, moved, marked}
+use Rattle.state.specs.Session.{isFree, isNormal, isFailed, isReconnecting, isRemoving, moved}
 use Rattle.roster.specs.declared.Kind.{Kind}
-use Rattle.roster.specs.declared.Way.{Way}
-use Rattle.roster.specs.Roster.{sessionAt, stored, misplaced, outside, unsynced, odd, isKind, idsOf, more, numbered, unmarked, allUnmarked, entered, isFailing, arrived, left, memberDropped}
+use Rattle.roster.specs.Roster.{sessionAt, stored, odd, idsOf}
+use Rattle.changes.specs.Changes.{more, numbered, unmarked, allUnmarked, entered}
 use Rattle.rules.specs.Rules.{rosterRules, rosterOk}
-use Rattle.kept.specs.Ids.{Long, stored-long, stored-same, stored-other, unmarked-long, unmarked-at, kindAt, ids-has, ids-lt, ids-none, none-ids, ids-same, ids-gain, ids-lose, without-same}
+use Rattle.kept.specs.Ids.{Long, stored-long, stored-same, stored-other, unmarked-long, unmarked-at, ids-has, ids-lt, ids-none, none-ids, ids-same, ids-gain, ids-lose, without-same}
 
 -- The state rules of the sessions as facts.
 pub record Ok (ro : Roster) : Type 0 where
@@ -145,22 +143,6 @@ abbrev pub oddBy : Bool → Bool → State → Bool → Bool → Bool
 oddBy sync member st maint mark =
     ((mark || maint) && not (isFailed st || isReconnecting st))
     || ((sync && (mark || (maint || isReconnecting st))) || (not sync && (not (isFree st || isRemoving st) && not member)))
-
-normal-parts : (mark maint sync member : Bool) → oddBy sync member State.Normal maint mark ≡ false → (mark ≡ false) × (maint ≡ false) × ((sync || member) ≡ true)
-normal-parts true maint sync member e = clash refl e
-normal-parts false true sync member e = clash refl e
-normal-parts false false true member e = (refl, refl, refl)
-normal-parts false false false true e = (refl, refl, refl)
-normal-parts false false false false e = clash refl e
-
--- a NORMAL session bears neither mark nor flag, and is a member unless the pool is sync
-pub normal-even : (st : State) (sync member maint mark : Bool) → isNormal st ≡ true → oddBy sync member st maint mark ≡ false → (mark ≡ false) × (maint ≡ false) × ((sync || member) ≡ true)
-normal-even State.Free sync member maint mark n e = clash n refl
-normal-even State.Created sync member maint mark n e = clash n refl
-normal-even State.Normal sync member maint mark n e = normal-parts mark maint sync member e
-normal-even State.Failed sync member maint mark n e = clash n refl
-normal-even State.Reconnecting sync member maint mark n e = clash n refl
-normal-even (State.Removing m owed) sync member maint mark n e = clash n refl
 
 unmark-parts : (maint x sync r z : Bool) → (((true || maint) && x) || ((sync && (true || (maint || r))) || z)) ≡ false → ((maint && x) || ((sync && (maint || r)) || z)) ≡ false
 unmark-parts maint true sync r z e = clash refl e

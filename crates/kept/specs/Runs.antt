@@ -1,38 +1,32 @@
 -- The state rules of a run as facts, and laws that a run goes on by them.
-use mathlib.Core.Path.{_≡_, refl, sym, ap, _∙_, subst}
-use mathlib.Core.Bool.{Bool, true, false, not, _&&_, _||_}
-use mathlib.Core.List.{List, [], _∷_}
+use mathlib.Core.Path.{_≡_, refl, sym, ap, _∙_}
+use mathlib.Core.Bool.{Bool, true, false, not, _&&_}
 use mathlib.Core.Logic.{_≢_}
 use Prim.Native.Nat.{ℕ, _+_, _-_, _≤_, _<_}
-use native.Mathlib.Decide.{ℕ-discrete}
 use native.Mathlib.Omega.{arith}
-use lib.Dec.{eqb, leb, ltb}
-use borrow.Author.Tests.{eqb-true, eqb-false, eq-eqb, ne-eqb, lt-ltb, le-leb, leb-true, ltb-true, not-false}
-use Rattle.laws.specs.Words.{pick, all}
-use Rattle.laws.specs.Tests.{by-cases, clash, all-at, and-left, and-right, and-both}
-use Rattle.refusals.specs.Limits.{versionLimit, versionTop}
-use Rattle.sets.specs.Sets.{has, with, without, size, lowest}
-use Rattle.sets.proofs.Laws.{has-below, has-none, has-without-same, has-without-other, still, lowest-in, size-le, size-with}
+use lib.Dec.{eqb}
+use borrow.Author.Tests.{eqb-true, eq-eqb, lt-ltb, le-leb, leb-true, ltb-true}
+use Rattle.laws.specs.Words.{pick}
+use Rattle.laws.specs.Tests.{clash, all-at, and-left, and-right, and-both}
+use Rattle.refusals.specs.Limits.{answerLimit, versionLimit}
+use Rattle.sets.specs.Sets.{has, with, without}
+use Rattle.sets.proofs.Laws.{has-below, has-without-same, still, size-le, size-with}
 use Rattle.state.specs.declared.State.{State}
 use Rattle.state.specs.declared.Session.{Session}
 use Rattle.state.specs.declared.Roster.{Roster}
 use Rattle.state.specs.declared.Phase.{Phase}
 use Rattle.state.specs.declared.Step.{Step}
 use Rattle.state.specs.declared.Run.{Run}
-use Rattle.state.specs.declared.Brought.{Brought}
-use Rattle.state.specs.declared.Reply.{Reply}
 use Rattle.state.specs.Session.{isNormal, isReconnecting, candidate, moved}
 use Rattle.roster.specs.declared.Kind.{Kind}
-use Rattle.roster.specs.Roster.{sessionAt, stored, idsOf, unmarked, allUnmarked, more, entered}
-use Rattle.run.specs.declared.Who.{Who}
+use Rattle.roster.specs.Roster.{sessionAt, idsOf}
+use Rattle.changes.specs.Changes.{unmarked, allUnmarked, entered}
 use Rattle.run.specs.declared.Next.{Next}
-use Rattle.run.specs.declared.Move.{Move}
-use Rattle.run.specs.Run.{hand, rest, counted, go, ahead, toSpread, toGather, toLast, toBase, toVersions, wentOn, ended, failedAt, failed, versionBrought, baseNext, gatherNext, spreadGood, goodAt, good, takes}
+use Rattle.run.specs.Run.{go, toSpread, toGather, toLast, toBase, toVersions}
 use Rattle.run.specs.Still.{possible}
-use Rattle.run.proofs.Bound.{Fit, FitAt, FitNext, stillIn, Carries, some-left, lowers}
 use Rattle.rules.specs.Rules.{allAsked, oneAsked, sourceOk, handOk, runRules, runOk}
 use Rattle.kept.specs.Ids.{Long, stored-same, stored-other, unmarked-long, unmarked-at, ids-has, ids-none, none-ids}
-use Rattle.kept.specs.Rosters.{Ok, oddBy, count-is, enteredPlain, entered-is, enter-keeps}
+use Rattle.kept.specs.Rosters.{Ok, oddBy, count-is, entered-is, enter-keeps}
 
 -- every id of the set is a candidate
 abbrev pub AllCandidates : Roster → ℕ → Type 0
@@ -45,7 +39,7 @@ pub record RunOk (ro : Roster) (r : Run) : Type 0 where
   pub some : handOk (r .phase) (r .left) ≡ true
   pub able : AllCandidates ro (r .left)
   pub source : sourceOk (r .phase) ro (r .source) (r .left) ≡ true
-  pub most : r .taken + possible (ro .members) r ≤ 168
+  pub most : r .taken + possible (ro .members) r ≤ answerLimit
 
 -- ---- a set of candidates
 

@@ -1,15 +1,15 @@
 -- Laws that recovery tried keeps the state rules: a run that begins is one.
-use mathlib.Core.Path.{_≡_, refl, sym, ap, _∙_, subst}
+use mathlib.Core.Path.{_≡_, refl, sym, _∙_}
 use mathlib.Core.Bool.{Bool, true, false, not, _&&_, _||_}
-use Prim.Native.Nat.{ℕ, _+_, _-_, _*_, _≤_, _<_}
+use Prim.Native.Nat.{ℕ, _+_, _-_, _≤_, _<_}
 use native.Mathlib.Decide.{decLt}
 use native.Mathlib.Omega.{arith}
-use lib.Dec.{eqb, leb, ltb}
-use borrow.Author.Tests.{eqb-true, eqb-false, eq-eqb, le-leb, lt-ltb, ltb-false, not-false, not-true}
-use Rattle.laws.specs.Words.{pick, all}
-use Rattle.laws.specs.Tests.{by-cases, clash, and-both}
-use Rattle.refusals.specs.Limits.{versionLimit}
-use Rattle.sets.specs.Sets.{has, without, size, lowest}
+use lib.Dec.{eqb, ltb}
+use borrow.Author.Tests.{eqb-true, eqb-false, eq-eqb, le-leb, lt-ltb, ltb-false}
+use Rattle.laws.specs.Words.{pick}
+use Rattle.laws.specs.Tests.{clash}
+use Rattle.refusals.specs.Limits.{answerLimit, versionLimit}
+use Rattle.sets.specs.Sets.{has, without, lowest}
 use Rattle.sets.proofs.Laws.{has-below, has-without-same, still, without-lt, size-le, lowest-le, lowest-in, empty-set}
 use Rattle.state.specs.declared.Step.{Step}
 use Rattle.state.specs.declared.Phase.{Phase}
@@ -17,14 +17,14 @@ use Rattle.state.specs.declared.Run.{Run}
 use Rattle.state.specs.declared.Job.{Job}
 use Rattle.state.specs.declared.Roster.{Roster}
 use Rattle.state.specs.declared.Pool.{Pool}
-use Rattle.state.specs.Session.{isNormal, candidate}
+use Rattle.state.specs.Session.{candidate}
 use Rattle.roster.specs.declared.Kind.{Kind}
 use Rattle.roster.specs.Roster.{sessionAt, idsOf}
 use Rattle.run.specs.declared.Next.{Next}
 use Rattle.run.specs.Still.{possible}
 use Rattle.recovery.specs.Cases.{start, case1, case2, case3, caseOf, begun}
 use Rattle.recovery.specs.Recovery.{withRoster, beginning, posted, tried}
-use Rattle.rules.specs.Rules.{allAsked, oneAsked, sourceOk, handOk, runRules, runOk, jobOk}
+use Rattle.rules.specs.Rules.{allAsked, oneAsked, sourceOk, handOk, runOk, jobOk}
 use Rattle.rules.specs.Jobs.{isIdle}
 use Rattle.kept.specs.Ids.{Long, ids-has, ids-lt, none-ids}
 use Rattle.kept.specs.Rosters.{Ok}
@@ -44,7 +44,7 @@ idle-valid p ro v idle ok = record { some = v .some; most = v .most; ok = ok; jo
 
 -- the rules of a run from their parts
 pub run-of : (ro : Roster) (r : Run) → ro .sync ≡ false → ro .version ≤ versionLimit → r .left < 65536 → handOk (r .phase) (r .left) ≡ true
-    → idsOf (Kind.Strays (r .left)) ro ≡ 0 → sourceOk (r .phase) ro (r .source) (r .left) ≡ true → r .taken + possible (ro .members) r ≤ 168 → runOk ro r ≡ true
+    → idsOf (Kind.Strays (r .left)) ro ≡ 0 → sourceOk (r .phase) ro (r .source) (r .left) ≡ true → r .taken + possible (ro .members) r ≤ answerLimit → runOk ro r ≡ true
 unfolding runOk
 run-of ro r sync low small hand strays source most = simp (sync, le-leb _ _ low, lt-ltb _ _ small, hand, eq-eqb _ _ strays, source, le-leb _ _ most)
 

@@ -1,13 +1,11 @@
--- Enable, maintenance, link down, store check good, try.
-use mathlib.Core.Bool.{Bool, true, false, _&&_, _||_, not}
+-- Link down, store check good, try.
+use mathlib.Core.Bool.{Bool, _&&_, _||_, not}
 use mathlib.Core.List.{List, [], _∷_}
 use Prim.Native.Nat.{ℕ}
 use lib.Dec.{eqb, ltb}
 use Rattle.laws.specs.Words.{pick}
-use Rattle.refusals.specs.Limits.{versionLimit}
-use Rattle.refusals.specs.Refusals.{refusal, test}
+use Rattle.refusals.specs.Refusals.{Test, test, refusal}
 use Rattle.state.specs.declared.State.{State}
-use Rattle.state.specs.declared.Session.{Session}
 use Rattle.state.specs.declared.Roster.{Roster}
 use Rattle.state.specs.declared.Job.{Job}
 use Rattle.state.specs.declared.Pool.{Pool}
@@ -17,66 +15,14 @@ use Rattle.state.specs.declared.Outcome.{Outcome}
 use Rattle.state.specs.declared.Effect.{Effect}
 use Rattle.state.specs.declared.Turn.{Turn}
 use Rattle.state.specs.Session.{isFree, isCreated, isNormal, isFailed, isReconnecting, isRemoving}
-use Rattle.roster.specs.declared.Cause.{Cause}
-use Rattle.roster.specs.declared.Way.{Way}
-use Rattle.roster.specs.Roster.{sessionAt, entered, left, failed, went, flaggedAt}
+use Rattle.changes.specs.declared.Cause.{Cause}
+use Rattle.roster.specs.Roster.{sessionAt}
+use Rattle.changes.specs.Changes.{entered, failed, went}
 use Rattle.run.specs.Run.{receiver}
 use Rattle.recovery.specs.Recovery.{withRoster, over, disablingBut}
-use Rattle.exits.specs.Exit.{refused, accepted, triedAfter, haltedIf}
+use Rattle.exits.specs.Exit.{refused, accepted, changed, triedAfter, haltedIf}
 use Rattle.rules.specs.Rules.{validPool}
 use Rattle.rules.specs.Jobs.{isIdle, isPeer, isLeaving}
-
--- an accepted event that changes the sessions and awaits nothing
-abbrev pub changed : Pool → Roster → Told → Turn
-changed p ro told = accepted p (withRoster p ro) Outcome.Plain told Message.Nothing Effect.Keep
-
--- ---- enable
-
--- CREATED, or RECONNECTING in maintenance
-unfoldable pub enables : Session → Bool
-enables s = isCreated (s .state) || (isReconnecting (s .state) && s .maintenance)
-
-unfoldable pub enableRefusal : Pool → ℕ → ℕ
-enableRefusal p id =
-    refusal
-    (test 1 (not (validPool p))
-    ∷ test 3 (ltb 15 id)
-    ∷ test 5 (p .roster .sync)
-    ∷ test 6 (not (isIdle (p .job)))
-    ∷ test 7 (isFree (sessionAt (p .roster) id .state))
-    ∷ test 9 (not (enables (sessionAt (p .roster) id)))
-    ∷ test 14 (isCreated (sessionAt (p .roster) id .state) && ltb versionLimit (p .roster .version))
-    ∷ [])
-
--- From CREATED to NORMAL. On RECONNECTING in maintenance: maintenance ends and recovery is tried.
-unfoldable pub enableDone : Pool → ℕ → Turn
-enableDone p id =
-    pick (isCreated (sessionAt (p .roster) id .state))
-    (changed p (entered (p .roster) id) Told.Nothing)
-    (triedAfter p (withRoster p (flaggedAt (p .roster) id false)) Outcome.Plain Told.Nothing)
-
-unfoldable pub enable : Pool → ℕ → Turn
-enable p id = pick (eqb (enableRefusal p id) 0) (enableDone p id) (refused p (enableRefusal p id))
-
--- ---- maintenance
-
-unfoldable pub maintenanceRefusal : Pool → ℕ → ℕ
-maintenanceRefusal p id =
-    refusal
-    (test 1 (not (validPool p))
-    ∷ test 3 (ltb 15 id)
-    ∷ test 5 (p .roster .sync)
-    ∷ test 6 (not (isIdle (p .job)))
-    ∷ test 7 (isFree (sessionAt (p .roster) id .state))
-    ∷ test 9 (not (isNormal (sessionAt (p .roster) id .state)))
-    ∷ [])
-
--- NORMAL to RECONNECTING, flagged; the node is told by enable 0.
-unfoldable pub maintenanceDone : Pool → ℕ → Turn
-maintenanceDone p id = changed p (left (p .roster) id Way.Maintenance) (Told.Off id)
-
-unfoldable pub maintenance : Pool → ℕ → Turn
-maintenance p id = pick (eqb (maintenanceRefusal p id) 0) (maintenanceDone p id) (refused p (maintenanceRefusal p id))
 
 -- ---- link down
 
@@ -84,14 +30,16 @@ maintenance p id = pick (eqb (maintenanceRefusal p id) 0) (maintenanceDone p id)
 unfoldable pub drops : Job → State → ℕ → Bool
 drops j st id = (isCreated st || (isNormal st || isReconnecting st)) || (isRemoving st && isLeaving j id)
 
-unfoldable pub downRefusal : Pool → ℕ → ℕ
-downRefusal p id =
-    refusal
-    (test 1 (not (validPool p))
+abbrev pub downTests : Pool → ℕ → List Test
+downTests p id =
+    test 1 (not (validPool p))
     ∷ test 3 (ltb 15 id)
     ∷ test 7 (isFree (sessionAt (p .roster) id .state))
     ∷ test 9 (not (drops (p .job) (sessionAt (p .roster) id .state) id))
-    ∷ [])
+    ∷ []
+
+unfoldable pub downRefusal : Pool → ℕ → ℕ
+downRefusal p id = refusal (downTests p id)
 
 -- to FAILED; a REMOVING one stays so
 unfoldable pub dropped : Roster → ℕ → Roster
@@ -122,15 +70,17 @@ linkDown p id = pick (eqb (downRefusal p id) 0) (downDone p id) (refused p (down
 unfoldable pub checks : Bool → State → Bool
 checks sync st = isFailed st || (isCreated st && not sync)
 
-unfoldable pub checkRefusal : Pool → ℕ → ℕ
-checkRefusal p id =
-    refusal
-    (test 1 (not (validPool p))
+abbrev pub checkTests : Pool → ℕ → List Test
+checkTests p id =
+    test 1 (not (validPool p))
     ∷ test 3 (ltb 15 id)
     ∷ test 6 (not (isIdle (p .job)))
     ∷ test 7 (isFree (sessionAt (p .roster) id .state))
     ∷ test 9 (not (checks (p .roster .sync) (sessionAt (p .roster) id .state)))
-    ∷ [])
+    ∷ []
+
+unfoldable pub checkRefusal : Pool → ℕ → ℕ
+checkRefusal p id = refusal (checkTests p id)
 
 -- A session is brought back: to RECONNECTING, then recovery is tried; in a sync pool to NORMAL.
 unfoldable pub checkDone : Pool → ℕ → Turn
@@ -144,8 +94,12 @@ storeCheck p id = pick (eqb (checkRefusal p id) 0) (checkDone p id) (refused p (
 
 -- ---- try
 
+abbrev pub tryTests : Pool → List Test
+tryTests p =
+    test 1 (not (validPool p)) ∷ test 5 (p .roster .sync) ∷ test 6 (not (isIdle (p .job))) ∷ []
+
 unfoldable pub tryRefusal : Pool → ℕ
-tryRefusal p = refusal (test 1 (not (validPool p)) ∷ test 5 (p .roster .sync) ∷ test 6 (not (isIdle (p .job))) ∷ [])
+tryRefusal p = refusal (tryTests p)
 
 unfoldable pub tryRun : Pool → Turn
 tryRun p = pick (eqb (tryRefusal p) 0) (triedAfter p p Outcome.Plain Told.Nothing) (refused p (tryRefusal p))

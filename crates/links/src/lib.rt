@@ -1,123 +1,17 @@
-// Enable, maintenance, link down, store check good, try.
+// Link down, store check good, try.
 ghost use mathlib.Core.Path.{_≡_};
-ghost use Rattle.links.specs.Links.{changed, enables, enableRefusal, enableDone, enable, maintenanceRefusal, maintenanceDone, maintenance, drops, downRefusal, dropped, downAt, downDone, linkDown, checks, checkRefusal, checkDone, storeCheck, tryRefusal, tryRun};
+ghost use Rattle.links.specs.Links.{drops, downRefusal, dropped, downAt, downDone, linkDown, checks, checkRefusal, checkDone, storeCheck, tryRefusal, tryRun};
+use changes::Cause;
 use refusals::first;
-use roster::Cause;
-use roster::Way;
 use state::Effect;
 use state::Job;
 use state::Message;
 use state::Outcome;
 use state::Pool;
 use state::Roster;
-use state::Session;
 use state::State;
 use state::Told;
 use state::Turn;
-
-// An accepted event that changes the sessions and awaits nothing.
-fn change(p: Pool, ro: Roster, told: Told) -> Turn
-    ensures { λ r. ⌜ r ≡ changed p ro told ⌝ }
-{
-    let after = recovery::with_roster(p, ro);
-    exits::accept(
-        p,
-        after,
-        Outcome::Plain,
-        told,
-        Message::Nothing,
-        Effect::Keep,
-    )
-}
-
-fn may_enable(s: Session) -> bool
-    ensures { λ r. ⌜ r ≡ enables s ⌝ }
-{
-    let st = s.state;
-    state::is_created(st) | (state::is_reconnecting(st) & s.maintenance)
-}
-
-fn enable_refusal(p: Pool, id: u64) -> u64
-    ensures { λ r. ⌜ r ≡ enableRefusal p id ⌝ }
-{
-    let ok = rules::valid(p);
-    let ro = p.roster;
-    let j = p.job;
-    let s = roster::session(ro, id);
-    let st = s.state;
-    let idle = rules::jobs::is_idle(j);
-    let free = state::is_free(st);
-    let may = may_enable(s);
-    let high = state::is_created(st) & (refusals::VERSION_LIMIT < ro.version);
-    let rest = first(free, 7, first(!may, 9, first(high, 14, 0)));
-    first(
-        !ok,
-        1,
-        first(15 < id, 3, first(ro.sync, 5, first(!idle, 6, rest))),
-    )
-}
-
-fn enable_done(p: Pool, id: u64) -> Turn
-    ensures { λ r. ⌜ r ≡ enableDone p id ⌝ }
-{
-    let ro = p.roster;
-    let s = roster::session(ro, id);
-    let st = s.state;
-    if state::is_created(st) {
-        let next = roster::enter(ro, id);
-        return change(p, next, Told::Nothing);
-    }
-    let next = roster::flag(ro, id, false);
-    let after = recovery::with_roster(p, next);
-    exits::try_after(p, after, Outcome::Plain, Told::Nothing)
-}
-
-pub fn enable(p: Pool, id: u64) -> Turn
-    ensures { λ r. ⌜ r ≡ enable p id ⌝ }
-{
-    let why = enable_refusal(p, id);
-    if why != 0 {
-        return exits::refuse(p, why);
-    }
-    enable_done(p, id)
-}
-
-fn maintenance_refusal(p: Pool, id: u64) -> u64
-    ensures { λ r. ⌜ r ≡ maintenanceRefusal p id ⌝ }
-{
-    let ok = rules::valid(p);
-    let ro = p.roster;
-    let j = p.job;
-    let s = roster::session(ro, id);
-    let st = s.state;
-    let idle = rules::jobs::is_idle(j);
-    let free = state::is_free(st);
-    let normal = state::is_normal(st);
-    let rest = first(free, 7, first(!normal, 9, 0));
-    first(
-        !ok,
-        1,
-        first(15 < id, 3, first(ro.sync, 5, first(!idle, 6, rest))),
-    )
-}
-
-fn maintenance_done(p: Pool, id: u64) -> Turn
-    ensures { λ r. ⌜ r ≡ maintenanceDone p id ⌝ }
-{
-    let ro = p.roster;
-    let next = roster::leave(ro, id, Way::Maintenance);
-    change(p, next, Told::Off(id))
-}
-
-pub fn maintenance(p: Pool, id: u64) -> Turn
-    ensures { λ r. ⌜ r ≡ maintenance p id ⌝ }
-{
-    let why = maintenance_refusal(p, id);
-    if why != 0 {
-        return exits::refuse(p, why);
-    }
-    maintenance_done(p, id)
-}
 
 fn may_drop(j: Job, st: State, id: u64) -> bool
     ensures { λ r. ⌜ r ≡ drops j st id ⌝ }
@@ -147,7 +41,7 @@ fn drop_link(ro: Roster, id: u64) -> Roster
     if state::is_removing(st) {
         return ro;
     }
-    roster::fail(ro, id, Cause::Link)
+    changes::fail(ro, id, Cause::Link)
 }
 
 fn down_at(j: Job, p: Pool, id: u64) -> Turn
@@ -234,10 +128,10 @@ fn check_done(p: Pool, id: u64) -> Turn
 {
     let ro = p.roster;
     if ro.sync {
-        let next = roster::enter(ro, id);
-        return change(p, next, Told::Nothing);
+        let next = changes::enter(ro, id);
+        return exits::change(p, next, Told::Nothing);
     }
-    let next = roster::go(ro, id, State::Reconnecting);
+    let next = changes::go(ro, id, State::Reconnecting);
     let after = recovery::with_roster(p, next);
     exits::try_after(p, after, Outcome::Plain, Told::Nothing)
 }

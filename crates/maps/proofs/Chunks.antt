@@ -16,10 +16,12 @@ use lib.Seq.{getD-set-same, getD-set-other}
 use Rattle.laws.specs.Words.{pick, one, bit}
 use Rattle.laws.specs.Bits.{bit-or, bit-and, bit-none}
 use Rattle.sets.specs.Sets.{has}
-use Rattle.maps.specs.Map.{place, dirty, marked, cleared, markedFor, each, within, over, zeroFrom, zeroRow, zeroed, orFrom, orIn, kept}
-use Rattle.maps.proofs.Bytes.{bit-pow, bit-mask}
+use Rattle.chunks.specs.Chunk.{place, dirty, marked, cleared, markedFor, each}
+use Rattle.maps.specs.Map.{within, over, zeroFrom, zeroRow, zeroed, orFrom, orIn, kept}
+use Rattle.chunks.proofs.Bytes.{bit-pow, bit-mask}
 use Rattle.maps.proofs.Over.{getD-over, in-yes, in-low, in-high}
-use Rattle.maps.proofs.Laws.{there-yes, dirty-there, dirty-lt, length-marked, length-zeroRow}
+use Rattle.chunks.proofs.Laws.{there-yes, dirty-there, dirty-lt, length-marked}
+use Rattle.maps.proofs.Laws.{length-zeroRow}
 
 -- 1 where a is b, else 0
 pub same : ℕ → ℕ → ℕ

@@ -1,4 +1,3 @@
-pub mod Bytes
 pub mod Over
 pub mod Laws
 pub mod Scanned

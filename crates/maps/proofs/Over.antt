@@ -108,9 +108,6 @@ over-step a i f xs d d′ v h e ev e′ =
 pub over-done : (a i e : ℕ) (f : ℕ → ℕ → ℕ) (xs d : List ℕ) → d ≡ over a i f xs → i ≡ e → d ≡ over a e f xs
 over-done a i e f xs d h q = rw (← q) h
 
-pub over-length : (a i : ℕ) (f : ℕ → ℕ → ℕ) (xs d : List ℕ) → d ≡ over a i f xs → length d ≡ length xs
-over-length a i f xs d h = rw h (length-over a i f xs)
-
 -- two ranges that hold the same places of the list
 over-range : (a e a′ e′ : ℕ) (f : ℕ → ℕ → ℕ) (xs : List ℕ) → ((k : ℕ) → k < length xs → within a e k ≡ within a′ e′ k) → over a e f xs ≡ over a′ e′ f xs
 over-range a e a′ e′ f xs h =

@@ -8,9 +8,10 @@ use borrow.Author.Tests.{eq-eqb, lt-ltb}
 use lib.Bits.{bitOr, or-zero-l}
 use lib.ListN.{length, getD, take, drop, replicate, length-replicate, getD-replicate}
 use lib.Seq.{getD-take, getD-drop, ext-getD}
-use Rattle.maps.specs.Map.{place, dirty, marked, countTo, count, rowOf, over, zeroFrom, zeroed, orFrom, orIn, copied}
+use Rattle.chunks.specs.Chunk.{place, dirty, marked, countTo, count}
+use Rattle.maps.specs.Map.{rowOf, over, zeroFrom, zeroed, orFrom, orIn, copied}
 use Rattle.maps.proofs.Over.{length-over, over-in}
-use Rattle.maps.proofs.Laws.{dirty-there}
+use Rattle.chunks.proofs.Laws.{dirty-there}
 
 -- member m's part of a map of 8,192 bytes
 pub row-bytes : (xs : List ℕ) (m : ℕ) → length xs ≡ 8192 → m < 16 → rowOf xs m ≡ take 512 (drop (512 * m) xs)

@@ -17,9 +17,11 @@ use Rattle.laws.specs.Words.{pick, bit}
 use Rattle.laws.specs.Tests.{and-right}
 use Rattle.laws.specs.Bits.{bits-same, bit-none}
 use Rattle.sets.specs.Sets.{has}
-use Rattle.maps.specs.Map.{there, within, place, dirty, marked, cleared, markedFor, over, zeroFrom, zeroRow, zeroed, orFrom, orIn, copied, kept, room, spare, sound}
+use Rattle.chunks.specs.Chunk.{there, place, dirty, marked, cleared, markedFor}
+use Rattle.maps.specs.Map.{within, over, zeroFrom, zeroRow, zeroed, orFrom, orIn, copied, kept, room, spare, sound}
 use Rattle.maps.proofs.Over.{length-over, getD-over}
-use Rattle.maps.proofs.Laws.{each-keeps, sound-yes, sound-length, sound-clean, spare-none, dirty-there}
+use Rattle.chunks.proofs.Laws.{each-keeps, dirty-there}
+use Rattle.maps.proofs.Laws.{sound-yes, sound-length, sound-clean, spare-none}
 use Rattle.maps.proofs.Chunks.{hit, dirty-marked}
 
 -- a map of 8,192 bytes, none of which holds anything past the chunk count

@@ -1,42 +1,14 @@
--- Dirty maps as lists of bytes. A map is 8,192 bytes: member m's row starts at byte 512m, chunk c is in byte c/8 of the row, bit c mod 8, lowest first.
--- Every definition has a meaning at a list of any length and at any number.
+-- Dirty maps as lists of bytes. A map is 8,192 bytes: sixteen rows of 512. Every definition has a meaning at a list of any length and at any number.
 use mathlib.Core.Bool.{Bool, true, not, _&&_}
 use mathlib.Core.List.{List, [], _∷_}
-use Prim.Native.Nat.{ℕ, zero, suc, _+_, _-_, _*_, _/_, _%_, _^_, min}
-use lib.Bits.{bitAnd, bitOr}
+use Prim.Native.Nat.{ℕ, suc, _+_, _-_, _*_, _/_, _%_, _^_, min}
+use lib.Bits.{bitOr}
 use lib.Dec.{eqb, leb, ltb}
-use lib.ListN.{length, getD, set, take, drop}
-use Rattle.laws.specs.Words.{pick, bit}
+use lib.ListN.{length, getD, take, drop}
+use Rattle.laws.specs.Words.{pick}
+use Rattle.refusals.specs.Limits.{mapBytes}
 use Rattle.sets.specs.Sets.{has}
-
--- member m and chunk c have a bit: an id is at most 15, a chunk at most 4,095
-abbrev pub there : ℕ → ℕ → Bool
-there m c = ltb m 16 && ltb c 4096
-
--- the byte that holds member m's chunk c
-unfoldable pub place : ℕ → ℕ → ℕ
-place m c = 512 * m + c / 8
-
--- member m's chunk c: 1 where it is dirty, 0 where it is clean or has no bit
-unfoldable pub dirty : List ℕ → ℕ → ℕ → ℕ
-dirty xs m c = pick (there m c) (bit (getD xs (place m c) 0) (c % 8)) 0
-
--- chunk c marked for member m
-unfoldable pub marked : List ℕ → ℕ → ℕ → List ℕ
-marked xs m c = pick (there m c) (set xs (place m c) (bitOr (getD xs (place m c) 0) (2 ^ (c % 8)))) xs
-
--- chunk c cleared for member m
-unfoldable pub cleared : List ℕ → ℕ → ℕ → List ℕ
-cleared xs m c = pick (there m c) (set xs (place m c) (bitAnd (getD xs (place m c) 0) (255 - 2 ^ (c % 8)))) xs
-
--- f m for each member m below n that passes the test t, one after the other
-unfoldable pub each : (ℕ → Bool) → (ℕ → List ℕ → List ℕ) → ℕ → List ℕ → List ℕ
-each t f zero xs = xs
-each t f (suc n) xs = pick (t n) (f n (each t f n xs)) (each t f n xs)
-
--- chunk c marked for each member of the set s
-unfoldable pub markedFor : List ℕ → ℕ → ℕ → List ℕ
-markedFor xs s c = each (has s) (λ m ys. marked ys m c) 16 xs
+use Rattle.chunks.specs.Chunk.{each}
 
 -- k is one of a, .., e - 1
 unfoldable pub within : ℕ → ℕ → ℕ → Bool
@@ -93,17 +65,8 @@ cleanFrom n i (x ∷ xs) = eqb (spare n i x) 0 && cleanFrom n (suc i) xs
 
 -- sound: exactly 8,192 bytes, and no bit set past the chunk count n
 unfoldable pub sound : ℕ → List ℕ → Bool
-sound n xs = eqb (length xs) 8192 && cleanFrom n 0 xs
-
--- how many of member m's chunks below n are dirty
-unfoldable pub countTo : List ℕ → ℕ → ℕ → ℕ
-countTo xs m zero = 0
-countTo xs m (suc n) = countTo xs m n + dirty xs m n
-
--- how many of member m's chunks are dirty
-unfoldable pub count : List ℕ → ℕ → ℕ
-count xs m = countTo xs m 4096
+sound n xs = eqb (length xs) mapBytes && cleanFrom n 0 xs
 
 -- member m's row; no bytes where the map is not of 8,192 or the id is above 15
 unfoldable pub rowOf : List ℕ → ℕ → List ℕ
-rowOf xs m = pick (eqb (length xs) 8192 && ltb m 16) (take 512 (drop (512 * m) xs)) []
+rowOf xs m = pick (eqb (length xs) mapBytes && ltb m 16) (take 512 (drop (512 * m) xs)) []

@@ -1,119 +1,10 @@
-// Dirty maps: 16 rows of 512 bytes, a bit for each member and chunk. Every operation takes a map of any length and any number, and leaves what the
-// definition of specs/Map.antt gives. Loops over a whole map have no branch but their bound.
+// Dirty maps: 16 rows of 512 bytes. Every operation takes a map of any length and any number, and leaves what the definition of specs/Map.antt gives. Loops over
+// a whole map have no branch but their bound.
 ghost use mathlib.Core.Path.{_≡_};
-ghost use Prim.Native.Nat.{_+_, _-_, _*_, _<_, _≤_, _^_, min};
-ghost use lib.Dec.{eqb};
-ghost use lib.ListN.{getD, set, length};
-ghost use Rattle.maps.specs.Map.{
-  place,
-  dirty,
-  marked,
-  cleared,
-  markedFor,
-  zeroFrom,
-  zeroRow,
-  zeroed,
-  kept,
-  orIn,
-  copied,
-  sound,
-  count,
-  rowOf,
-};
+ghost use Prim.Native.Nat.{_-_, _<_, _≤_, min};
+ghost use lib.ListN.{set, length};
+ghost use Rattle.maps.specs.Map.{zeroFrom, zeroRow, zeroed, kept, orIn, copied, sound, rowOf};
 ghost use Rattle.maps.specs.Scan.{orTo, rowSpare};
-
-// The byte at i, and 0 past the end.
-fn get(map: &[u8], i: usize) -> u8
-    ensures { λ r. ⌜ r ≡ getD (now (map .entry)) i 0 ⌝ }
-{
-    if i < map.len() { map[i] } else { 0 }
-}
-
-// Stores v at i, and nothing past the end.
-fn put(map: &mut [u8], i: usize, v: u8)
-    ensures { λ _. ⌜ now (map .exit) ≡ set (now (map .entry)) i v ⌝ }
-{
-    if i < map.len() {
-        map[i] = v;
-    }
-}
-
-fn power(k: u64) -> u8
-    requires { ⌜ k < 8 ⌝ }
-    ensures { λ r. ⌜ r ≡ 2 ^ k ⌝ }
-{
-    1u8 << k
-}
-
-fn place(m: u64, c: u64) -> usize
-    requires { ⌜ (m < 16) × (c < 4096) ⌝ }
-    ensures { λ r. ⌜ r ≡ place m c ⌝ }
-{
-    512 * (m as usize) + (c as usize) / 8
-}
-
-// Member m's bit of chunk c.
-fn dirty_bit(map: &[u8], m: u64, c: u64) -> u8
-    ensures { λ r. ⌜ r ≡ dirty (now (map .entry)) m c ⌝ }
-{
-    if 15 < m {
-        return 0;
-    }
-    if 4095 < c {
-        return 0;
-    }
-    (get(map, place(m, c)) >> (c % 8)) % 2
-}
-
-// Whether chunk c is dirty for member m.
-pub fn test(map: &[u8], m: u64, c: u64) -> bool
-    ensures { λ r. ⌜ r ≡ eqb (dirty (now (map .entry)) m c) 1 ⌝ }
-{
-    dirty_bit(map, m, c) == 1
-}
-
-// Marks chunk c for member m.
-pub fn mark(map: &mut [u8], m: u64, c: u64)
-    ensures { λ _. ⌜ now (map .exit) ≡ marked (now (map .entry)) m c ⌝ }
-{
-    if 15 < m {
-        return;
-    }
-    if 4095 < c {
-        return;
-    }
-    let i = place(m, c);
-    let v = get(map, i) | power(c % 8);
-    put(map, i, v);
-}
-
-// Clears chunk c for member m.
-pub fn clear(map: &mut [u8], m: u64, c: u64)
-    ensures { λ _. ⌜ now (map .exit) ≡ cleared (now (map .entry)) m c ⌝ }
-{
-    if 15 < m {
-        return;
-    }
-    if 4095 < c {
-        return;
-    }
-    let i = place(m, c);
-    let v = get(map, i) & !power(c % 8);
-    put(map, i, v);
-}
-
-// Marks chunk c for each member of the set.
-pub fn mark_for(map: &mut [u8], set: u64, c: u64)
-    ensures { λ _. ⌜ now (map .exit) ≡ markedFor (now (map .entry)) set c ⌝ }
-{
-    let mut m: u64 = 0;
-    while m < 16 {
-        if sets::has(set, m) {
-            mark(map, m, c);
-        }
-        m += 1;
-    }
-}
 
 // Zeroes the bytes from a up to e, as far as the map goes.
 fn zero_from(map: &mut [u8], a: usize, e: usize)
@@ -214,7 +105,7 @@ fn row_spare(map: &[u8], n: u64, m: u64) -> u8
     }
     let row = 512 * (m as usize);
     let at = row + (full as usize);
-    let high = get(map, at) >> (n % 8);
+    let high = chunks::get(map, at) >> (n % 8);
     high | or_of(map, at + 1, row + 512)
 }
 
@@ -222,7 +113,7 @@ fn row_spare(map: &[u8], n: u64, m: u64) -> u8
 pub fn is_sound(map: &[u8], n: u64) -> bool
     ensures { λ r. ⌜ r ≡ sound n (now (map .entry)) ⌝ }
 {
-    if map.len() != 8192 {
+    if map.len() != refusals::MAP_BYTES {
         return false;
     }
     let mut got: u8 = 0;
@@ -234,31 +125,12 @@ pub fn is_sound(map: &[u8], n: u64) -> bool
     got == 0
 }
 
-// How many of member m's chunks are dirty.
-pub fn count_row(map: &[u8], m: u64) -> u64
-    ensures { λ r. ⌜ r ≡ count (now (map .entry)) m ⌝ }
-{
-    let mut got: u64 = 0;
-    let mut c: u64 = 0;
-    while c < 4096 {
-        got += wide(dirty_bit(map, m, c));
-        c += 1;
-    }
-    got
-}
-
-fn wide(x: u8) -> u64
-    ensures { λ r. ⌜ r ≡ x ⌝ }
-{
-    x as u64
-}
-
 // Member m's row, a part of the map.
 pub fn row(map: &[u8], m: u64) -> &[u8]
     ensures { λ r. ⌜ now r ≡ rowOf (now (map .entry)) m ⌝ }
 {
     let z: usize = 0;
-    if map.len() != 8192 {
+    if map.len() != refusals::MAP_BYTES {
         return &map[z..z];
     }
     if 15 < m {

@@ -1,4 +1,4 @@
-// A history from standard input, its answers on standard output.
+// The lab once more, so that the gate holds it to a second history: every state with every event.
 fn main() {
     let mut own = [0u8; 8192];
     let mut maps = [0u8; 131072];

@@ -1,7 +1,7 @@
 -- The words of a history, by their codes. 0 is no word's code: it stands for a number.
-use Prim.Native.Nat.{ℕ, suc}
+use Prim.Native.Nat.{ℕ}
 use Prim.Native.String.{String}
-use mathlib.Core.List.{List, [], _∷_}
+use mathlib.Core.List.{List}
 use Rattle.laws.specs.Words.{pick}
 use Rattle.text.specs.Bytes.{bytes, eqBytes}
 

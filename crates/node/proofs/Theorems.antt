@@ -18,23 +18,26 @@ use Rattle.nodestate.specs.declared.Answer.{Answer}
 use Rattle.nodestate.specs.declared.Node.{Node}
 use Rattle.nodestate.specs.declared.Turn.{Turn}
 use Rattle.nodestate.specs.Change.{fresh, storedVersion, keptChunk}
-use Rattle.nodestate.specs.Rules.{valid, keptOk}
+use Rattle.nodestate.specs.StateRules.{valid, keptOk}
 use Rattle.nodestate.specs.Table.{Kind}
 use Rattle.nodestate.specs.Turns.{refused, settled}
 use Rattle.nodestate.proofs.Valid.{valid-of}
 use Rattle.nodestate.proofs.Passed.{Keeps, Later}
 use Rattle.nodemaps.specs.Carry.{mapAfter, stagingAfter, takenIn}
 use Rattle.nodemaps.proofs.Sound.{fits, sound-map, sound-staging, sound-taken}
-use Rattle.store.specs.Register as Register
-use Rattle.store.specs.Join as Join
-use Rattle.service.specs.Enable as Enable
-use Rattle.service.specs.Io as Io
-use Rattle.service.specs.Info as Info
-use Rattle.transfer.specs.Serve as Serve
-use Rattle.transfer.specs.Hand as Hand
-use Rattle.store.proofs.Keeps as store
-use Rattle.service.proofs.Keeps as service
-use Rattle.transfer.proofs.Keeps as transfer
+use Rattle.noderegister.specs.Register as Register
+use Rattle.nodejoins.specs.Join as Join
+use Rattle.nodeenables.specs.Enable as Enable
+use Rattle.nodewrites.specs.Write as Write
+use Rattle.nodewrites.specs.Info as Info
+use Rattle.nodeserve.specs.Serve as Serve
+use Rattle.nodehand.specs.Hand as Hand
+use Rattle.noderegister.proofs.Keeps as register
+use Rattle.nodejoins.proofs.Keeps as joins
+use Rattle.nodeenables.proofs.Keeps as enable
+use Rattle.nodewrites.proofs.Keeps as writes
+use Rattle.nodeserve.proofs.Keeps as serve
+use Rattle.nodehand.proofs.Keeps as hand
 use Rattle.node.specs.declared.StorageNode.{StorageNode}
 use Rattle.node.specs.Events.{Event, Third, kindOf, third, turnOf}
 use Rattle.node.specs.Face.{freshNode, soundThird, lentTo, turnAt, mapBy, stagingWith, stagingBy, answers, mapLeft, stagingLeft}
@@ -73,26 +76,26 @@ fits-informs Op.RemoveDelete member n = refl
 fits-informs Op.RemoveDisassemble member n = refl
 
 shape : (e : Event) (n : Node) (lent : Bool) → Shape (kindOf e) n lent (turnOf e n lent)
-unfolding Register.registerCreate Register.registerAdd Register.unregister Join.joinCreate Join.assemble Join.leave Enable.enable1 Enable.enable0 Enable.fault Io.write Io.synced Info.poolInfo Serve.mapReady Serve.give Hand.take Hand.mapDone Hand.mapDisable Serve.mapGetVer Serve.lastIoToMap Io.written storedVersion keptChunk
-shape Event.registerCreate n lent = record { why = _; done = _; same = refl; plain = refl; sure = λ e. store.registerCreate-passed n lent e .sure; later = store.registerCreate-later n lent; keeps = λ h e. store.registerCreate-keeps n lent h e; fit = λ e. refl }
-shape (Event.registerAdd set version) n lent = record { why = _; done = _; same = refl; plain = refl; sure = λ e. store.registerAdd-passed n lent set version e .0 .sure; later = store.registerAdd-later n lent set version; keeps = λ h e. store.registerAdd-keeps n lent set version e; fit = λ e. refl }
-shape (Event.unregister delete) n lent = record { why = _; done = _; same = refl; plain = refl; sure = λ e. store.unregister-passed n lent delete e .sure; later = store.unregister-later n lent delete; keeps = λ h e. store.unregister-keeps n lent delete e; fit = λ e. fits-wipes delete _ }
-shape (Event.joinCreate set) n lent = record { why = _; done = _; same = refl; plain = refl; sure = λ e. store.joinCreate-passed n lent set e .sure; later = store.joinCreate-later n lent set; keeps = λ h e. store.joinCreate-keeps n lent set e; fit = λ e. refl }
-shape Event.assemble n lent = record { why = _; done = _; same = refl; plain = refl; sure = λ e. store.assemble-passed n lent e .sure; later = store.assemble-later n lent; keeps = λ h e. store.assemble-keeps n lent e; fit = λ e. refl }
-shape (Event.leave delete) n lent = record { why = _; done = _; same = refl; plain = refl; sure = λ e. store.leave-passed n lent e .sure; later = store.leave-later n lent; keeps = λ h e. store.leave-keeps n lent e; fit = λ e. fits-leaves delete n _ }
-shape (Event.enable1 version set) n lent = record { why = _; done = _; same = refl; plain = refl; sure = λ e. service.enable1-passed n lent version set e .0 .sure; later = service.enable1-later n lent version set; keeps = λ h e. service.enable1-keeps n lent version set e; fit = λ e. refl }
-shape Event.enable0 n lent = record { why = _; done = _; same = refl; plain = refl; sure = λ e. service.stop-passed n lent e .sure; later = service.stop-later n lent; keeps = λ h e. service.enable0-keeps n lent e; fit = λ e. refl }
-shape Event.fault n lent = record { why = _; done = _; same = refl; plain = refl; sure = λ e. service.stop-passed n lent e .sure; later = service.stop-later n lent; keeps = λ h e. service.fault-keeps n lent e; fit = λ e. refl }
-shape (Event.write chunk set version) n lent = record { why = _; done = _; same = refl; plain = refl; sure = λ e. service.write-passed n lent chunk set version e .sure; later = service.write-later n lent chunk set version; keeps = λ h e. service.write-keeps n lent chunk set version h e; fit = λ e. service.write-chunk n lent chunk set version e }
-shape (Event.synced member chunk) n lent = record { why = _; done = _; same = refl; plain = refl; sure = λ e. service.synced-passed n lent member chunk e .sure; later = service.synced-later n lent member chunk; keeps = λ h e. service.synced-keeps n lent member chunk e; fit = λ e. refl }
-shape (Event.poolInfo op member) n lent = record { why = _; done = _; same = refl; plain = refl; sure = λ e. service.poolInfo-passed n lent op member e .sure; later = service.poolInfo-later n lent op member; keeps = λ h e. service.poolInfo-keeps n lent op member e; fit = λ e. fits-informs op member _ }
-shape (Event.mapReady keep) n lent = record { why = _; done = _; same = refl; plain = refl; sure = λ e. transfer.serve-passed n lent e .sure; later = transfer.serve-later n lent; keeps = λ h e. transfer.mapReady-keeps n lent e; fit = λ e. refl }
-shape Event.give n lent = record { why = _; done = _; same = refl; plain = refl; sure = λ e. transfer.serve-passed n lent e .sure; later = transfer.serve-later n lent; keeps = λ h e. transfer.give-keeps n lent e; fit = λ e. refl }
-shape (Event.take zs) n lent = record { why = _; done = _; same = refl; plain = refl; sure = λ e. transfer.hand-passed n lent e .sure; later = transfer.hand-later n lent; keeps = λ h e. transfer.take-keeps n lent e; fit = λ e. refl }
-shape (Event.mapDone enabling version set) n lent = record { why = _; done = _; same = refl; plain = refl; sure = λ e. transfer.mapDone-passed n lent version set e .0 .sure; later = transfer.mapDone-later n lent version set; keeps = λ h e. transfer.mapDone-keeps n lent enabling version set e; fit = λ e. refl }
-shape Event.mapDisable n lent = record { why = _; done = _; same = refl; plain = refl; sure = λ e. transfer.hand-passed n lent e .sure; later = transfer.hand-later n lent; keeps = λ h e. transfer.mapDisable-keeps n lent e; fit = λ e. refl }
-shape Event.mapGetVer n lent = record { why = _; done = _; same = refl; plain = refl; sure = λ e. transfer.serve-passed n lent e .sure; later = transfer.serve-later n lent; keeps = λ h e. transfer.mapGetVer-keeps n lent e; fit = λ e. refl }
-shape (Event.lastIoToMap chosen) n lent = record { why = _; done = _; same = refl; plain = refl; sure = λ e. transfer.lastIo-passed n lent chosen e .sure; later = transfer.lastIo-later n lent chosen; keeps = λ h e. transfer.lastIo-keeps n lent chosen e; fit = λ e. transfer.lastIo-passed n lent chosen e .rules .keeps }
+unfolding Register.registerCreate Register.registerAdd Register.unregister Join.joinCreate Join.assemble Join.leave Enable.enable1 Enable.enable0 Enable.fault Write.write Write.synced Info.poolInfo Serve.mapReady Serve.give Hand.take Hand.mapDone Hand.mapDisable Serve.mapGetVer Serve.lastIoToMap Write.written storedVersion keptChunk
+shape Event.registerCreate n lent = record { why = _; done = _; same = refl; plain = refl; sure = λ e. register.registerCreate-passed n lent e .sure; later = register.registerCreate-later n lent; keeps = λ h e. register.registerCreate-keeps n lent h e; fit = λ e. refl }
+shape (Event.registerAdd set version) n lent = record { why = _; done = _; same = refl; plain = refl; sure = λ e. register.registerAdd-passed n lent set version e .0 .sure; later = register.registerAdd-later n lent set version; keeps = λ h e. register.registerAdd-keeps n lent set version e; fit = λ e. refl }
+shape (Event.unregister delete) n lent = record { why = _; done = _; same = refl; plain = refl; sure = λ e. register.unregister-passed n lent delete e .sure; later = register.unregister-later n lent delete; keeps = λ h e. register.unregister-keeps n lent delete e; fit = λ e. fits-wipes delete _ }
+shape (Event.joinCreate set) n lent = record { why = _; done = _; same = refl; plain = refl; sure = λ e. joins.joinCreate-passed n lent set e .sure; later = joins.joinCreate-later n lent set; keeps = λ h e. joins.joinCreate-keeps n lent set e; fit = λ e. refl }
+shape Event.assemble n lent = record { why = _; done = _; same = refl; plain = refl; sure = λ e. joins.assemble-passed n lent e .sure; later = joins.assemble-later n lent; keeps = λ h e. joins.assemble-keeps n lent e; fit = λ e. refl }
+shape (Event.leave delete) n lent = record { why = _; done = _; same = refl; plain = refl; sure = λ e. joins.leave-passed n lent e .sure; later = joins.leave-later n lent; keeps = λ h e. joins.leave-keeps n lent e; fit = λ e. fits-leaves delete n _ }
+shape (Event.enable1 version set) n lent = record { why = _; done = _; same = refl; plain = refl; sure = λ e. enable.enable1-passed n lent version set e .0 .sure; later = enable.enable1-later n lent version set; keeps = λ h e. enable.enable1-keeps n lent version set e; fit = λ e. refl }
+shape Event.enable0 n lent = record { why = _; done = _; same = refl; plain = refl; sure = λ e. enable.stop-passed n lent e .sure; later = enable.stop-later n lent; keeps = λ h e. enable.enable0-keeps n lent e; fit = λ e. refl }
+shape Event.fault n lent = record { why = _; done = _; same = refl; plain = refl; sure = λ e. enable.stop-passed n lent e .sure; later = enable.stop-later n lent; keeps = λ h e. enable.fault-keeps n lent e; fit = λ e. refl }
+shape (Event.write chunk set version) n lent = record { why = _; done = _; same = refl; plain = refl; sure = λ e. writes.write-passed n lent chunk set version e .sure; later = writes.write-later n lent chunk set version; keeps = λ h e. writes.write-keeps n lent chunk set version h e; fit = λ e. writes.write-chunk n lent chunk set version e }
+shape (Event.synced member chunk) n lent = record { why = _; done = _; same = refl; plain = refl; sure = λ e. writes.synced-passed n lent member chunk e .sure; later = writes.synced-later n lent member chunk; keeps = λ h e. writes.synced-keeps n lent member chunk e; fit = λ e. refl }
+shape (Event.poolInfo op member) n lent = record { why = _; done = _; same = refl; plain = refl; sure = λ e. writes.poolInfo-passed n lent op member e .sure; later = writes.poolInfo-later n lent op member; keeps = λ h e. writes.poolInfo-keeps n lent op member e; fit = λ e. fits-informs op member _ }
+shape (Event.mapReady keep) n lent = record { why = _; done = _; same = refl; plain = refl; sure = λ e. serve.serve-passed n lent e .sure; later = serve.serve-later n lent; keeps = λ h e. serve.mapReady-keeps n lent e; fit = λ e. refl }
+shape Event.give n lent = record { why = _; done = _; same = refl; plain = refl; sure = λ e. serve.serve-passed n lent e .sure; later = serve.serve-later n lent; keeps = λ h e. serve.give-keeps n lent e; fit = λ e. refl }
+shape (Event.take zs) n lent = record { why = _; done = _; same = refl; plain = refl; sure = λ e. hand.hand-passed n lent e .sure; later = hand.hand-later n lent; keeps = λ h e. hand.take-keeps n lent e; fit = λ e. refl }
+shape (Event.mapDone enabling version set) n lent = record { why = _; done = _; same = refl; plain = refl; sure = λ e. hand.mapDone-passed n lent version set e .0 .sure; later = hand.mapDone-later n lent version set; keeps = λ h e. hand.mapDone-keeps n lent enabling version set e; fit = λ e. refl }
+shape Event.mapDisable n lent = record { why = _; done = _; same = refl; plain = refl; sure = λ e. hand.hand-passed n lent e .sure; later = hand.hand-later n lent; keeps = λ h e. hand.mapDisable-keeps n lent e; fit = λ e. refl }
+shape Event.mapGetVer n lent = record { why = _; done = _; same = refl; plain = refl; sure = λ e. serve.serve-passed n lent e .sure; later = serve.serve-later n lent; keeps = λ h e. serve.mapGetVer-keeps n lent e; fit = λ e. refl }
+shape (Event.lastIoToMap chosen) n lent = record { why = _; done = _; same = refl; plain = refl; sure = λ e. serve.lastIo-passed n lent chosen e .sure; later = serve.lastIo-later n lent chosen; keeps = λ h e. serve.lastIo-keeps n lent chosen e; fit = λ e. serve.lastIo-passed n lent chosen e .rules .keeps }
 
 -- ---- a turn is refused, or done
 

@@ -1,27 +1,23 @@
 -- A short history of one node, computed: created, enabled, two writes, a transfer. Assumes nothing.
 use mathlib.Core.Path.{_≡_, refl}
-use mathlib.Core.Bool.{Bool, true, false}
-use mathlib.Core.List.{List, [], _∷_}
-use Prim.Native.Nat.{ℕ}
-use lib.ListN.{drop, replicate}
+use mathlib.Core.Bool.{true, false}
+use mathlib.Core.List.{[], _∷_}
+use lib.ListN.{drop}
 use Rattle.sets.specs.Sets.{has, with, without}
 use Rattle.laws.specs.Words.{bit}
-use Rattle.nodestate.specs.declared.State.{State}
-use Rattle.nodestate.specs.declared.Transfer.{Transfer}
 use Rattle.nodestate.specs.declared.OnMap.{OnMap}
 use Rattle.nodestate.specs.declared.OnStaging.{OnStaging}
 use Rattle.nodestate.specs.declared.Answer.{Answer}
 use Rattle.nodestate.specs.declared.Node.{Node}
-use Rattle.nodestate.specs.declared.Turn.{Turn}
-use Rattle.nodestate.specs.Change.{fresh, moved, equipped, tookOver, storedVersion, keptChunk, forgotten, transferred, endedTransfer, instructed}
-use Rattle.nodestate.specs.Rules.{keptOk, valid}
-use Rattle.nodestate.specs.Turns.{does, turn, settled}
-use Rattle.store.specs.Register.{registerCreateRefusal, registeredCreate, registerCreate}
-use Rattle.store.specs.Join.{joinCreateRefusal, joinedCreate, joinCreate}
-use Rattle.service.specs.Enable.{enable1Refusal, enabled, enable1}
-use Rattle.service.specs.Io.{writeRefusal, written, write}
-use Rattle.transfer.specs.Serve.{serveRefusal, readied, mapReady, mapGetVer}
-use Rattle.transfer.specs.Hand.{handRefusal, taken, take, mapDoneRefusal, committed, mapDone}
+use Rattle.nodestate.specs.Change.{fresh, moved, equipped, takenOver, storedVersion, keptChunk, forgotten, transferred, endedTransfer, instructed}
+use Rattle.nodestate.specs.StateRules.{keptOk, valid}
+use Rattle.nodestate.specs.Turns.{does, settled}
+use Rattle.noderegister.specs.Register.{registerCreateRefusal, registeredCreate, registerCreate}
+use Rattle.nodejoins.specs.Join.{joinCreateRefusal, joinedCreate, joinCreate}
+use Rattle.nodeenables.specs.Enable.{enable1Refusal, enabled, enable1}
+use Rattle.nodewrites.specs.Write.{writeRefusal, written, write}
+use Rattle.nodeserve.specs.Serve.{serveRefusal, readied, mapReady, mapGetVer}
+use Rattle.nodehand.specs.Hand.{handRefusal, taken, take, mapDoneRefusal, committed, mapDone}
 
 -- node 1 of 4,096 chunks: registered, joined in create mode beside node 0, enabled, and one write that did not reach 0
 abbrev pub created : Node
@@ -74,7 +70,7 @@ unfolding
     fresh
     moved
     equipped
-    tookOver
+    takenOver
     storedVersion
     keptChunk
     forgotten

@@ -6,13 +6,13 @@ use Rattle.state.specs.declared.Op.{Op}
 use Rattle.nodestate.specs.declared.Node.{Node}
 use Rattle.nodestate.specs.declared.Turn.{Turn}
 use Rattle.nodestate.specs.Table.{Kind}
-use Rattle.store.specs.Register as Register
-use Rattle.store.specs.Join as Join
-use Rattle.service.specs.Enable as Enable
-use Rattle.service.specs.Io as Io
-use Rattle.service.specs.Info as Info
-use Rattle.transfer.specs.Serve as Serve
-use Rattle.transfer.specs.Hand as Hand
+use Rattle.noderegister.specs.Register as Register
+use Rattle.nodejoins.specs.Join as Join
+use Rattle.nodeenables.specs.Enable as Enable
+use Rattle.nodewrites.specs.Write as Write
+use Rattle.nodewrites.specs.Info as Info
+use Rattle.nodeserve.specs.Serve as Serve
+use Rattle.nodehand.specs.Hand as Hand
 
 -- registerAdd: set, version. unregister, leave: delete. joinCreate: set. enable1: version, set. write: chunk, set, version. synced: member, chunk.
 -- poolInfo: what, member. mapReady: keep. take: the map taken. mapDone: enabling, version, set. lastIoToMap: the chosen.
@@ -85,24 +85,24 @@ third Event.mapDisable = Third.none
 third Event.mapGetVer = Third.none
 third (Event.lastIoToMap chosen) = Third.none
 
--- the turn of an event; `lent` says that the lent maps are sound
+-- the turn of an event; `sound` says that the lent maps are
 abbrev pub turnOf : Event → Node → Bool → Turn
-turnOf Event.registerCreate n lent = Register.registerCreate n lent
-turnOf (Event.registerAdd set version) n lent = Register.registerAdd n lent set version
-turnOf (Event.unregister delete) n lent = Register.unregister n lent delete
-turnOf (Event.joinCreate set) n lent = Join.joinCreate n lent set
-turnOf Event.assemble n lent = Join.assemble n lent
-turnOf (Event.leave delete) n lent = Join.leave n lent delete
-turnOf (Event.enable1 version set) n lent = Enable.enable1 n lent version set
-turnOf Event.enable0 n lent = Enable.enable0 n lent
-turnOf Event.fault n lent = Enable.fault n lent
-turnOf (Event.write chunk set version) n lent = Io.write n lent chunk set version
-turnOf (Event.synced member chunk) n lent = Io.synced n lent member chunk
-turnOf (Event.poolInfo op member) n lent = Info.poolInfo n lent op member
-turnOf (Event.mapReady keep) n lent = Serve.mapReady n lent keep
-turnOf Event.give n lent = Serve.give n lent
-turnOf (Event.take zs) n lent = Hand.take n lent
-turnOf (Event.mapDone enabling version set) n lent = Hand.mapDone n lent enabling version set
-turnOf Event.mapDisable n lent = Hand.mapDisable n lent
-turnOf Event.mapGetVer n lent = Serve.mapGetVer n lent
-turnOf (Event.lastIoToMap chosen) n lent = Serve.lastIoToMap n lent chosen
+turnOf Event.registerCreate n sound = Register.registerCreate n sound
+turnOf (Event.registerAdd set version) n sound = Register.registerAdd n sound set version
+turnOf (Event.unregister delete) n sound = Register.unregister n sound delete
+turnOf (Event.joinCreate set) n sound = Join.joinCreate n sound set
+turnOf Event.assemble n sound = Join.assemble n sound
+turnOf (Event.leave delete) n sound = Join.leave n sound delete
+turnOf (Event.enable1 version set) n sound = Enable.enable1 n sound version set
+turnOf Event.enable0 n sound = Enable.enable0 n sound
+turnOf Event.fault n sound = Enable.fault n sound
+turnOf (Event.write chunk set version) n sound = Write.write n sound chunk set version
+turnOf (Event.synced member chunk) n sound = Write.synced n sound member chunk
+turnOf (Event.poolInfo op member) n sound = Info.poolInfo n sound op member
+turnOf (Event.mapReady keep) n sound = Serve.mapReady n sound keep
+turnOf Event.give n sound = Serve.give n sound
+turnOf (Event.take zs) n sound = Hand.take n sound
+turnOf (Event.mapDone enabling version set) n sound = Hand.mapDone n sound enabling version set
+turnOf Event.mapDisable n sound = Hand.mapDisable n sound
+turnOf Event.mapGetVer n sound = Serve.mapGetVer n sound
+turnOf (Event.lastIoToMap chosen) n sound = Serve.lastIoToMap n sound chosen

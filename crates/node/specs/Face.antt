@@ -29,8 +29,8 @@ abbrev pub turnAt : Event → StorageNode → List ℕ → List ℕ → Turn
 turnAt e s xs ys = turnOf e (s .node) (lentTo (third e) (s .node) xs ys)
 
 -- the answer beside the next state
-abbrev pub told : Turn → Out
-told t = record { answer = t .answer; node = record { node = t .node } }
+abbrev pub handed : Turn → Out
+handed t = record { answer = t .answer; node = record { node = t .node } }
 
 -- the map that a turn leaves
 unfoldable pub mapBy : Turn → List ℕ → List ℕ → List ℕ
@@ -47,7 +47,7 @@ stagingBy t xs ys = stagingAfter (t .effect .staging) (mapBy t xs ys) ys
 
 -- what an event answers, and the two maps that it leaves
 abbrev pub answers : Event → StorageNode → List ℕ → List ℕ → Out
-answers e s xs ys = told (turnAt e s xs ys)
+answers e s xs ys = handed (turnAt e s xs ys)
 
 abbrev pub mapLeft : Event → StorageNode → List ℕ → List ℕ → List ℕ
 mapLeft e s xs ys = mapBy (turnAt e s xs ys) xs ys

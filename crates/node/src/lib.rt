@@ -4,7 +4,7 @@ ghost use mathlib.Core.Path.{_≡_};
 ghost use mathlib.Core.Bool.{_&&_};
 ghost use Rattle.maps.specs.Map.{sound};
 ghost use Rattle.node.specs.Events.{Event};
-ghost use Rattle.node.specs.Face.{freshNode, told, mapBy, stagingBy, answers, mapLeft, stagingLeft};
+ghost use Rattle.node.specs.Face.{freshNode, handed, mapBy, stagingBy, answers, mapLeft, stagingLeft};
 use nodestate::Answer;
 use nodestate::Node;
 use nodestate::Turn;
@@ -24,7 +24,7 @@ impl StorageNode {
 
     pub const CHUNK_LIMIT: u64 = refusals::CHUNK_LIMIT;
 
-    pub const MAP_BYTES: u64 = 8192;
+    pub const MAP_BYTES: usize = refusals::MAP_BYTES;
 
     pub const VERSION_LIMIT: u64 = refusals::VERSION_LIMIT;
 
@@ -48,7 +48,7 @@ impl StorageNode {
     {
         let n = self.node;
         let sound = both_sound(n.chunks, map, staging);
-        let t = store::register::register_create(n, sound);
+        let t = noderegister::register_create(n, sound);
         finish(t, map, staging)
     }
 
@@ -60,7 +60,7 @@ impl StorageNode {
     {
         let n = self.node;
         let sound = both_sound(n.chunks, map, staging);
-        let t = store::register::register_add(n, sound, set, version);
+        let t = noderegister::register_add(n, sound, set, version);
         finish(t, map, staging)
     }
 
@@ -72,7 +72,7 @@ impl StorageNode {
     {
         let n = self.node;
         let sound = both_sound(n.chunks, map, staging);
-        let t = store::register::unregister(n, sound, delete);
+        let t = noderegister::unregister(n, sound, delete);
         finish(t, map, staging)
     }
 
@@ -84,7 +84,7 @@ impl StorageNode {
     {
         let n = self.node;
         let sound = both_sound(n.chunks, map, staging);
-        let t = store::join::join_create(n, sound, set);
+        let t = nodejoins::join_create(n, sound, set);
         finish(t, map, staging)
     }
 
@@ -96,7 +96,7 @@ impl StorageNode {
     {
         let n = self.node;
         let sound = both_sound(n.chunks, map, staging);
-        let t = store::join::assemble(n, sound);
+        let t = nodejoins::assemble(n, sound);
         finish(t, map, staging)
     }
 
@@ -108,7 +108,7 @@ impl StorageNode {
     {
         let n = self.node;
         let sound = both_sound(n.chunks, map, staging);
-        let t = store::join::leave(n, sound, delete);
+        let t = nodejoins::leave(n, sound, delete);
         finish(t, map, staging)
     }
 
@@ -120,7 +120,7 @@ impl StorageNode {
     {
         let n = self.node;
         let sound = both_sound(n.chunks, map, staging);
-        let t = service::enable::enable1(n, sound, version, set);
+        let t = nodeenables::enable1(n, sound, version, set);
         finish(t, map, staging)
     }
 
@@ -132,7 +132,7 @@ impl StorageNode {
     {
         let n = self.node;
         let sound = both_sound(n.chunks, map, staging);
-        let t = service::enable::enable0(n, sound);
+        let t = nodeenables::enable0(n, sound);
         finish(t, map, staging)
     }
 
@@ -144,7 +144,7 @@ impl StorageNode {
     {
         let n = self.node;
         let sound = both_sound(n.chunks, map, staging);
-        let t = service::enable::fault(n, sound);
+        let t = nodeenables::fault(n, sound);
         finish(t, map, staging)
     }
 
@@ -163,7 +163,7 @@ impl StorageNode {
     {
         let n = self.node;
         let sound = both_sound(n.chunks, map, staging);
-        let t = service::io::write(n, sound, chunk, set, version);
+        let t = nodewrites::write::write(n, sound, chunk, set, version);
         finish(t, map, staging)
     }
 
@@ -175,7 +175,7 @@ impl StorageNode {
     {
         let n = self.node;
         let sound = both_sound(n.chunks, map, staging);
-        let t = service::io::synced(n, sound, member, chunk);
+        let t = nodewrites::write::synced(n, sound, member, chunk);
         finish(t, map, staging)
     }
 
@@ -187,7 +187,7 @@ impl StorageNode {
     {
         let n = self.node;
         let sound = both_sound(n.chunks, map, staging);
-        let t = service::info::pool_info(n, sound, op, member);
+        let t = nodewrites::info::pool_info(n, sound, op, member);
         finish(t, map, staging)
     }
 
@@ -199,7 +199,7 @@ impl StorageNode {
     {
         let n = self.node;
         let sound = both_sound(n.chunks, map, staging);
-        let t = transfer::serve::map_ready(n, sound, keep);
+        let t = nodeserve::map_ready(n, sound, keep);
         finish(t, map, staging)
     }
 
@@ -211,7 +211,7 @@ impl StorageNode {
     {
         let n = self.node;
         let sound = both_sound(n.chunks, map, staging);
-        let t = transfer::serve::give(n, sound);
+        let t = nodeserve::give(n, sound);
         finish(t, map, staging)
     }
 
@@ -223,7 +223,7 @@ impl StorageNode {
     {
         let n = self.node;
         let sound = maps::is_sound(taken, n.chunks) & both_sound(n.chunks, map, staging);
-        let t = transfer::hand::take(n, sound);
+        let t = nodehand::take(n, sound);
         let e = t.effect;
         let s = e.staging;
         let out = finish(t, map, staging);
@@ -246,7 +246,7 @@ impl StorageNode {
     {
         let n = self.node;
         let sound = both_sound(n.chunks, map, staging);
-        let t = transfer::hand::map_done(n, sound, enabling, version, set);
+        let t = nodehand::map_done(n, sound, enabling, version, set);
         finish(t, map, staging)
     }
 
@@ -258,7 +258,7 @@ impl StorageNode {
     {
         let n = self.node;
         let sound = both_sound(n.chunks, map, staging);
-        let t = transfer::hand::map_disable(n, sound);
+        let t = nodehand::map_disable(n, sound);
         finish(t, map, staging)
     }
 
@@ -270,7 +270,7 @@ impl StorageNode {
     {
         let n = self.node;
         let sound = both_sound(n.chunks, map, staging);
-        let t = transfer::serve::map_get_ver(n, sound);
+        let t = nodeserve::map_get_ver(n, sound);
         finish(t, map, staging)
     }
 
@@ -282,7 +282,7 @@ impl StorageNode {
     {
         let n = self.node;
         let sound = both_sound(n.chunks, map, staging);
-        let t = transfer::serve::last_io_to_map(n, sound, chosen);
+        let t = nodeserve::last_io_to_map(n, sound, chosen);
         finish(t, map, staging)
     }
 }
@@ -295,7 +295,7 @@ fn both_sound(chunks: u64, map: &[u8], staging: &[u8]) -> bool
 
 // Carries out what is due to the maps, and hands the answer back with the state.
 fn finish(t: Turn, map: &mut [u8], staging: &mut [u8]) -> Out
-    ensures { λ r. ⌜ r ≡ told t ⌝ }
+    ensures { λ r. ⌜ r ≡ handed t ⌝ }
     ensures { λ _. ⌜ now (map .exit) ≡ mapBy t (now (map .entry)) (now (staging .entry)) ⌝ }
     ensures { λ _. ⌜ now (staging .exit) ≡ stagingBy t (now (map .entry)) (now (staging .entry)) ⌝ }
 {

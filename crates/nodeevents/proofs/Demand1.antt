@@ -11,13 +11,13 @@ use Rattle.nodestate.specs.declared.Answer.{Answer}
 use Rattle.nodestate.specs.declared.Node.{Node}
 use Rattle.nodestate.specs.declared.Turn.{Turn}
 use Rattle.nodestate.specs.Turns.{refused, settled}
-use Rattle.store.specs.Register as Register
-use Rattle.store.specs.Join as Join
-use Rattle.service.specs.Enable as Enable
-use Rattle.service.specs.Io as Io
-use Rattle.service.specs.Info as Info
-use Rattle.transfer.specs.Serve as Serve
-use Rattle.transfer.specs.Hand as Hand
+use Rattle.noderegister.specs.Register as Register
+use Rattle.nodejoins.specs.Join as Join
+use Rattle.nodeenables.specs.Enable as Enable
+use Rattle.nodewrites.specs.Write as Write
+use Rattle.nodewrites.specs.Info as Info
+use Rattle.nodeserve.specs.Serve as Serve
+use Rattle.nodehand.specs.Hand as Hand
 use Rattle.node.specs.Events.{Event, third, turnOf}
 use Rattle.node.specs.Face.{lentTo, turnAt, answers}
 use Rattle.node.proofs.Theorems.{refusal-changes-nothing}
@@ -25,32 +25,32 @@ use Rattle.nodeevents.specs.Tests.{testsAt, testsOf}
 use Rattle.nodeevents.specs.Demand1.{isTaken, Verdict, Demand1}
 
 -- a turn is what the event does where nothing refuses it, else it is refused by the first that applies
-record Shape (e : Event) (n : Node) (lent : Bool) : Type 0 where
+record Shape (e : Event) (n : Node) (sound : Bool) : Type 0 where
   does : Turn
-  same : turnOf e n lent ≡ pick (eqb (refusal (testsAt e n lent)) 0) does (refused (refusal (testsAt e n lent)) n)
+  same : turnOf e n sound ≡ pick (eqb (refusal (testsAt e n sound)) 0) does (refused (refusal (testsAt e n sound)) n)
   plain : isTaken (does .answer) ≡ true
 
-shape : (e : Event) (n : Node) (lent : Bool) → Shape e n lent
-unfolding settled Register.registerCreate Register.registerCreateRefusal Register.registerAdd Register.registerAddRefusal Register.unregister Register.unregisterRefusal Join.joinCreate Join.joinCreateRefusal Join.assemble Join.assembleRefusal Join.leave Join.leaveRefusal Enable.enable1 Enable.enable1Refusal Enable.enable0 Enable.fault Enable.stopRefusal Io.write Io.writeRefusal Io.synced Io.syncedRefusal Info.poolInfo Info.poolInfoRefusal Serve.mapReady Serve.give Serve.mapGetVer Serve.serveRefusal Hand.take Hand.mapDisable Hand.handRefusal Hand.mapDone Hand.mapDoneRefusal Serve.lastIoToMap Serve.lastIoRefusal
-shape Event.registerCreate n lent = record { does = _; same = refl; plain = refl }
-shape (Event.registerAdd set version) n lent = record { does = _; same = refl; plain = refl }
-shape (Event.unregister delete) n lent = record { does = _; same = refl; plain = refl }
-shape (Event.joinCreate set) n lent = record { does = _; same = refl; plain = refl }
-shape Event.assemble n lent = record { does = _; same = refl; plain = refl }
-shape (Event.leave delete) n lent = record { does = _; same = refl; plain = refl }
-shape (Event.enable1 version set) n lent = record { does = _; same = refl; plain = refl }
-shape Event.enable0 n lent = record { does = _; same = refl; plain = refl }
-shape Event.fault n lent = record { does = _; same = refl; plain = refl }
-shape (Event.write chunk set version) n lent = record { does = _; same = refl; plain = refl }
-shape (Event.synced member chunk) n lent = record { does = _; same = refl; plain = refl }
-shape (Event.poolInfo op member) n lent = record { does = _; same = refl; plain = refl }
-shape (Event.mapReady keep) n lent = record { does = _; same = refl; plain = refl }
-shape Event.give n lent = record { does = _; same = refl; plain = refl }
-shape (Event.take zs) n lent = record { does = _; same = refl; plain = refl }
-shape (Event.mapDone enabling version set) n lent = record { does = _; same = refl; plain = refl }
-shape Event.mapDisable n lent = record { does = _; same = refl; plain = refl }
-shape Event.mapGetVer n lent = record { does = _; same = refl; plain = refl }
-shape (Event.lastIoToMap chosen) n lent = record { does = _; same = refl; plain = refl }
+shape : (e : Event) (n : Node) (sound : Bool) → Shape e n sound
+unfolding settled Register.registerCreate Register.registerCreateRefusal Register.registerAdd Register.registerAddRefusal Register.unregister Register.unregisterRefusal Join.joinCreate Join.joinCreateRefusal Join.assemble Join.assembleRefusal Join.leave Join.leaveRefusal Enable.enable1 Enable.enable1Refusal Enable.enable0 Enable.fault Enable.stopRefusal Write.write Write.writeRefusal Write.synced Write.syncedRefusal Info.poolInfo Info.poolInfoRefusal Serve.mapReady Serve.give Serve.mapGetVer Serve.serveRefusal Hand.take Hand.mapDisable Hand.handRefusal Hand.mapDone Hand.mapDoneRefusal Serve.lastIoToMap Serve.lastIoRefusal
+shape Event.registerCreate n sound = record { does = _; same = refl; plain = refl }
+shape (Event.registerAdd set version) n sound = record { does = _; same = refl; plain = refl }
+shape (Event.unregister delete) n sound = record { does = _; same = refl; plain = refl }
+shape (Event.joinCreate set) n sound = record { does = _; same = refl; plain = refl }
+shape Event.assemble n sound = record { does = _; same = refl; plain = refl }
+shape (Event.leave delete) n sound = record { does = _; same = refl; plain = refl }
+shape (Event.enable1 version set) n sound = record { does = _; same = refl; plain = refl }
+shape Event.enable0 n sound = record { does = _; same = refl; plain = refl }
+shape Event.fault n sound = record { does = _; same = refl; plain = refl }
+shape (Event.write chunk set version) n sound = record { does = _; same = refl; plain = refl }
+shape (Event.synced member chunk) n sound = record { does = _; same = refl; plain = refl }
+shape (Event.poolInfo op member) n sound = record { does = _; same = refl; plain = refl }
+shape (Event.mapReady keep) n sound = record { does = _; same = refl; plain = refl }
+shape Event.give n sound = record { does = _; same = refl; plain = refl }
+shape (Event.take zs) n sound = record { does = _; same = refl; plain = refl }
+shape (Event.mapDone enabling version set) n sound = record { does = _; same = refl; plain = refl }
+shape Event.mapDisable n sound = record { does = _; same = refl; plain = refl }
+shape Event.mapGetVer n sound = record { does = _; same = refl; plain = refl }
+shape (Event.lastIoToMap chosen) n sound = record { does = _; same = refl; plain = refl }
 
 pub demand-1 : Demand1
 demand-1 e s xs ys = at (eqb why 0) refl

@@ -7,7 +7,7 @@ use Rattle.laws.specs.Tests.{clash, and-both}
 use Rattle.refusals.specs.Refusals.{applies}
 use Rattle.nodestate.specs.declared.Answer.{Answer}
 use Rattle.nodestate.specs.declared.Node.{Node}
-use Rattle.nodestate.specs.Rules.{valid}
+use Rattle.nodestate.specs.StateRules.{valid}
 use Rattle.node.specs.declared.StorageNode.{StorageNode}
 use Rattle.node.specs.Events.{Event, third}
 use Rattle.node.specs.Face.{lentTo, answers}

@@ -7,7 +7,7 @@ use Prim.Native.Nat.{ℕ, _≤_}
 use Rattle.refusals.specs.Limits.{chunkLimit}
 use Rattle.maps.specs.Map.{sound}
 use Rattle.nodestate.specs.declared.Answer.{Answer}
-use Rattle.nodestate.specs.Rules.{valid}
+use Rattle.nodestate.specs.StateRules.{valid}
 use Rattle.nodestate.specs.Table.{legal}
 use Rattle.node.specs.declared.StorageNode.{StorageNode}
 use Rattle.node.specs.Events.{Event, kindOf, third}

@@ -1,9 +1,9 @@
 -- What a node's events mean for one chunk of one member: rows that stay, rows that go, and the chosen of LAST_IO_TO_MAP. Assumes nothing.
-use mathlib.Core.Path.{_≡_, refl, sym, ap, _∙_}
+use mathlib.Core.Path.{_≡_, refl, sym, _∙_}
 use mathlib.Core.Logic.{_≢_}
 use mathlib.Core.Bool.{Bool, true, false}
 use mathlib.Core.List.{List}
-use Prim.Native.Nat.{ℕ, zero, suc, _+_, _<_, _≤_, min, max}
+use Prim.Native.Nat.{ℕ, zero, suc, _+_, _<_, _≤_, min}
 use native.Mathlib.Omega.{arith}
 use lib.Dec.{eqb}
 use lib.ListN.{length, getD}
@@ -11,14 +11,15 @@ use Rattle.laws.specs.Words.{pick, one}
 use Rattle.laws.specs.Loops.{runAt}
 use Rattle.sets.specs.Sets.{has, with, without}
 use Rattle.sets.proofs.Laws.{has-with-same, has-with-other, has-without-same, has-none}
-use Rattle.maps.specs.Map.{dirty, copied, kept}
-use Rattle.maps.proofs.Chunks.{same, dirty-markedFor, dirty-kept}
-use Rattle.maps.proofs.Laws.{dirty-lt}
+use Rattle.chunks.specs.Chunk.{dirty, markedFor}
+use Rattle.maps.specs.Map.{kept}
+use Rattle.maps.proofs.Chunks.{dirty-markedFor, dirty-kept}
+use Rattle.chunks.proofs.Laws.{dirty-lt}
 use Rattle.maps.proofs.Rows.{copied-all}
 use Rattle.maps.proofs.Sound.{Sound}
 use Rattle.nodestate.specs.declared.OnMap.{OnMap}
 use Rattle.nodestate.specs.declared.Node.{Node}
-use Rattle.nodestate.specs.Rules.{isKept, keptOk}
+use Rattle.nodestate.specs.StateRules.{isKept}
 use Rattle.nodestate.proofs.Valid.{Valid, kept-below}
 use Rattle.nodemaps.specs.Carry.{lastIo, lastIoAt, lastIos, mapAfter}
 use Rattle.nodemaps.proofs.Sound.{sound-lastIoAt}
@@ -48,13 +49,13 @@ not-marked n chosen i xs c v s h l b = outer (isKept n i) refl
     k : ℕ
     k = getD (n .kept) i 0
 
-    inner : (t : Bool) → k < 4096 → dirty (pick t xs (Rattle.maps.specs.Map.markedFor xs (without (n .members) chosen) k)) chosen c ≡ dirty xs chosen c
+    inner : (t : Bool) → k < 4096 → dirty (pick t xs (markedFor xs (without (n .members) chosen) k)) chosen c ≡ dirty xs chosen c
     inner true q = refl
     inner false q =
         dirty-markedFor xs (without (n .members) chosen) k chosen c (s .len) h q l
         ∙ (rw (has-without-same (n .members) chosen) (omega (arith, dirty-lt xs chosen c)))
 
-    outer : (t : Bool) → isKept n i ≡ t → dirty (pick t (pick (eqb (dirty xs chosen k) 1) xs (Rattle.maps.specs.Map.markedFor xs (without (n .members) chosen) k)) xs) chosen c ≡ dirty xs chosen c
+    outer : (t : Bool) → isKept n i ≡ t → dirty (pick t (pick (eqb (dirty xs chosen k) 1) xs (markedFor xs (without (n .members) chosen) k)) xs) chosen c ≡ dirty xs chosen c
     outer true e = let q : k < n .chunks = kept-below n (v .keeps) i b e in inner (eqb (dirty xs chosen k) 1) (omega (arith, v .few))
     outer false e = refl
 

@@ -9,12 +9,12 @@ use lib.ListN.{getD}
 use borrow.Author.Tests.{ltb-true}
 use Rattle.laws.specs.Words.{pick}
 use Rattle.laws.specs.Loops.{runAt}
-use Rattle.maps.specs.Map.{dirty}
+use Rattle.chunks.specs.Chunk.{dirty}
 use Rattle.maps.proofs.Sound.{Sound, sound-cleared, sound-or, sound-copied, sound-zeroRow, sound-zeroed, sound-kept, sound-markedFor}
 use Rattle.nodestate.specs.declared.OnMap.{OnMap}
 use Rattle.nodestate.specs.declared.OnStaging.{OnStaging}
 use Rattle.nodestate.specs.declared.Node.{Node}
-use Rattle.nodestate.specs.Rules.{isKept, keptOk}
+use Rattle.nodestate.specs.StateRules.{isKept, keptOk}
 use Rattle.nodestate.proofs.Valid.{kept-below}
 use Rattle.nodemaps.specs.Carry.{lastIo, lastIoAt, lastIos, mapAfter, stagingAfter, takenIn}
 

@@ -6,11 +6,12 @@ use lib.ListN.{getD}
 use Rattle.laws.specs.Words.{pick}
 use Rattle.laws.specs.Loops.{runAt}
 use Rattle.sets.specs.Sets.{without}
-use Rattle.maps.specs.Map.{dirty, markedFor, cleared, zeroRow, zeroed, kept, orIn, copied}
+use Rattle.chunks.specs.Chunk.{dirty, markedFor, cleared}
+use Rattle.maps.specs.Map.{zeroRow, zeroed, kept, orIn, copied}
 use Rattle.nodestate.specs.declared.OnMap.{OnMap}
 use Rattle.nodestate.specs.declared.OnStaging.{OnStaging}
 use Rattle.nodestate.specs.declared.Node.{Node}
-use Rattle.nodestate.specs.Rules.{isKept}
+use Rattle.nodestate.specs.StateRules.{isKept}
 
 -- a chunk marked for every member but the chosen, and passed over where it is dirty for the chosen
 unfoldable pub lastIo : ℕ → ℕ → ℕ → List ℕ → List ℕ

@@ -24,8 +24,8 @@ fn carry_map(e: OnMap, n: Node, map: &mut [u8], staging: &[u8])
 {
     match e {
         OnMap::Keep => {}
-        OnMap::Mark(set, chunk) => maps::mark_for(map, set, chunk),
-        OnMap::Clear(member, chunk) => maps::clear(map, member, chunk),
+        OnMap::Mark(set, chunk) => chunks::mark_for(map, set, chunk),
+        OnMap::Clear(member, chunk) => chunks::clear(map, member, chunk),
         OnMap::LastIos(chosen) => last_ios(n, chosen, map),
         OnMap::ZeroRow(member) => maps::zero_row(map, member),
         OnMap::Zero => maps::zero(map),
@@ -92,9 +92,9 @@ fn last_io_at(n: Node, chosen: u64, i: usize, map: &mut [u8])
 fn last_io(members: u64, chosen: u64, chunk: u64, map: &mut [u8])
     ensures { λ _. ⌜ now (map .exit) ≡ lastIo members chosen chunk (now (map .entry)) ⌝ }
 {
-    if maps::test(map, chosen, chunk) {
+    if chunks::test(map, chosen, chunk) {
         return;
     }
     let others = sets::without(members, chosen);
-    maps::mark_for(map, others, chunk);
+    chunks::mark_for(map, others, chunk);
 }

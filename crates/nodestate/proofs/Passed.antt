@@ -1,38 +1,22 @@
--- What an accepted event knows: no refusal of the order applied. Assumes nothing.
+-- What an accepted event knows and keeps. Assumes nothing.
 use mathlib.Core.Path.{_≡_, refl}
 use mathlib.Core.Logic.{_≢_}
 use mathlib.Core.Bool.{Bool, true, false, not, _&&_, _||_}
 use mathlib.Core.List.{List, [], _∷_}
-use Prim.Native.Nat.{ℕ, zero, suc, _≤_, _<_}
+use Prim.Native.Nat.{ℕ, _≤_, _<_}
 use native.Mathlib.Omega.{arith}
 use lib.Dec.{leb, ltb}
-use lib.ListN.{length, getD}
+use lib.ListN.{length}
 use borrow.Author.Tests.{ltb-false, leb-true, not-false}
 use Rattle.laws.specs.Words.{pick}
-use Rattle.laws.specs.Tests.{passed, clash, and-left, and-right}
+use Rattle.laws.specs.Tests.{clash, and-left, and-right}
 use Rattle.refusals.specs.Limits.{versionLimit, versionTop}
 use Rattle.sets.specs.Sets.{has}
 use Rattle.nodestate.specs.declared.Node.{Node}
-use Rattle.nodestate.specs.Rules.{valid}
+use Rattle.nodestate.specs.StateRules.{valid}
 use Rattle.nodestate.specs.Table.{Kind, legal}
-use Rattle.nodestate.proofs.Valid.{Valid, valid-facts}
-use Rattle.refusals.specs.Refusals.{Test, places, applies, firstOf, refusal}
-
--- a list of numbers without 0
-abbrev counted : List ℕ → Bool
-counted [] = true
-counted (zero ∷ ns) = false
-counted (suc n ∷ ns) = counted ns
-
-none-of : (ns : List ℕ) (ts : List Test) → counted ns ≡ true → firstOf ns ts ≡ 0 → (i : ℕ) → i < length ns → applies (getD ns i 0) ts ≡ false
-none-of [] ts h e i l = absurd (let z : ⊥ = omega arith in z)
-none-of (zero ∷ ns) ts h e i l = clash h refl
-none-of (suc n ∷ ns) ts h e zero l = passed (applies (suc n) ts) (suc n) (firstOf ns ts) (λ q. omega arith) e .0
-none-of (suc n ∷ ns) ts h e (suc i) l = none-of ns ts h (passed (applies (suc n) ts) (suc n) (firstOf ns ts) (λ q. omega arith) e .1) i (omega arith)
-
--- the number at place i of the order does not apply
-pub not-refused : (ts : List Test) → refusal ts ≡ 0 → (i : ℕ) → i < 15 → applies (getD places i 0) ts ≡ false
-not-refused ts e i l = none-of places ts refl e i l
+use Rattle.nodestate.proofs.Valid.{Valid, valid-facts, valid-of}
+use Rattle.refusals.specs.Refusals.{Test, applies, firstOf, refusal}
 
 pub or-false : (a b : Bool) → (a || b) ≡ false → (a ≡ false) × (b ≡ false)
 or-false true b e = clash refl e
@@ -69,6 +53,10 @@ pub record Keeps (k : Kind) (n m : Node) : Type 0 where
   pub same-id : m .id ≡ n .id
   pub same-chunks : m .chunks ≡ n .chunks
   pub size : length (m .kept) ≡ length (n .kept)
+
+-- an event that leaves the node as it is
+pub unchanged : (k : Kind) (n : Node) → Valid n → legal k (n .state) (n .state) ≡ true → Keeps k n n
+unchanged k n v l = record { rules = valid-of n v; lawful = l; same-id = refl; same-chunks = refl; size = refl }
 
 -- a refusal that is neither 1 nor 2
 pub record Later (why : ℕ) : Type 0 where

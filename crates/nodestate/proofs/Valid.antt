@@ -18,7 +18,7 @@ use Rattle.nodestate.specs.declared.Transfer.{Transfer}
 use Rattle.nodestate.specs.declared.Node.{Node}
 use Rattle.nodestate.specs.Change.{keptChunk}
 use Rattle.nodestate.proofs.Tables.{every, every-at}
-use Rattle.nodestate.specs.Rules.{isKept, placeOk, keptOk, standing, rules, valid}
+use Rattle.nodestate.specs.StateRules.{isKept, placeOk, keptOk, standing, rules, valid}
 
 -- how a node stands, by its own fields
 abbrev pub stands : Node → Bool

@@ -59,8 +59,8 @@ equipped n store create =
     }
 
 -- a member set taken over
-unfoldable pub tookOver : Node → ℕ → Node
-tookOver n s =
+unfoldable pub takenOver : Node → ℕ → Node
+takenOver n s =
     record {
       id = n .id;
       chunks = n .chunks;
@@ -75,12 +75,12 @@ tookOver n s =
     }
 
 -- a member entered
-unfoldable pub entered : Node → ℕ → Node
-entered n m = tookOver n (with (n .members) m)
+unfoldable pub memberEntered : Node → ℕ → Node
+memberEntered n m = takenOver n (with (n .members) m)
 
 -- a member dropped
-unfoldable pub droppedMember : Node → ℕ → Node
-droppedMember n m = tookOver n (without (n .members) m)
+unfoldable pub memberDropped : Node → ℕ → Node
+memberDropped n m = takenOver n (without (n .members) m)
 
 -- a version stored
 unfoldable pub storedVersion : Node → ℕ → Node
@@ -152,4 +152,4 @@ endedTransfer n = transferred n Transfer.Nothing
 
 -- version and member set of Enable 1, MAP_DONE and Register add
 unfoldable pub instructed : Node → ℕ → ℕ → Node
-instructed n v s = storedVersion (tookOver n s) v
+instructed n v s = storedVersion (takenOver n s) v

@@ -1,5 +1,5 @@
 pub mod States
 pub mod Change
-pub mod Rules
+pub mod StateRules
 pub mod Table
 pub mod Turns

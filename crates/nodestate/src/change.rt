@@ -1,6 +1,6 @@
 // The fresh node, and the named changes.
 ghost use mathlib.Core.Path.{_≡_};
-ghost use mathlib.Core.List.{List, [], _∷_, _++_};
+ghost use mathlib.Core.List.{[], _∷_, _++_};
 ghost use Prim.Native.Nat.{_+_};
 ghost use lib.Dec.{ltb};
 ghost use lib.ListN.{drop};
@@ -9,9 +9,9 @@ ghost use Rattle.nodestate.specs.Change.{
   fresh,
   moved,
   equipped,
-  tookOver,
-  entered,
-  droppedMember,
+  takenOver,
+  memberEntered,
+  memberDropped,
   storedVersion,
   keptChunk,
   forgotten,
@@ -71,27 +71,27 @@ pub fn equipped(mut n: Node, store: bool, create: bool) -> Node
 }
 
 // A member set taken over.
-pub fn took_over(mut n: Node, set: u64) -> Node
-    ensures { λ r. ⌜ r ≡ tookOver n set ⌝ }
+pub fn taken_over(mut n: Node, set: u64) -> Node
+    ensures { λ r. ⌜ r ≡ takenOver n set ⌝ }
 {
     n.members = set;
     n
 }
 
 // A member entered.
-pub fn entered(n: Node, member: u64) -> Node
-    ensures { λ r. ⌜ r ≡ entered n member ⌝ }
+pub fn member_entered(n: Node, member: u64) -> Node
+    ensures { λ r. ⌜ r ≡ memberEntered n member ⌝ }
 {
     let set = sets::with(n.members, member);
-    took_over(n, set)
+    taken_over(n, set)
 }
 
 // A member dropped.
-pub fn dropped_member(n: Node, member: u64) -> Node
-    ensures { λ r. ⌜ r ≡ droppedMember n member ⌝ }
+pub fn member_dropped(n: Node, member: u64) -> Node
+    ensures { λ r. ⌜ r ≡ memberDropped n member ⌝ }
 {
     let set = sets::without(n.members, member);
-    took_over(n, set)
+    taken_over(n, set)
 }
 
 // A version stored.
@@ -183,6 +183,6 @@ pub fn ended_transfer(n: Node) -> Node
 pub fn instructed(n: Node, version: u64, set: u64) -> Node
     ensures { λ r. ⌜ r ≡ instructed n version set ⌝ }
 {
-    let next = took_over(n, set);
+    let next = taken_over(n, set);
     stored_version(next, version)
 }

@@ -1,6 +1,6 @@
 // How a turn is put together: refused, or done.
 ghost use mathlib.Core.Path.{_≡_};
-ghost use Rattle.nodestate.specs.Turns.{does, nothing, turn, refused, settled};
+ghost use Rattle.nodestate.specs.Turns.{does, turn, refused, settled};
 use crate::Answer;
 use crate::Effect;
 use crate::Node;

@@ -1,14 +1,14 @@
 -- The client's messages as events of their nodes, and a node's answer as the client's.
 use Prim.Native.Nat.{ℕ}
 use lib.Dec.{eqb}
-use mathlib.Core.Bool.{Bool, true, false}
+use mathlib.Core.Bool.{Bool}
 use Rattle.laws.specs.Words.{pick}
 use Rattle.sets.specs.Sets.{has}
 use Rattle.state.specs.declared.Brought.{Brought}
 use Rattle.state.specs.declared.Message.{Message}
-use Rattle.state.specs.declared.Mode.{Mode}
 use Rattle.state.specs.declared.Reply.{Reply}
 use Rattle.state.specs.declared.Told.{Told}
+use Rattle.state.specs.Session.{isDelete}
 use Rattle.forms.specs.declared.NodeEvent.{NodeEvent}
 use Rattle.nodestate.specs.declared.Answer.{Answer}
 use Rattle.post.specs.declared.Due.{Due}
@@ -24,7 +24,7 @@ toldTo (Told.Marks set chunk list version) i = dueIf (has set i) (NodeEvent.Writ
 toldTo (Told.Clears set member chunk) i = dueIf (has set i) (NodeEvent.Synced member chunk)
 toldTo (Told.Infos set op member) i = dueIf (has set i) (NodeEvent.PoolInfo op member)
 toldTo (Told.Disable to) i = dueIf (eqb to i) NodeEvent.MapDisable
-toldTo (Told.Off to) i = dueIf (eqb to i) NodeEvent.EnableOff
+toldTo (Told.Off to) i = dueIf (eqb to i) NodeEvent.Enable0
 
 -- To whom the awaited message goes; 16, no node, where nothing is awaited.
 abbrev pub addressee : Message → ℕ
@@ -38,10 +38,6 @@ addressee (Message.Enable to version set) = to
 addressee (Message.Leave to mode) = to
 addressee (Message.Info to op member) = to
 
-abbrev pub isDelete : Mode → Bool
-isDelete Mode.Delete = true
-isDelete Mode.Disassemble = false
-
 -- The awaited message as its node's event. MAP_SEND: the node gives its map; taking it is the receiver's event.
 abbrev pub eventOf : Message → NodeEvent
 eventOf Message.Nothing = NodeEvent.Give
@@ -50,7 +46,7 @@ eventOf (Message.Ready to keep) = NodeEvent.MapReady keep
 eventOf (Message.Send to receiver) = NodeEvent.Give
 eventOf (Message.Done to enable version set) = NodeEvent.MapDone enable version set
 eventOf (Message.LastIo to chosen) = NodeEvent.LastIo chosen
-eventOf (Message.Enable to version set) = NodeEvent.EnableOn version set
+eventOf (Message.Enable to version set) = NodeEvent.Enable1 version set
 eventOf (Message.Leave to mode) = NodeEvent.Leave (isDelete mode)
 eventOf (Message.Info to op member) = NodeEvent.PoolInfo op member
 

@@ -1,11 +1,10 @@
 // The client's messages as events of their nodes, and a node's answer as the client's.
 ghost use mathlib.Core.Path.{_≡_};
-ghost use Rattle.post.specs.Post.{dueIf, toldTo, addressee as Post·addressee, isDelete, eventOf, replyOf};
+ghost use Rattle.post.specs.Post.{dueIf, toldTo, addressee as Post·addressee, eventOf, replyOf};
 use forms::NodeEvent;
 use nodestate::Answer;
 use state::Brought;
 use state::Message;
-use state::Mode;
 use state::Reply;
 use state::Told;
 
@@ -37,7 +36,7 @@ pub fn told_to(t: Told, i: u64) -> Due
         ),
         Told::Infos(set, op, member) => one_if(sets::has(set, i), NodeEvent::PoolInfo(op, member)),
         Told::Disable(to) => one_if(to == i, NodeEvent::MapDisable),
-        Told::Off(to) => one_if(to == i, NodeEvent::EnableOff),
+        Told::Off(to) => one_if(to == i, NodeEvent::Enable0),
     }
 }
 
@@ -58,15 +57,6 @@ pub fn addressee(m: Message) -> u64
     }
 }
 
-fn is_delete(m: Mode) -> bool
-    ensures { λ r. ⌜ r ≡ isDelete m ⌝ }
-{
-    match m {
-        Mode::Delete => true,
-        Mode::Disassemble => false,
-    }
-}
-
 // The awaited message as its node's event.
 pub fn event_of(m: Message) -> NodeEvent
     ensures { λ r. ⌜ r ≡ eventOf m ⌝ }
@@ -78,8 +68,8 @@ pub fn event_of(m: Message) -> NodeEvent
         Message::Send(to, receiver) => NodeEvent::Give,
         Message::Done(to, enable, version, set) => NodeEvent::MapDone(enable, version, set),
         Message::LastIo(to, chosen) => NodeEvent::LastIo(chosen),
-        Message::Enable(to, version, set) => NodeEvent::EnableOn(version, set),
-        Message::Leave(to, mode) => NodeEvent::Leave(is_delete(mode)),
+        Message::Enable(to, version, set) => NodeEvent::Enable1(version, set),
+        Message::Leave(to, mode) => NodeEvent::Leave(state::is_delete(mode)),
         Message::Info(to, op, member) => NodeEvent::PoolInfo(op, member),
     }
 }

@@ -1,5 +1,5 @@
 -- Which of the three cases holds, and how its run begins.
-use mathlib.Core.Bool.{Bool, true, false, _||_, not}
+use mathlib.Core.Bool.{_||_, not}
 use Prim.Native.Nat.{ℕ}
 use lib.Dec.{eqb, ltb}
 use Rattle.laws.specs.Words.{pick}
@@ -7,7 +7,6 @@ use Rattle.refusals.specs.Limits.{versionLimit}
 use Rattle.sets.specs.Sets.{has, without, lowest}
 use Rattle.state.specs.declared.Step.{Step}
 use Rattle.state.specs.declared.Phase.{Phase}
-use Rattle.state.specs.declared.Run.{Run}
 use Rattle.state.specs.declared.Roster.{Roster}
 use Rattle.roster.specs.declared.Kind.{Kind}
 use Rattle.roster.specs.Roster.{idsOf}

@@ -1,5 +1,4 @@
 -- The awaited message of a job: its sending, the end of a job, recovery tried.
-use mathlib.Core.Bool.{Bool, true, false}
 use Prim.Native.Nat.{ℕ, _+_, _%_}
 use lib.Dec.{eqb}
 use Rattle.laws.specs.Words.{pick}

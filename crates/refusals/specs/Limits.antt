@@ -10,6 +10,14 @@ members = 16
 abbrev pub chunkLimit : ℕ
 chunkLimit = 4096
 
+-- a map has this many bytes
+abbrev pub mapBytes : ℕ
+mapBytes = 8192
+
+-- a run takes at most this many awaited answers: 11K - 8 of all members
+abbrev pub answerLimit : ℕ
+answerLimit = 168
+
 -- the highest version that is taken over or that a run begins with: 2^63 - 33
 abbrev pub versionLimit : ℕ
 versionLimit = 9223372036854775775

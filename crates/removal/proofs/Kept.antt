@@ -1,12 +1,12 @@
 -- A removal keeps the state rules: the event, and the answers to its awaited messages.
-use mathlib.Core.Path.{_≡_, refl, sym, ap, _∙_, subst}
+use mathlib.Core.Path.{_≡_, refl, ap}
 use mathlib.Core.Bool.{Bool, true, false, not, _&&_, _||_}
 use Prim.Native.Nat.{ℕ, _≤_, _<_}
 use native.Mathlib.Omega.{arith}
 use lib.Dec.{eqb, ltb}
 use borrow.Author.Tests.{eqb-true, ltb-false}
 use Rattle.laws.specs.Words.{pick}
-use Rattle.laws.specs.Tests.{by-cases, clash, passed}
+use Rattle.laws.specs.Tests.{clash, passed}
 use Rattle.refusals.specs.Limits.{chunkLimit}
 use Rattle.state.specs.declared.Mode.{Mode}
 use Rattle.state.specs.declared.State.{State}
@@ -17,20 +17,19 @@ use Rattle.state.specs.declared.Pool.{Pool}
 use Rattle.state.specs.declared.Message.{Message}
 use Rattle.state.specs.declared.Reply.{Reply}
 use Rattle.state.specs.declared.Effect.{Effect}
-use Rattle.state.specs.declared.Turn.{Turn}
 use Rattle.state.specs.Session.{isFree, isNormal, isRemoving, isDeleting, isOwed, moved}
-use Rattle.roster.specs.Roster.{sessionAt, went, removing, freed, memberDropped}
+use Rattle.roster.specs.Roster.{sessionAt}
+use Rattle.changes.specs.Changes.{went, removing, memberDropped}
 use Rattle.rules.specs.Rules.{validPool}
-use Rattle.rules.specs.Jobs.{isIdle}
-use Rattle.recovery.specs.Recovery.{withRoster, posted, over}
+use Rattle.recovery.specs.Recovery.{withRoster, posted}
 use Rattle.exits.specs.Exit.{refused}
-use Rattle.kept.specs.Ids.{Long, stored-same}
+use Rattle.kept.specs.Ids.{stored-same}
 use Rattle.kept.specs.Rosters.{Ok}
 use Rattle.kept.specs.Changes.{went-keeps, removing-keeps, removing-at, freed-keeps, drop-keeps}
 use Rattle.kept.specs.Pools.{Valid}
 use Rattle.removal.specs.declared.Gone.{Gone}
-use Rattle.removal.specs.Removal.{stateOf, modeOf, opOf, due, asked, freedFrom, onward, departed, started, paid, halted, wellAnswered, answered}
-use Rattle.removal.specs.Remove.{otherMode, removeRefusal, removeBegun, gone, remove}
+use Rattle.removal.specs.Removal.{stateOf, modeOf, opOf, due, asked, freedFrom, onward, departed, started, paid, wellAnswered, answered}
+use Rattle.removal.specs.Remove.{removeRefusal, removeBegun, gone, remove}
 
 -- what is known while a removal is under way
 pub record Removes (p : Pool) (id : ℕ) : Type 0 where

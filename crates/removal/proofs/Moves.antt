@@ -1,8 +1,8 @@
 -- A removal changes one session's state, by the table and to being freed; the others' records and the version stay.
-use mathlib.Core.Path.{_≡_, refl, sym, ap, _∙_, subst}
-use mathlib.Core.Bool.{Bool, true, false, not, _&&_, _||_}
+use mathlib.Core.Path.{_≡_, refl, sym, ap, _∙_}
+use mathlib.Core.Bool.{Bool, true, false, not, _&&_}
 use mathlib.Core.Logic.{_≢_}
-use Prim.Native.Nat.{ℕ, _-_, _≤_, _<_}
+use Prim.Native.Nat.{ℕ, _-_, _<_}
 use native.Mathlib.Omega.{arith}
 use lib.Dec.{eqb, ltb}
 use borrow.Author.Tests.{eqb-true, ltb-false}
@@ -19,18 +19,18 @@ use Rattle.state.specs.declared.Message.{Message}
 use Rattle.state.specs.declared.Reply.{Reply}
 use Rattle.state.specs.declared.Effect.{Effect}
 use Rattle.state.specs.Session.{isFree, isNormal, isRemoving, isDeleting, isOwed, free, moved}
-use Rattle.state.specs.Table.{legal}
-use Rattle.roster.specs.declared.Way.{Way}
-use Rattle.roster.specs.Roster.{sessionAt, stored, numbered, arrived, left, went, owes, removing, freed, memberDropped}
+use Rattle.changes.specs.declared.Way.{Way}
+use Rattle.roster.specs.Roster.{sessionAt, stored}
+use Rattle.changes.specs.Changes.{numbered, arrived, left, went, owes, removing, memberDropped}
 use Rattle.rules.specs.Rules.{validPool}
 use Rattle.rules.specs.Jobs.{isIdle}
-use Rattle.recovery.specs.Recovery.{withRoster, posted, over}
+use Rattle.recovery.specs.Recovery.{withRoster, posted}
 use Rattle.exits.specs.Exit.{refused}
 use Rattle.kept.specs.Ids.{Long, stored-long, stored-same, stored-other}
 use Rattle.kept.specs.Changes.{removing-at}
-use Rattle.kept.specs.Legal.{changes, place, Moves, stays, goes, moves-none, moves-one, left-other}
+use Rattle.kept.specs.Legal.{changes, Moves, stays, moves-one, left-other}
 use Rattle.removal.specs.declared.Gone.{Gone}
-use Rattle.removal.specs.Removal.{stateOf, modeOf, opOf, due, asked, freedFrom, onward, departed, started, paid, halted, wellAnswered, answered}
+use Rattle.removal.specs.Removal.{stateOf, modeOf, opOf, due, asked, freedFrom, onward, departed, started, paid, wellAnswered, answered}
 use Rattle.removal.specs.Remove.{removeRefusal, removeBegun, gone, remove}
 
 -- What a step of the removal of id leaves of the sessions.

@@ -1,16 +1,12 @@
 -- Worked removals, by computation: the messages, the effects on the client map, and what halts and starts over.
 use mathlib.Core.Path.{_≡_, refl}
-use mathlib.Core.Bool.{Bool, true, false, _&&_, not}
-use mathlib.Core.List.{List, [], _∷_, map}
+use mathlib.Core.Bool.{true, false}
+use mathlib.Core.List.{_∷_}
 use Prim.Native.Nat.{ℕ}
-use lib.Dec.{eqb}
 use lib.ListN.{replicate}
 use Rattle.state.specs.declared.Mode.{Mode}
 use Rattle.state.specs.declared.State.{State}
-use Rattle.state.specs.declared.Session.{Session}
-use Rattle.state.specs.declared.Roster.{Roster}
 use Rattle.state.specs.declared.Stage.{Stage}
-use Rattle.state.specs.declared.Removal.{Removal}
 use Rattle.state.specs.declared.Job.{Job}
 use Rattle.state.specs.declared.Pool.{Pool}
 use Rattle.state.specs.declared.Op.{Op}
@@ -26,9 +22,10 @@ use Rattle.state.specs.Session.{newSession}
 use Rattle.laws.specs.Words.{bit}
 use Rattle.sets.specs.Sets.{has, with, without, size, lowest}
 use Rattle.roster.specs.declared.Kind.{Kind}
-use Rattle.roster.specs.Roster.{idsOf, sessionAt, entered, left, failed, went, removing}
+use Rattle.roster.specs.Roster.{idsOf}
+use Rattle.changes.specs.Changes.{left, went, removing}
 use Rattle.recovery.specs.Recovery.{posted}
-use Rattle.rules.specs.Rules.{rosterOk, runOk, validPool}
+use Rattle.rules.specs.Rules.{rosterOk, validPool}
 use Rattle.removal.specs.declared.Gone.{Gone}
 use Rattle.removal.specs.Removal.{due, freedFrom, onward, departed, started, answered}
 use Rattle.removal.specs.Remove.{removeRefusal, remove}

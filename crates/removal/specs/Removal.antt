@@ -1,5 +1,5 @@
 -- A removal's way: LEAVE_POOL, the member's entry and row taken out, POOL_INFO to each peer in turn, the session freed.
-use mathlib.Core.Bool.{Bool, true, false, _&&_, not}
+use mathlib.Core.Bool.{false, _&&_, not}
 use Prim.Native.Nat.{ℕ}
 use lib.Dec.{eqb, ltb}
 use Rattle.laws.specs.Words.{pick}
@@ -17,7 +17,8 @@ use Rattle.state.specs.declared.Reply.{Reply}
 use Rattle.state.specs.declared.Effect.{Effect}
 use Rattle.state.specs.Session.{isDeleting, isOwed}
 use Rattle.roster.specs.declared.Kind.{Kind}
-use Rattle.roster.specs.Roster.{sessionAt, idsOf, went, freed, memberDropped}
+use Rattle.roster.specs.Roster.{sessionAt, idsOf}
+use Rattle.changes.specs.Changes.{went, freed, memberDropped}
 use Rattle.recovery.specs.declared.Posted.{Posted}
 use Rattle.recovery.specs.Recovery.{withRoster, posted, quiet, over}
 use Rattle.removal.specs.declared.Gone.{Gone}

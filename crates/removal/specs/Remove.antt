@@ -1,10 +1,10 @@
 -- Remove (delete or disassemble).
-use mathlib.Core.Bool.{Bool, true, false, _&&_, not}
+use mathlib.Core.Bool.{Bool, _&&_, not}
 use mathlib.Core.List.{List, [], _∷_}
 use Prim.Native.Nat.{ℕ}
 use lib.Dec.{eqb, ltb}
 use Rattle.laws.specs.Words.{pick}
-use Rattle.refusals.specs.Refusals.{test, refusal}
+use Rattle.refusals.specs.Refusals.{Test, test, refusal}
 use Rattle.state.specs.declared.Mode.{Mode}
 use Rattle.state.specs.declared.State.{State}
 use Rattle.state.specs.declared.Pool.{Pool}
@@ -12,7 +12,7 @@ use Rattle.state.specs.declared.Told.{Told}
 use Rattle.state.specs.declared.Outcome.{Outcome}
 use Rattle.state.specs.declared.Turn.{Turn}
 use Rattle.state.specs.Session.{isFree, isRemoving, isDeleting}
-use Rattle.roster.specs.Roster.{removing}
+use Rattle.changes.specs.Changes.{removing}
 use Rattle.rules.specs.Rules.{validPool}
 use Rattle.rules.specs.Jobs.{isIdle}
 use Rattle.exits.specs.Exit.{refused, accepted}
@@ -25,17 +25,19 @@ abbrev pub otherMode : State → Mode → Bool
 otherMode st Mode.Delete = isRemoving st && not (isDeleting st)
 otherMode st Mode.Disassemble = isDeleting st
 
--- `sound`: the lent client map is whole, with no bit past the chunk count
-unfoldable pub removeRefusal : Pool → Bool → ℕ → Mode → ℕ
-removeRefusal p sound id mode =
-    refusal
-    (test 1 (not (validPool p))
+-- `sound` says that the lent client map is
+abbrev pub removeTests : Pool → Bool → ℕ → Mode → List Test
+removeTests p sound id mode =
+    test 1 (not (validPool p))
     ∷ test 2 (not sound)
     ∷ test 3 (ltb 15 id)
     ∷ test 6 (not (isIdle (p .job)))
     ∷ test 7 (isFree (stateOf p id))
     ∷ test 9 (otherMode (stateOf p id) mode)
-    ∷ [])
+    ∷ []
+
+unfoldable pub removeRefusal : Pool → Bool → ℕ → Mode → ℕ
+removeRefusal p sound id mode = refusal (removeTests p sound id mode)
 
 -- from any state to REMOVING, then on its way
 abbrev pub removeBegun : Pool → ℕ → Mode → Gone

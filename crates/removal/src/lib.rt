@@ -1,5 +1,5 @@
 // A removal's way: LEAVE_POOL, the member's entry and row taken out, POOL_INFO to each peer in turn, the session freed.
-pub mod event;
+pub mod remove;
 
 ghost use mathlib.Core.Path.{_≡_};
 ghost use Rattle.laws.specs.Words.{pick};
@@ -68,7 +68,7 @@ fn due(st: Stage, ro: Roster) -> u64
 {
     let ids = tellable(st, ro);
     let low = sets::lowest(ids);
-    sets::choose(ro.sync, 16, low)
+    numbers::choose(ro.sync, 16, low)
 }
 
 fn ask(p: Pool, id: u64, st: Stage, m: Message) -> Posted
@@ -89,7 +89,7 @@ fn free(p: Pool, id: u64, effect: Effect) -> Gone
     ensures { λ r. ⌜ r ≡ freedFrom p id effect ⌝ }
 {
     let ro = p.roster;
-    let next = roster::free(ro, id);
+    let next = changes::free(ro, id);
     let present = roster::ids(Kind::Present, next);
     let zeroed = zero_all((present == 0) & !ro.sync, effect);
     let freed = recovery::with_roster(p, next);
@@ -127,7 +127,7 @@ fn depart(p: Pool, id: u64) -> Gone
     let was = state_of(p, id);
     let deletes = state::is_deleting(was) & !ro.sync;
     if deletes {
-        let dropped = roster::drop_member(ro, id);
+        let dropped = changes::drop_member(ro, id);
         let next = recovery::with_roster(p, dropped);
         return go_on(next, id, Stage::Leave, Effect::ZeroRow(id));
     }
@@ -157,7 +157,7 @@ fn pay(p: Pool, id: u64) -> Pool
     let ro = p.roster;
     let was = state_of(p, id);
     let mode = mode_of(was);
-    let next = roster::go(ro, id, State::Removing(mode, false));
+    let next = changes::go(ro, id, State::Removing(mode, false));
     recovery::with_roster(p, next)
 }
 

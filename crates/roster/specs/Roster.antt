@@ -1,22 +1,15 @@
 -- The sixteen session records as one thing: reading and storing one, the sets read off them, and the named changes.
 -- Every definition has a meaning at any id: past 15 there is no session, and storing changes nothing.
-use mathlib.Core.Bool.{Bool, true, false, _&&_, _||_, not}
-use mathlib.Core.List.{map}
-use Prim.Native.Nat.{ℕ, _+_, _-_, max}
-use lib.Dec.{eqb, ltb}
+use mathlib.Core.Bool.{Bool, _&&_, _||_, not}
+use Prim.Native.Nat.{ℕ}
+use lib.Dec.{ltb}
 use lib.ListN.{getD, set}
-use Rattle.laws.specs.Words.{pick}
 use Rattle.laws.specs.Gather.{gather}
-use Rattle.refusals.specs.Limits.{versionTop}
-use Rattle.sets.specs.Sets.{has, with, without}
-use Rattle.state.specs.declared.Mode.{Mode}
-use Rattle.state.specs.declared.State.{State}
+use Rattle.sets.specs.Sets.{has}
 use Rattle.state.specs.declared.Session.{Session}
 use Rattle.state.specs.declared.Roster.{Roster}
-use Rattle.state.specs.Session.{isFree, isNormal, isFailed, isReconnecting, isRemoving, isDeleting, isTold, candidate, free, newSession, moved, flagged, marked}
+use Rattle.state.specs.Session.{isFree, isNormal, isFailed, isReconnecting, isRemoving, isDeleting, isOwed, isTold, candidate, free}
 use Rattle.roster.specs.declared.Kind.{Kind}
-use Rattle.roster.specs.declared.Cause.{Cause}
-use Rattle.roster.specs.declared.Way.{Way}
 
 -- ---- one record
 
@@ -59,6 +52,9 @@ isKind Kind.Present sync members i s = not (isFree (s .state))
 isKind Kind.Normals sync members i s = isNormal (s .state)
 isKind Kind.Candidates sync members i s = candidate s
 isKind Kind.Marked sync members i s = s .mark
+isKind Kind.Maintained sync members i s = s .maintenance
+isKind Kind.Deleting sync members i s = isDeleting (s .state)
+isKind Kind.Owed sync members i s = isOwed (s .state)
 isKind Kind.Told sync members i s = isTold (s .state)
 isKind (Kind.Later last) sync members i s = isTold (s .state) && ltb last i
 isKind (Kind.Strays ids) sync members i s = has ids i && not (candidate s)
@@ -71,127 +67,3 @@ isKind Kind.Odd sync members i s = odd sync members i s
 -- the set of the ids whose record is of the kind
 unfoldable pub idsOf : Kind → Roster → ℕ
 idsOf k ro = gather (isKind k (ro .sync) (ro .members)) 0 (ro .sessions)
-
--- ---- numbers
-
--- One more. A number at the top of the state rules, which has no room to rise, stays.
-abbrev pub more : ℕ → ℕ
-more n = pick (ltb n versionTop) (n + 1) n
-
--- the same records with this NORMAL count and this version
-abbrev pub numbered : Roster → ℕ → ℕ → Roster
-numbered ro n v =
-    record {
-      sessions = ro .sessions;
-      count = n;
-      version = v;
-      members = ro .members;
-      sync = ro .sync;
-    }
-
--- ---- marks
-
-abbrev pub unmarked : Session → Session
-unmarked s = marked s false
-
--- the mark gone from every session
-abbrev pub allUnmarked : Roster → Roster
-allUnmarked ro =
-    record {
-      sessions = map unmarked (ro .sessions);
-      count = ro .count;
-      version = ro .version;
-      members = ro .members;
-      sync = ro .sync;
-    }
-
--- ---- the named changes
-
--- A session enters NORMAL: one more in the count, and the mark goes from every session. A sync pool has neither.
-unfoldable pub entered : Roster → ℕ → Roster
-entered ro id =
-    pick (ro .sync)
-    (stored ro id (moved (sessionAt ro id) State.Normal))
-    (numbered (stored (allUnmarked ro) id (moved (sessionAt ro id) State.Normal)) (more (ro .count)) (ro .version))
-
--- the way out of NORMAL goes to FAILED
-abbrev pub isFailing : Way → Bool
-isFailing (Way.Failed cause) = true
-isFailing Way.Maintenance = false
-isFailing (Way.Removing mode owed) = false
-
--- The record after leaving NORMAL: `last` says that nobody else is NORMAL. Removal marks nobody.
-abbrev pub arrived : Session → Way → Bool → Session
-arrived s (Way.Failed cause) last = marked (moved s State.Failed) last
-arrived s Way.Maintenance last = marked (flagged (moved s State.Reconnecting) true) last
-arrived s (Way.Removing mode owed) last = moved s (State.Removing mode owed)
-
--- A session leaves NORMAL: one less in the count; for FAILED the version rises; if the count comes to 0 on a way to FAILED or maintenance, it is marked.
--- A sync pool has no count, version change or mark.
-unfoldable pub left : Roster → ℕ → Way → Roster
-left ro id w =
-    pick (ro .sync)
-    (stored ro id (arrived (sessionAt ro id) w false))
-    (numbered (stored ro id (arrived (sessionAt ro id) w (eqb (ro .count - 1) 0))) (ro .count - 1) (pick (isFailing w) (more (ro .version)) (ro .version)))
-
--- A session enters FAILED, told by what.
-unfoldable pub failed : Roster → ℕ → Cause → Roster
-failed ro id cause =
-    pick (isNormal (sessionAt ro id .state))
-    (left ro id (Way.Failed cause))
-    (stored ro id (moved (sessionAt ro id) State.Failed))
-
--- a session that is not NORMAL goes to a state in which no number or mark is settled
-unfoldable pub went : Roster → ℕ → State → Roster
-went ro id to = stored ro id (moved (sessionAt ro id) to)
-
--- LEAVE_POOL is owed on the way from this state to REMOVING
-abbrev pub owes : State → Bool
-owes State.Free = true
-owes State.Created = true
-owes State.Normal = true
-owes State.Failed = false
-owes State.Reconnecting = true
-owes (State.Removing m owed) = owed
-
--- A session enters REMOVING; mark and flag go.
-unfoldable pub removing : Roster → ℕ → Mode → Roster
-removing ro id mode =
-    pick (isNormal (sessionAt ro id .state))
-    (left ro id (Way.Removing mode true))
-    (went ro id (State.Removing mode (owes (sessionAt ro id .state))))
-
--- a new session begins
-abbrev pub begun : Roster → ℕ → State → Roster
-begun ro id st = stored ro id (newSession st)
-
--- the session is freed
-abbrev pub freed : Roster → ℕ → Roster
-freed ro id = stored ro id free
-
--- the maintenance flag of a session put on or off
-abbrev pub flaggedAt : Roster → ℕ → Bool → Roster
-flaggedAt ro id on = stored ro id (flagged (sessionAt ro id) on)
-
--- this membership
-abbrev pub withMembers : Roster → ℕ → Roster
-withMembers ro members =
-    record {
-      sessions = ro .sessions;
-      count = ro .count;
-      version = ro .version;
-      members = members;
-      sync = ro .sync;
-    }
-
--- a member entered, a member dropped
-abbrev pub memberEntered : Roster → ℕ → Roster
-memberEntered ro id = withMembers ro (with (ro .members) id)
-
-abbrev pub memberDropped : Roster → ℕ → Roster
-memberDropped ro id = withMembers ro (without (ro .members) id)
-
--- a node's member set taken over, where the membership is empty; the larger version
-abbrev pub takenOver : Roster → ℕ → ℕ → Roster
-takenOver ro members version =
-    withMembers (numbered ro (ro .count) (max (ro .version) version)) (pick (eqb (ro .members) 0) members (ro .members))

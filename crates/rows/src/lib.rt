@@ -2,7 +2,8 @@
 // part; the functions at the end have plain parameters and serve every other caller. A row is a map of one row, that of member 0.
 ghost use mathlib.Core.Path.{_≡_};
 ghost use lib.Dec.{eqb};
-ghost use Rattle.maps.specs.Map.{dirty, count, rowOf};
+ghost use Rattle.chunks.specs.Chunk.{dirty, count};
+ghost use Rattle.maps.specs.Map.{rowOf};
 ghost use Rattle.rows.specs.Row.{stepAt};
 
 pub struct Row<'a> {
@@ -18,13 +19,13 @@ pub enum Step {
 fn bit_of(bytes: &[u8], c: u64) -> bool
     ensures { λ r. ⌜ r ≡ eqb (dirty (now (bytes .entry)) 0 c) 1 ⌝ }
 {
-    maps::test(bytes, 0, c)
+    chunks::test(bytes, 0, c)
 }
 
 fn ones(bytes: &[u8]) -> u64
     ensures { λ r. ⌜ r ≡ count (now (bytes .entry)) 0 ⌝ }
 {
-    maps::count_row(bytes, 0)
+    chunks::count_row(bytes, 0)
 }
 
 fn step_at(bytes: &[u8], at: usize) -> Step

@@ -3,7 +3,6 @@ use mathlib.Core.Bool.{Bool, true, false, _&&_}
 use Prim.Native.Nat.{ℕ}
 use lib.Dec.{eqb}
 use Rattle.state.specs.declared.Stage.{Stage}
-use Rattle.state.specs.declared.Removal.{Removal}
 use Rattle.state.specs.declared.Job.{Job}
 
 -- no job is in hand

@@ -1,10 +1,10 @@
 -- The client's state rules.
-use mathlib.Core.Bool.{Bool, true, false, _&&_, _||_, not}
+use mathlib.Core.Bool.{Bool, true, _&&_, _||_, not}
 use mathlib.Core.List.{List, [], _∷_}
 use Prim.Native.Nat.{ℕ, _+_}
 use lib.Dec.{eqb, leb, ltb}
 use Rattle.laws.specs.Words.{pick, all}
-use Rattle.refusals.specs.Limits.{chunkLimit, versionLimit, versionTop}
+use Rattle.refusals.specs.Limits.{chunkLimit, answerLimit, versionLimit, versionTop}
 use Rattle.sets.specs.Sets.{has, size}
 use Rattle.state.specs.declared.Phase.{Phase}
 use Rattle.state.specs.declared.Run.{Run}
@@ -62,7 +62,7 @@ handOk (Phase.Gather s) left = not (eqb left 0)
 handOk Phase.Enable left = true
 handOk (Phase.Spread s) left = not (eqb left 0)
 
--- A run: in no sync pool; version at most the limit; those left are ids, somebody, and candidates; its source; count plus answers still possible at most 168.
+-- A run: in no sync pool; version at most the limit; those left are ids, somebody, and candidates; its source; count plus answers still possible at most the limit.
 abbrev pub runRules : Roster → Run → List Bool
 runRules ro r =
     not (ro .sync)
@@ -71,7 +71,7 @@ runRules ro r =
     ∷ handOk (r .phase) (r .left)
     ∷ eqb (idsOf (Kind.Strays (r .left)) ro) 0
     ∷ sourceOk (r .phase) ro (r .source) (r .left)
-    ∷ leb (r .taken + possible (ro .members) r) 168
+    ∷ leb (r .taken + possible (ro .members) r) answerLimit
     ∷ []
 
 unfoldable pub runOk : Roster → Run → Bool

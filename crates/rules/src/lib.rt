@@ -2,11 +2,8 @@
 pub mod jobs;
 
 ghost use mathlib.Core.Path.{_≡_};
-ghost use mathlib.Core.Bool.{_&&_, _||_, not};
 ghost use Prim.Native.Nat.{_+_};
-ghost use lib.Dec.{eqb, leb};
-ghost use Rattle.laws.specs.Words.{pick};
-ghost use Rattle.refusals.specs.Limits.{versionTop};
+ghost use lib.Dec.{leb};
 ghost use Rattle.rules.specs.Rules.{rosterOk, allAsked, oneAsked, sourceOk, handOk, runOk, jobOk, validPool};
 use roster::Kind;
 use state::Job;
@@ -30,7 +27,7 @@ fn roster_ok(ro: Roster) -> bool
 {
     let normals = roster::ids(Kind::Normals, ro);
     let marked = roster::ids(Kind::Marked, ro);
-    let count = sets::choose(ro.sync, 0, sets::size(normals));
+    let count = numbers::choose(ro.sync, 0, sets::size(normals));
     (ro.count == count)
         & ((sets::size(marked) <= 1)
             & (((marked == 0) | (normals == 0))
@@ -95,7 +92,11 @@ fn run_ok(ro: Roster, r: Run) -> bool
     let hand = hand_ok(p, left);
     let strays = roster::ids(Kind::Strays(left), ro);
     let sound = source_ok(p, ro, source, left);
-    let most = within(r.taken, run::still::possible(ro.members, r), 168);
+    let most = within(
+        r.taken,
+        run::still::possible(ro.members, r),
+        refusals::ANSWER_LIMIT,
+    );
     !ro.sync
         & ((ro.version <= refusals::VERSION_LIMIT)
             & ((left < 65536) & (hand & ((strays == 0) & (sound & most)))))
@@ -121,7 +122,7 @@ pub fn valid(p: Pool) -> bool
 {
     let ro = p.roster;
     let j = p.job;
-    let numbers = roster_ok(ro);
+    let sessions = roster_ok(ro);
     let work = job_ok(j, ro);
-    (1 <= p.chunks) & ((p.chunks <= refusals::CHUNK_LIMIT) & (numbers & work))
+    (1 <= p.chunks) & ((p.chunks <= refusals::CHUNK_LIMIT) & (sessions & work))
 }

@@ -4,9 +4,10 @@ use mathlib.Core.Bool.{Bool, true, false, not}
 use Prim.Native.Nat.{ℕ, _+_, _*_, _-_, _≤_, _<_}
 use native.Mathlib.Omega.{arith}
 use lib.Dec.{eqb, ltb}
-use borrow.Author.Tests.{eqb-true, eqb-false}
+use borrow.Author.Tests.{eqb-true, eqb-false, lt-ltb}
 use Rattle.laws.specs.Words.{pick}
 use Rattle.laws.specs.Tests.{by-cases, clash}
+use Rattle.refusals.specs.Limits.{answerLimit}
 use Rattle.sets.specs.Sets.{has, without, size, lowest}
 use Rattle.sets.proofs.Laws.{lowest-le, lowest-in, empty-set, size-zero, size-without, without-lt, still}
 use Rattle.state.specs.declared.Step.{Step}
@@ -18,6 +19,20 @@ use Rattle.run.specs.declared.Next.{Next}
 use Rattle.run.specs.declared.Move.{Move}
 use Rattle.run.specs.Run.{hand, rest, counted, go, ahead, toSpread, toGather, toLast, toBase, toVersions, wentOn, ended, failedAt, failed, versionBrought, goodAt, good, takes}
 use Rattle.run.specs.Still.{stepsDone, possibleAt, possible}
+
+-- ---- the count
+
+-- an answer raises it by at most one
+pub counted-most : (n : ℕ) → counted n ≤ n + 1
+counted-most n = at (ltb n answerLimit)
+  where
+    at : (b : Bool) → pick b (n + 1) n ≤ n + 1
+    at true = omega arith
+    at false = omega arith
+
+-- below the limit by one
+pub counted-one : (n : ℕ) → n < answerLimit → counted n ≡ n + 1
+counted-one n h = rw (lt-ltb n answerLimit h)
 
 -- ---- what a run in hand has
 

@@ -4,6 +4,7 @@ use mathlib.Core.Bool.{true, false}
 use mathlib.Core.List.{List, [], _∷_}
 use Prim.Native.Nat.{ℕ, zero, suc}
 use Rattle.laws.specs.Words.{bit}
+use Rattle.refusals.specs.Limits.{answerLimit}
 use Rattle.sets.specs.Sets.{has, without, size, lowest}
 use Rattle.state.specs.declared.Phase.{Phase}
 use Rattle.state.specs.declared.Brought.{Brought}
@@ -90,7 +91,7 @@ fails-version : counts 3 3 0 three (told 2 ∷ told 4 ∷ fines 12) ≡ 2
 unfolding good failed receiver awaitedIn lowest without has bit
 fails-version = refl
 
--- 168 answers of sixteen members
-sixteen : possible 65535 (record { phase = Phase.Versions 0; source = 0; left = 65535; taken = 0 }) ≡ 168
+-- sixteen members: as many answers as the limit
+sixteen : possible 65535 (record { phase = Phase.Versions 0; source = 0; left = 65535; taken = 0 }) ≡ answerLimit
 unfolding possible size has bit
 sixteen = refl

@@ -3,6 +3,7 @@ use mathlib.Core.Bool.{Bool, true, false}
 use Prim.Native.Nat.{ℕ, _+_}
 use lib.Dec.{eqb, ltb}
 use Rattle.laws.specs.Words.{pick}
+use Rattle.refusals.specs.Limits.{answerLimit}
 use Rattle.sets.specs.Sets.{without, lowest}
 use Rattle.state.specs.declared.Step.{Step}
 use Rattle.state.specs.declared.Phase.{Phase}
@@ -21,9 +22,9 @@ hand r = lowest (r .left)
 abbrev pub rest : Run → ℕ
 rest r = without (r .left) (lowest (r .left))
 
--- Each awaited answer, good or failed, raises the count by one. By the state rules it is below 168 before; a higher one stays.
+-- Each awaited answer, good or failed, raises the count by one. By the state rules it is below the limit before; a higher one stays.
 abbrev pub counted : ℕ → ℕ
-counted taken = pick (ltb taken 168) (taken + 1) taken
+counted taken = pick (ltb taken answerLimit) (taken + 1) taken
 
 -- the run goes on, one more answer taken
 abbrev pub go : Run → Phase → ℕ → ℕ → Next

@@ -2,7 +2,6 @@
 pub mod still;
 
 ghost use mathlib.Core.Path.{_≡_};
-ghost use Prim.Native.Nat.{_+_};
 ghost use Rattle.run.specs.Run.{counted, go, ahead, receiver, toSpread, toGather, toLast, toBase, toVersions, wentOn, becameNormal, ended, passedOver, failed, versionBrought, baseNext, gatherNext, spreadGood, good, takes, stepMessage, awaitedIn};
 use state::Brought;
 use state::Message;
@@ -34,7 +33,11 @@ pub struct Move {
 fn counted(taken: u64) -> u64
     ensures { λ n. ⌜ n ≡ counted taken ⌝ }
 {
-    if taken < 168 { taken + 1 } else { taken }
+    if taken < refusals::ANSWER_LIMIT {
+        taken + 1
+    } else {
+        taken
+    }
 }
 
 fn go(r: Run, p: Phase, source: u64, left: u64) -> Next
@@ -200,8 +203,8 @@ fn version_brought(members: u64, version: u64, best: u64, r: Run, b: Brought) ->
     }
     let x = sets::lowest(r.left);
     let others = sets::without(r.left, x);
-    let source = sets::choose(best < v, x, r.source);
-    let most = sets::choose(best < v, v, best);
+    let source = numbers::choose(best < v, x, r.source);
+    let most = numbers::choose(best < v, v, best);
     let n = to_versions(members, r, most, source, others);
     went_on(r, n)
 }

@@ -1,16 +1,10 @@
 // The answers still possible in a run.
 ghost use mathlib.Core.Path.{_≡_};
-ghost use Prim.Native.Nat.{_+_, _*_, _-_};
 ghost use Rattle.run.specs.Still.{stepsDone, possible};
+use numbers::minus;
 use state::Phase;
 use state::Run;
 use state::Step;
-
-fn minus(a: u64, b: u64) -> u64
-    ensures { λ r. ⌜ r ≡ a - b ⌝ }
-{
-    if a < b { 0 } else { a - b }
-}
 
 fn steps_done(s: Step) -> u64
     ensures { λ r. ⌜ r ≡ stepsDone s ⌝ }

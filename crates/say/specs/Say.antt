@@ -1,7 +1,5 @@
 -- What is written: messages, each after a bar, its numbers after spaces.
 use Prim.Native.Nat.{ℕ, suc, zero}
-use Prim.Native.String.{String}
-use mathlib.Core.Bool.{Bool, true, false}
 use mathlib.Core.List.{List, [], _∷_, _++_, map}
 use Rattle.laws.specs.Words.{pick, one}
 use Rattle.sets.specs.Sets.{has}
@@ -11,6 +9,7 @@ use Rattle.state.specs.declared.Mode.{Mode}
 use Rattle.state.specs.declared.Op.{Op}
 use Rattle.state.specs.declared.Message.{Message}
 use Rattle.state.specs.declared.Told.{Told}
+use Rattle.state.specs.Session.{isNothing}
 
 -- a space and a number
 unfoldable pub spaced : ℕ → List ℕ
@@ -46,17 +45,6 @@ messageText (Message.LastIo to chosen) = said (bytes " | LAST_IO") (to ∷ chose
 messageText (Message.Enable to version set) = said (bytes " | ENABLE") (to ∷ 1 ∷ version ∷ set ∷ [])
 messageText (Message.Leave to mode) = said (bytes " | LEAVE") (to ∷ modeNumber mode ∷ [])
 messageText (Message.Info to op member) = said (bytes " | POOL_INFO") (to ∷ opNumber op ∷ member ∷ [])
-
-abbrev pub isNothing : Message → Bool
-isNothing Message.Nothing = true
-isNothing (Message.GetVersion to) = false
-isNothing (Message.Ready to keep) = false
-isNothing (Message.Send to receiver) = false
-isNothing (Message.Done to enable version set) = false
-isNothing (Message.LastIo to chosen) = false
-isNothing (Message.Enable to version set) = false
-isNothing (Message.Leave to mode) = false
-isNothing (Message.Info to op member) = false
 
 -- The awaited message with its number.
 unfoldable pub awaitedText : Message → ℕ → List ℕ

@@ -1,10 +1,10 @@
 // Messages, written: each after a bar, its numbers after spaces.
 ghost use mathlib.Core.Path.{_≡_};
-ghost use mathlib.Core.List.{List, [], _∷_};
-ghost use Rattle.laws.specs.Words.{one, pick};
+ghost use mathlib.Core.List.{[], _∷_};
+ghost use Rattle.laws.specs.Words.{pick};
 ghost use Rattle.sets.specs.Sets.{has};
 ghost use Rattle.text.specs.Ink.{ink, emits};
-ghost use Rattle.say.specs.Say.{spaced, paired, said, opNumber, modeNumber, messageText, isNothing, awaitedText, toldTo, each, toldText};
+ghost use Rattle.say.specs.Say.{spaced, paired, said, opNumber, modeNumber, messageText, awaitedText, toldTo, each, toldText};
 use state::Message;
 use state::Mode;
 use state::Op;
@@ -63,12 +63,6 @@ pub fn put_pair(out: &mut [u8], at: usize, s: &[u8], n: u64) -> usize
     text::put_number(out, to, n)
 }
 
-pub fn bit(b: bool) -> u64
-    ensures { λ r. ⌜ r ≡ one b ⌝ }
-{
-    if b { 1 } else { 0 }
-}
-
 fn op_number(op: Op) -> u64
     ensures { λ r. ⌜ r ≡ opNumber op ⌝ }
 {
@@ -95,14 +89,14 @@ fn put_message(out: &mut [u8], at: usize, m: Message) -> usize
     match m {
         Message::Nothing => at,
         Message::GetVersion(to) => put1(out, at, b" | MAP_GET_VER", to),
-        Message::Ready(to, keep) => put2(out, at, b" | MAP_READY", to, bit(keep)),
+        Message::Ready(to, keep) => put2(out, at, b" | MAP_READY", to, numbers::one(keep)),
         Message::Send(to, receiver) => put2(out, at, b" | MAP_SEND", to, receiver),
         Message::Done(to, enable, version, set) => put4(
             out,
             at,
             b" | MAP_DONE",
             to,
-            bit(enable),
+            numbers::one(enable),
             version,
             set,
         ),
@@ -113,27 +107,11 @@ fn put_message(out: &mut [u8], at: usize, m: Message) -> usize
     }
 }
 
-fn is_nothing(m: Message) -> bool
-    ensures { λ r. ⌜ r ≡ isNothing m ⌝ }
-{
-    match m {
-        Message::Nothing => true,
-        Message::GetVersion(to) => false,
-        Message::Ready(to, keep) => false,
-        Message::Send(to, receiver) => false,
-        Message::Done(to, enable, version, set) => false,
-        Message::LastIo(to, chosen) => false,
-        Message::Enable(to, version, set) => false,
-        Message::Leave(to, mode) => false,
-        Message::Info(to, op, member) => false,
-    }
-}
-
 // The awaited message with its number; nothing where none is awaited.
 pub fn put_awaited(out: &mut [u8], at: usize, m: Message, number: u64) -> usize
     ensures { λ r. ⌜ ink (now (out .exit)) r ≡ emits (ink (now (out .entry)) at) (awaitedText m number) ⌝ }
 {
-    let none = is_nothing(m);
+    let none = state::is_nothing(m);
     if none {
         return at;
     }

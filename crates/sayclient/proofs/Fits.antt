@@ -10,18 +10,19 @@ use Rattle.sets.specs.Sets.{has}
 use Rattle.text.specs.Bytes.{bytes}
 use Rattle.text.specs.Ink.{decimal, joined}
 use Rattle.text.proofs.Meaning.{joined-length, decimal-length}
-use Rattle.say.specs.Say.{spaced, said, paired, each, toldTo, toldText, messageText, isNothing, awaitedText, opNumber, modeNumber}
+use Rattle.say.specs.Say.{spaced, said, paired, each, toldTo, toldText, messageText, awaitedText, opNumber, modeNumber}
 use Rattle.state.specs.declared.Message.{Message}
 use Rattle.state.specs.declared.Told.{Told}
 use Rattle.state.specs.declared.Phase.{Phase}
 use Rattle.state.specs.declared.Job.{Job}
 use Rattle.state.specs.declared.Outcome.{Outcome}
 use Rattle.state.specs.declared.Roster.{Roster}
-use Rattle.state.specs.declared.Session.{Session}
 use Rattle.state.specs.declared.Pool.{Pool}
 use Rattle.state.specs.declared.Sent.{Sent}
-use Rattle.sayclient.specs.declared.Flag.{Flag}
-use Rattle.sayclient.specs.Client.{letter, flagged, phaseText, jobText, outcomeText, rosterText, flagsText, clientText}
+use Rattle.state.specs.Session.{isNothing}
+use Rattle.roster.specs.declared.Kind.{Kind}
+use Rattle.roster.specs.Roster.{idsOf}
+use Rattle.sayclient.specs.Client.{letter, phaseText, jobText, outcomeText, rosterText, flagsText, clientText}
 
 pair-length : (s : List ℕ) (n : ℕ) → length (paired s n) ≤ length s + 20
 pair-length s n = rw (joined-length (s ∷ decimal n ∷ [])) (omega (arith, decimal-length n))
@@ -30,28 +31,25 @@ spaced-length : (n : ℕ) → length (spaced n) ≤ 21
 unfolding spaced
 spaced-length n = omega (arith, decimal-length n)
 
-said1 : (s : List ℕ) (a : ℕ) → length (said s (a ∷ [])) ≤ length s + 84
-said1 s a = rw (joined-length (s ∷ spaced a ∷ [])) (omega (arith, spaced-length a))
+spaced-all : (ns : List ℕ) → length (joined (map spaced ns)) ≤ 21 * length ns
+unfolding joined
+spaced-all [] = omega arith
+spaced-all (n ∷ ns) = rw (length-append (spaced n) (joined (map spaced ns))) (omega (arith, spaced-length n, spaced-all ns))
 
-said2 : (s : List ℕ) (a b : ℕ) → length (said s (a ∷ b ∷ [])) ≤ length s + 84
-said2 s a b = rw (joined-length (s ∷ spaced a ∷ spaced b ∷ [])) (omega (arith, spaced-length a, spaced-length b))
-
-said3 : (s : List ℕ) (a b c : ℕ) → length (said s (a ∷ b ∷ c ∷ [])) ≤ length s + 84
-said3 s a b c = rw (joined-length (s ∷ spaced a ∷ spaced b ∷ spaced c ∷ [])) (omega (arith, spaced-length a, spaced-length b, spaced-length c))
-
-said4 : (s : List ℕ) (a b c d : ℕ) → length (said s (a ∷ b ∷ c ∷ d ∷ [])) ≤ length s + 84
-said4 s a b c d = rw (joined-length (s ∷ spaced a ∷ spaced b ∷ spaced c ∷ spaced d ∷ [])) (omega (arith, spaced-length a, spaced-length b, spaced-length c, spaced-length d))
+said-length : (s ns : List ℕ) → length (said s ns) ≤ length s + 21 * length ns
+unfolding joined
+said-length s ns = rw (length-append s (joined (map spaced ns))) (omega (arith, spaced-all ns))
 
 message-length : (m : Message) → length (messageText m) ≤ 100
 message-length Message.Nothing = omega arith
-message-length (Message.GetVersion to) = omega (arith, said1 (bytes " | MAP_GET_VER") to)
-message-length (Message.Ready to keep) = omega (arith, said2 (bytes " | MAP_READY") to (one keep))
-message-length (Message.Send to receiver) = omega (arith, said2 (bytes " | MAP_SEND") to receiver)
-message-length (Message.Done to enable version set) = omega (arith, said4 (bytes " | MAP_DONE") to (one enable) version set)
-message-length (Message.LastIo to chosen) = omega (arith, said2 (bytes " | LAST_IO") to chosen)
-message-length (Message.Enable to version set) = omega (arith, said4 (bytes " | ENABLE") to 1 version set)
-message-length (Message.Leave to mode) = omega (arith, said2 (bytes " | LEAVE") to (modeNumber mode))
-message-length (Message.Info to op member) = omega (arith, said3 (bytes " | POOL_INFO") to (opNumber op) member)
+message-length (Message.GetVersion to) = omega (arith, said-length (bytes " | MAP_GET_VER") (to ∷ []))
+message-length (Message.Ready to keep) = omega (arith, said-length (bytes " | MAP_READY") (to ∷ one keep ∷ []))
+message-length (Message.Send to receiver) = omega (arith, said-length (bytes " | MAP_SEND") (to ∷ receiver ∷ []))
+message-length (Message.Done to enable version set) = omega (arith, said-length (bytes " | MAP_DONE") (to ∷ one enable ∷ version ∷ set ∷ []))
+message-length (Message.LastIo to chosen) = omega (arith, said-length (bytes " | LAST_IO") (to ∷ chosen ∷ []))
+message-length (Message.Enable to version set) = omega (arith, said-length (bytes " | ENABLE") (to ∷ 1 ∷ version ∷ set ∷ []))
+message-length (Message.Leave to mode) = omega (arith, said-length (bytes " | LEAVE") (to ∷ modeNumber mode ∷ []))
+message-length (Message.Info to op member) = omega (arith, said-length (bytes " | POOL_INFO") (to ∷ opNumber op ∷ member ∷ []))
 
 pick-length : (b : Bool) (s : List ℕ) (n : ℕ) → length s ≤ n → length (pick b s []) ≤ n
 pick-length true s n h = h
@@ -69,9 +67,9 @@ awaited-length m number =
 
 to-length : (t : Told) (i : ℕ) → length (toldTo t i) ≤ 100
 to-length Told.Nothing i = omega arith
-to-length (Told.Marks set chunk list version) i = pick-length (has set i) _ 100 (omega (arith, said4 (bytes " | MARK") i chunk list version))
-to-length (Told.Clears set member chunk) i = pick-length (has set i) _ 100 (omega (arith, said3 (bytes " | CLEAR") i member chunk))
-to-length (Told.Infos set op member) i = pick-length (has set i) _ 100 (omega (arith, said3 (bytes " | POOL_INFO") i (opNumber op) member))
+to-length (Told.Marks set chunk list version) i = pick-length (has set i) _ 100 (omega (arith, said-length (bytes " | MARK") (i ∷ chunk ∷ list ∷ version ∷ [])))
+to-length (Told.Clears set member chunk) i = pick-length (has set i) _ 100 (omega (arith, said-length (bytes " | CLEAR") (i ∷ member ∷ chunk ∷ [])))
+to-length (Told.Infos set op member) i = pick-length (has set i) _ 100 (omega (arith, said-length (bytes " | POOL_INFO") (i ∷ opNumber op ∷ member ∷ [])))
 to-length (Told.Disable to) i = omega arith
 to-length (Told.Off to) i = omega arith
 
@@ -85,8 +83,8 @@ told-length Told.Nothing = omega arith
 told-length (Told.Marks set chunk list version) = each-length (toldTo (Told.Marks set chunk list version)) (to-length (Told.Marks set chunk list version)) 16 0
 told-length (Told.Clears set member chunk) = each-length (toldTo (Told.Clears set member chunk)) (to-length (Told.Clears set member chunk)) 16 0
 told-length (Told.Infos set op member) = each-length (toldTo (Told.Infos set op member)) (to-length (Told.Infos set op member)) 16 0
-told-length (Told.Disable to) = omega (arith, said1 (bytes " | MAP_DISABLE") to)
-told-length (Told.Off to) = omega (arith, said2 (bytes " | ENABLE") to 0)
+told-length (Told.Disable to) = omega (arith, said-length (bytes " | MAP_DISABLE") (to ∷ []))
+told-length (Told.Off to) = omega (arith, said-length (bytes " | ENABLE") (to ∷ 0 ∷ []))
 
 phase-length : (p : Phase) → length (phaseText p) ≤ 20
 phase-length (Phase.Versions top) = omega arith
@@ -114,15 +112,15 @@ roster-length ro e =
     rw (joined-length (paired (bytes "ok version=") (ro .version) ∷ paired (bytes " count=") (ro .count) ∷ paired (bytes " members=") (ro .members) ∷ bytes " sessions=" ∷ map letter (ro .sessions) ∷ []))
     (omega (arith, pair-length (bytes "ok version=") (ro .version), pair-length (bytes " count=") (ro .count), pair-length (bytes " members=") (ro .members), length-map (ro .sessions) letter, e))
 
-flags-length : (ss : List Session) → length (flagsText ss) ≤ 120
+flags-length : (ro : Roster) → length (flagsText ro) ≤ 120
 unfolding flagsText
-flags-length ss =
-    rw (joined-length (paired (bytes " maint=") (flagged Flag.Maint ss) ∷ paired (bytes " marked=") (flagged Flag.Marked ss) ∷ paired (bytes " delete=") (flagged Flag.Delete ss) ∷ paired (bytes " owed=") (flagged Flag.Owed ss) ∷ []))
-    (omega (arith, pair-length (bytes " maint=") (flagged Flag.Maint ss), pair-length (bytes " marked=") (flagged Flag.Marked ss), pair-length (bytes " delete=") (flagged Flag.Delete ss), pair-length (bytes " owed=") (flagged Flag.Owed ss)))
+flags-length ro =
+    rw (joined-length (paired (bytes " maint=") (idsOf Kind.Maintained ro) ∷ paired (bytes " marked=") (idsOf Kind.Marked ro) ∷ paired (bytes " delete=") (idsOf Kind.Deleting ro) ∷ paired (bytes " owed=") (idsOf Kind.Owed ro) ∷ []))
+    (omega (arith, pair-length (bytes " maint=") (idsOf Kind.Maintained ro), pair-length (bytes " marked=") (idsOf Kind.Marked ro), pair-length (bytes " delete=") (idsOf Kind.Deleting ro), pair-length (bytes " owed=") (idsOf Kind.Owed ro)))
 
 -- The client's line is at most 2,100 bytes.
 pub client-length : (p : Pool) (s : Sent) → length (p .roster .sessions) ≡ 16 → length (clientText p s) ≤ 2100
 unfolding clientText
 client-length p s e =
-    rw (joined-length (rosterText (p .roster) ∷ flagsText (p .roster .sessions) ∷ jobText (p .job) ∷ outcomeText (s .outcome) ∷ toldText (s .told) ∷ awaitedText (s .awaited) (s .number) ∷ []))
-    (omega (arith, roster-length (p .roster) e, flags-length (p .roster .sessions), job-length (p .job), outcome-length (s .outcome), told-length (s .told), awaited-length (s .awaited) (s .number)))
+    rw (joined-length (rosterText (p .roster) ∷ flagsText (p .roster) ∷ jobText (p .job) ∷ outcomeText (s .outcome) ∷ toldText (s .told) ∷ awaitedText (s .awaited) (s .number) ∷ []))
+    (omega (arith, roster-length (p .roster) e, flags-length (p .roster), job-length (p .job), outcome-length (s .outcome), told-length (s .told), awaited-length (s .awaited) (s .number)))

@@ -1,13 +1,10 @@
 -- The client's line after an accepted event.
 use Prim.Native.Nat.{ℕ}
-use mathlib.Core.Bool.{Bool, true, false}
 use mathlib.Core.List.{List, [], _∷_, map}
-use Rattle.laws.specs.Words.{pick, one}
-use Rattle.laws.specs.Gather.{gather}
+use Rattle.laws.specs.Words.{one}
 use Rattle.text.specs.Bytes.{bytes}
-use Rattle.text.specs.Ink.{decimal, joined}
+use Rattle.text.specs.Ink.{joined}
 use Rattle.say.specs.Say.{paired, awaitedText, toldText}
-use Rattle.state.specs.Session.{isDeleting, isOwed}
 use Rattle.state.specs.declared.State.{State}
 use Rattle.state.specs.declared.Session.{Session}
 use Rattle.state.specs.declared.Roster.{Roster}
@@ -16,7 +13,8 @@ use Rattle.state.specs.declared.Job.{Job}
 use Rattle.state.specs.declared.Outcome.{Outcome}
 use Rattle.state.specs.declared.Pool.{Pool}
 use Rattle.state.specs.declared.Sent.{Sent}
-use Rattle.sayclient.specs.declared.Flag.{Flag}
+use Rattle.roster.specs.declared.Kind.{Kind}
+use Rattle.roster.specs.Roster.{idsOf}
 
 -- The letter of a session: . none, C CREATED, N NORMAL, F FAILED, R RECONNECTING, X REMOVING.
 abbrev pub letterOf : State → ℕ
@@ -29,17 +27,6 @@ letterOf (State.Removing mode owed) = 88
 
 unfoldable pub letter : Session → ℕ
 letter s = letterOf (s .state)
-
--- what a set of sessions is made of
-abbrev pub isFlag : Flag → ℕ → Session → Bool
-isFlag Flag.Maint i s = s .maintenance
-isFlag Flag.Marked i s = s .mark
-isFlag Flag.Delete i s = isDeleting (s .state)
-isFlag Flag.Owed i s = isOwed (s .state)
-
--- The ids whose session has the flag, as a set.
-unfoldable pub flagged : Flag → List Session → ℕ
-flagged f ss = gather (isFlag f) 0 ss
 
 abbrev pub phaseText : Phase → List ℕ
 phaseText (Phase.Versions top) = bytes " job=run:versions"
@@ -70,18 +57,19 @@ rosterText ro =
     ∷ map letter (ro .sessions)
     ∷ [])
 
-unfoldable pub flagsText : List Session → List ℕ
-flagsText ss =
+-- The sets read off the sessions.
+unfoldable pub flagsText : Roster → List ℕ
+flagsText ro =
     joined
-    (paired (bytes " maint=") (flagged Flag.Maint ss)
-    ∷ paired (bytes " marked=") (flagged Flag.Marked ss)
-    ∷ paired (bytes " delete=") (flagged Flag.Delete ss)
-    ∷ paired (bytes " owed=") (flagged Flag.Owed ss)
+    (paired (bytes " maint=") (idsOf Kind.Maintained ro)
+    ∷ paired (bytes " marked=") (idsOf Kind.Marked ro)
+    ∷ paired (bytes " delete=") (idsOf Kind.Deleting ro)
+    ∷ paired (bytes " owed=") (idsOf Kind.Owed ro)
     ∷ [])
 
 -- The state, the outcome and the messages.
 unfoldable pub clientText : Pool → Sent → List ℕ
 clientText p s =
     joined
-    (rosterText (p .roster) ∷ flagsText (p .roster .sessions) ∷ jobText (p .job)
+    (rosterText (p .roster) ∷ flagsText (p .roster) ∷ jobText (p .job)
     ∷ outcomeText (s .outcome) ∷ toldText (s .told) ∷ awaitedText (s .awaited) (s .number) ∷ [])

@@ -1,12 +1,12 @@
 -- How long a node's line can be.
-use Prim.Native.Nat.{ℕ, zero, suc, _+_, _-_, _*_, _≤_}
+use Prim.Native.Nat.{ℕ, _+_, _-_, _*_, _≤_}
 use mathlib.Core.Path.{_≡_}
 use mathlib.Core.List.{List, [], _∷_}
 use native.Mathlib.Omega.{arith}
 use lib.ListN.{length, drop, length-drop}
 use Rattle.laws.specs.Words.{one}
 use Rattle.text.specs.Bytes.{bytes}
-use Rattle.text.specs.Ink.{decimal, joined}
+use Rattle.text.specs.Ink.{decimal}
 use Rattle.text.proofs.Meaning.{joined-length, decimal-length}
 use Rattle.say.specs.Say.{paired}
 use Rattle.nodestate.specs.declared.State.{State}

@@ -1,6 +1,6 @@
 -- A node's line after an accepted event.
 use Prim.Native.Nat.{ℕ, _-_}
-use mathlib.Core.List.{List, [], _∷_, _++_}
+use mathlib.Core.List.{List, [], _∷_}
 use lib.ListN.{drop}
 use Rattle.laws.specs.Words.{one}
 use Rattle.text.specs.Bytes.{bytes}

@@ -1,6 +1,6 @@
 // A node's line after an accepted event.
 ghost use mathlib.Core.Path.{_≡_};
-ghost use mathlib.Core.List.{List, [], _∷_};
+ghost use mathlib.Core.List.{_∷_};
 ghost use Prim.Native.Nat.{_-_};
 ghost use lib.ListN.{drop};
 ghost use Rattle.text.specs.Ink.{ink, emits, decimal as Ink·decimal};
@@ -78,8 +78,8 @@ fn put_front(out: &mut [u8], at: usize, n: Node) -> usize
     let state = n.state;
     let to = say::put_pair(out, at, b"ok node=", n.id);
     let to = put_state(out, to, state);
-    let to = say::put_pair(out, to, b" store=", say::bit(n.store));
-    say::put_pair(out, to, b" create=", say::bit(n.create))
+    let to = say::put_pair(out, to, b" store=", numbers::one(n.store));
+    say::put_pair(out, to, b" create=", numbers::one(n.create))
 }
 
 // The line of an accepted event, without its newline.

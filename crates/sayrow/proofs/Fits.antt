@@ -1,18 +1,18 @@
 -- How long a row's line can be: a buffer with this much room cuts nothing of it.
 use Prim.Native.Nat.{ℕ, zero, suc, _+_, _-_, _*_, _/_, _%_, _^_, _≤_, _<_}
-use mathlib.Core.Path.{_≡_, refl, sym, ap, _∙_}
+use mathlib.Core.Path.{_≡_, _∙_}
 use mathlib.Core.Bool.{Bool, true, false}
-use mathlib.Core.List.{List, [], _∷_, _++_}
+use mathlib.Core.List.{List, [], _∷_}
 use native.Mathlib.Omega.{arith}
 use native.Mathlib.Nat.{pow-suc}
-use borrow.Author.Tests.{lt-ltb, ltb-true, ltb-false}
+use borrow.Author.Tests.{lt-ltb}
 use lib.ListN.{length}
 use lib.Dec.{ltb, eqb}
-use Rattle.laws.specs.Words.{pick, one}
+use Rattle.laws.specs.Words.{one}
 use Rattle.laws.specs.Tests.{by-cases}
 use Rattle.text.specs.Ink.{decFrom, decimal, joined}
 use Rattle.text.proofs.Meaning.{joined-length}
-use Rattle.maps.specs.Map.{count}
+use Rattle.chunks.specs.Chunk.{count}
 use Rattle.sayrow.specs.Row.{rangeText, begunText, ranges, isDirty, rowText}
 
 dec-length : (k f n : ℕ) (rest : List ℕ) → n < 10 ^ suc k → k < f → length (decFrom f n rest) ≤ suc k + length rest

@@ -6,7 +6,7 @@ use lib.Dec.{eqb}
 use Rattle.laws.specs.Words.{pick}
 use Rattle.text.specs.Bytes.{bytes}
 use Rattle.text.specs.Ink.{decimal, joined}
-use Rattle.maps.specs.Map.{dirty, count}
+use Rattle.chunks.specs.Chunk.{dirty, count}
 
 -- A space, and the chunks from a to b: a where it is alone, else a-b (45 is the dash).
 unfoldable pub rangeText : ℕ → ℕ → List ℕ

@@ -1,8 +1,7 @@
 // A member's dirty chunks, as ranges.
 ghost use mathlib.Core.Path.{_≡_};
-ghost use mathlib.Core.Bool.{true, false};
-ghost use mathlib.Core.List.{List, [], _∷_};
-ghost use Prim.Native.Nat.{_-_};
+ghost use mathlib.Core.Bool.{false};
+ghost use mathlib.Core.List.{_∷_};
 ghost use Rattle.text.specs.Ink.{ink, emits, decimal as Ink·decimal};
 ghost use Rattle.sayrow.specs.Row.{rangeText, begunText, ranges, isDirty, rowText};
 
@@ -24,21 +23,12 @@ fn put_range(out: &mut [u8], at: usize, a: u64, b: u64) -> usize
     put_sign(out, to, 45, b)
 }
 
-fn less(c: u64) -> u64
-    ensures { λ r. ⌜ r ≡ c - 1 ⌝ }
-{
-    if c == 0 {
-        return 0;
-    }
-    c - 1
-}
-
 // The range from a up to c, where one was begun.
 fn put_begun(out: &mut [u8], at: usize, begun: bool, a: u64, c: u64) -> usize
     ensures { λ r. ⌜ ink (now (out .exit)) r ≡ emits (ink (now (out .entry)) at) (begunText begun a c) ⌝ }
 {
     if begun {
-        return put_range(out, at, a, less(c));
+        return put_range(out, at, a, numbers::minus(c, 1));
     }
     at
 }
@@ -51,9 +41,9 @@ fn put_ranges(out: &mut [u8], at: usize, map: &[u8], m: u64) -> usize
     let mut a: u64 = 0;
     let mut c: u64 = 0;
     while c < 4096 {
-        let d = maps::test(map, m, c);
+        let d = chunks::test(map, m, c);
         if d {
-            a = sets::choose(begun, a, c);
+            a = numbers::choose(begun, a, c);
             begun = true;
             c += 1;
             continue;
@@ -69,7 +59,7 @@ fn put_ranges(out: &mut [u8], at: usize, map: &[u8], m: u64) -> usize
 pub fn put_row(out: &mut [u8], at: usize, map: &[u8], m: u64) -> usize
     ensures { λ r. ⌜ ink (now (out .exit)) r ≡ emits (ink (now (out .entry)) at) (rowText (now (map .entry)) m) ⌝ }
 {
-    let n = maps::count_row(map, m);
+    let n = chunks::count_row(map, m);
     if n == 0 {
         return text::put_bytes(out, at, b"clean");
     }

@@ -1,8 +1,9 @@
--- One session record: the tests on its state, and the ways to change it.
+-- One session record: the tests on its state, and the ways to change it; the test on a message.
 use mathlib.Core.Bool.{Bool, true, false, _&&_, _||_, not}
 use Rattle.state.specs.declared.Mode.{Mode}
 use Rattle.state.specs.declared.State.{State}
 use Rattle.state.specs.declared.Session.{Session}
+use Rattle.state.specs.declared.Message.{Message}
 
 -- the id has no session
 abbrev pub isFree : State → Bool
@@ -110,3 +111,15 @@ flagged s on = record { state = s .state; maintenance = on; mark = s .mark }
 
 abbrev pub marked : Session → Bool → Session
 marked s on = record { state = s .state; maintenance = s .maintenance; mark = on }
+
+-- nothing is awaited
+abbrev pub isNothing : Message → Bool
+isNothing Message.Nothing = true
+isNothing (Message.GetVersion to) = false
+isNothing (Message.Ready to keep) = false
+isNothing (Message.Send to receiver) = false
+isNothing (Message.Done to enable version members) = false
+isNothing (Message.LastIo to chosen) = false
+isNothing (Message.Enable to version members) = false
+isNothing (Message.Leave to mode) = false
+isNothing (Message.Info to op member) = false

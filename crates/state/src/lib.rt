@@ -1,8 +1,7 @@
 // The compute client's types, and the tests on one session record. A value that no event can make is made impossible by its type where that is cheap;
 // what is left is tested by the state rules.
 ghost use mathlib.Core.Path.{_≡_};
-ghost use mathlib.Core.Bool.{_&&_, not};
-ghost use Rattle.state.specs.Session.{isFree, isCreated, isNormal, isFailed, isReconnecting, isRemoving, isDelete, isDeleting, isOwed, isTold, candidate, newSession, moved, flagged, marked};
+ghost use Rattle.state.specs.Session.{isFree, isCreated, isNormal, isFailed, isReconnecting, isRemoving, isDelete, isDeleting, isOwed, isTold, candidate, newSession, moved, flagged, marked, isNothing};
 
 // Delete takes the member out for good; disassemble leaves it a member.
 pub enum Mode {
@@ -256,7 +255,7 @@ pub fn is_deleting(s: State) -> bool
     }
 }
 
-fn is_delete(m: Mode) -> bool
+pub fn is_delete(m: Mode) -> bool
     ensures { λ r. ⌜ r ≡ isDelete m ⌝ }
 {
     match m {
@@ -299,6 +298,23 @@ pub fn is_candidate(s: Session) -> bool
 {
     let st = s.state;
     is_reconnecting(st) & !s.maintenance
+}
+
+// Whether nothing is awaited.
+pub fn is_nothing(m: Message) -> bool
+    ensures { λ r. ⌜ r ≡ isNothing m ⌝ }
+{
+    match m {
+        Message::Nothing => true,
+        Message::GetVersion(to) => false,
+        Message::Ready(to, keep) => false,
+        Message::Send(to, receiver) => false,
+        Message::Done(to, enable, version, members) => false,
+        Message::LastIo(to, chosen) => false,
+        Message::Enable(to, version, members) => false,
+        Message::Leave(to, mode) => false,
+        Message::Info(to, op, member) => false,
+    }
 }
 
 // The one constructor of a record, and the one setter of its state: a session keeps its flag and its mark while it is FAILED or RECONNECTING, and

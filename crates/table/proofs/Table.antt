@@ -2,15 +2,18 @@
 use mathlib.Core.Path.{refl}
 use Rattle.laws.specs.Words.{bit}
 use Rattle.sets.specs.Sets.{has, with, without, size, lowest}
-use Rattle.maps.specs.Map.{place, marked, each, markedFor, sound, cleanFrom, spare, room}
-use Rattle.roster.specs.Roster.{idsOf, entered, left, failed, went}
+use Rattle.chunks.specs.Chunk.{place, marked, each, markedFor}
+use Rattle.maps.specs.Map.{sound, cleanFrom, spare, room}
+use Rattle.roster.specs.Roster.{idsOf}
+use Rattle.changes.specs.Changes.{entered, left, failed, went}
 use Rattle.run.specs.Run as run
 use Rattle.run.specs.Still.{possible}
 use Rattle.recovery.specs.Cases as cases
 use Rattle.recovery.specs.Recovery.{posted, tried}
 use Rattle.rules.specs.Rules.{rosterOk, allAsked, oneAsked, runOk, validPool}
 use Rattle.joins.specs.Joins.{joinTold, createRefusal, created, createDone, joinCreate, setBars, assembleRefusal, assembled, assembleDone, joinAssemble}
-use Rattle.links.specs.Links.{enables, enableRefusal, enableDone, enable, drops, downRefusal, dropped, downDone, linkDown, checks, checkRefusal, checkDone, storeCheck}
+use Rattle.enables.specs.Enables.{enables, enableRefusal, enableDone, enable}
+use Rattle.links.specs.Links.{drops, downRefusal, dropped, downDone, linkDown, checks, checkRefusal, checkDone, storeCheck}
 use Rattle.writes.specs.Writes.{reachBars, writeRefusal, missStep, missed, marks, writeDone, writeEnded}
 use Rattle.answers.specs.Answers.{answerRefusal, moved, answer}
 use Rattle.client.specs.Client.{writeTurn, answerTurn}

@@ -1,7 +1,7 @@
 -- The starred rows of the tester's table: one list of rows, and what it says that each holds.
 use mathlib.Core.Path.{_≡_}
 use mathlib.Core.Bool.{true, false}
-use mathlib.Core.List.{List, [], _∷_}
+use mathlib.Core.List.{List, [], _∷_, _++_}
 use Prim.Native.Nat.{ℕ, zero, suc}
 use lib.ListN.{getD, replicate}
 use Rattle.state.specs.declared.State.{State}
@@ -108,18 +108,17 @@ both = Event.joinCreate 0 ∷ Event.joinCreate 1 ∷ Event.enable 0 ∷ Event.en
 
 -- then link 0 down, then link 1 down, then store check 0
 abbrev pub oneDown : List Event
-oneDown = Event.joinCreate 0 ∷ Event.joinCreate 1 ∷ Event.enable 0 ∷ Event.enable 1 ∷ Event.linkDown 0 ∷ []
+oneDown = both ++ (Event.linkDown 0 ∷ [])
 
 abbrev pub bothDown : List Event
-bothDown = Event.joinCreate 0 ∷ Event.joinCreate 1 ∷ Event.enable 0 ∷ Event.enable 1 ∷ Event.linkDown 0 ∷ Event.linkDown 1 ∷ []
+bothDown = oneDown ++ (Event.linkDown 1 ∷ [])
 
 abbrev pub oneChecked : List Event
-oneChecked =
-    Event.joinCreate 0 ∷ Event.joinCreate 1 ∷ Event.enable 0 ∷ Event.enable 1 ∷ Event.linkDown 0 ∷ Event.linkDown 1 ∷ Event.storeCheck 0 ∷ []
+oneChecked = bothDown ++ (Event.storeCheck 0 ∷ [])
 
 -- both NORMAL, then a write of chunk 7 that reached these
 abbrev pub written : ℕ → List Event
-written reached = Event.joinCreate 0 ∷ Event.joinCreate 1 ∷ Event.enable 0 ∷ Event.enable 1 ∷ Event.write zeros 7 reached ∷ []
+written reached = both ++ (Event.write zeros 7 reached ∷ [])
 
 -- 0 and 3 created, enabled, link 3 down
 abbrev pub threeDown : List Event

@@ -1,6 +1,5 @@
 -- A number in decimal, read from a list of bytes.
 use Prim.Native.Nat.{ℕ, _+_, _-_, _*_}
-use mathlib.Core.Bool.{Bool, true, false, _&&_}
 use mathlib.Core.List.{List, [], _∷_}
 use lib.Dec.{leb}
 use Rattle.laws.specs.Words.{pick}

@@ -1,13 +1,10 @@
 -- The client and its nodes together, and one exchange of a recovery run: the message that the client sent and awaits goes to its node, and that node's
 -- answer goes back to the client, under the message's number.
-use mathlib.Core.Bool.{Bool, true, false}
 use mathlib.Core.List.{List}
 use Prim.Native.Nat.{ℕ, zero, suc}
 use lib.Dec.{eqb}
 use Rattle.laws.specs.Words.{pick}
 use Rattle.state.specs.declared.Pool.{Pool}
-use Rattle.state.specs.declared.Mode.{Mode}
-use Rattle.state.specs.declared.Op.{Op}
 use Rattle.state.specs.declared.Message.{Message}
 use Rattle.state.specs.declared.Told.{Told}
 use Rattle.state.specs.declared.Sent.{Sent}

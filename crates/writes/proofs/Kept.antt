@@ -1,40 +1,36 @@
 -- Write ended and synced, accepted or refused: the state rules are kept; a session's state changes only by the table, and the version never falls; a session
 -- that was reached, or was not NORMAL, keeps its record, and a NORMAL one that was not reached is FAILED.
 use mathlib.Core.Path.{_≡_, refl, sym, ap, _∙_, subst}
-use mathlib.Core.Bool.{Bool, true, false, not, _&&_, _||_}
-use mathlib.Core.Logic.{_≢_}
+use mathlib.Core.Bool.{Bool, true, false, not, _&&_}
 use Prim.Native.Nat.{ℕ, zero, suc, _+_, _≤_, _<_}
 use native.Mathlib.Nat.{zero-add}
 use native.Mathlib.Decide.{ℕ-discrete}
 use native.Mathlib.Omega.{arith}
 use lib.Dec.{eqb, ltb}
-use borrow.Author.Tests.{eqb-true, ltb-false, not-false}
-use Rattle.laws.specs.Words.{pick}
 use Rattle.laws.specs.Loops.{runAt}
-use Rattle.laws.specs.Tests.{by-cases, clash, passed, and-left, and-right}
+use Rattle.laws.specs.Tests.{by-cases, clash, passed, and-left}
 use Rattle.sets.specs.Sets.{has}
 use Rattle.state.specs.declared.State.{State}
 use Rattle.state.specs.declared.Session.{Session}
 use Rattle.state.specs.declared.Roster.{Roster}
 use Rattle.state.specs.declared.Job.{Job}
 use Rattle.state.specs.declared.Pool.{Pool}
-use Rattle.state.specs.declared.Turn.{Turn}
-use Rattle.state.specs.Session.{isFree, isNormal, isFailed, isRemoving}
+use Rattle.state.specs.Session.{isNormal, isRemoving}
 use Rattle.state.specs.Table.{legal}
-use Rattle.roster.specs.declared.Kind.{Kind}
-use Rattle.roster.specs.declared.Cause.{Cause}
-use Rattle.roster.specs.Roster.{sessionAt, idsOf, failed}
-use Rattle.recovery.specs.Recovery.{withRoster, over}
-use Rattle.exits.specs.Exit.{refused, haltedIf}
+use Rattle.changes.specs.declared.Cause.{Cause}
+use Rattle.roster.specs.Roster.{sessionAt}
+use Rattle.changes.specs.Changes.{failed}
+use Rattle.recovery.specs.Recovery.{withRoster}
+use Rattle.exits.specs.Exit.{haltedIf}
 use Rattle.exits.proofs.Laws.{picked, turned, halts}
 use Rattle.rules.specs.Rules.{validPool, jobOk}
-use Rattle.rules.specs.Jobs.{isRunning, peerAt}
+use Rattle.rules.specs.Jobs.{isRunning}
 use Rattle.kept.specs.Ids.{Long}
 use Rattle.kept.specs.Rosters.{Ok}
 use Rattle.kept.specs.Pools.{Valid}
-use Rattle.kept.specs.Links.{isLive, normal-live, failed-keeps}
-use Rattle.kept.specs.Legal.{changes, Moves, goes, stays, moves-none, failed-here, failed-other, failed-version, failed-long, normal-below}
-use Rattle.writes.specs.Writes.{reachBars, writeRefusal, missStep, missed, loses, marks, writeDone, writeEnded, syncs, syncRefusal, syncDone, synced}
+use Rattle.kept.specs.Links.{normal-live, failed-keeps}
+use Rattle.kept.specs.Legal.{Moves, goes, stays, moves-none, failed-here, failed-other, failed-version, failed-long, normal-below}
+use Rattle.writes.specs.Writes.{writeRefusal, missStep, missed, loses, marks, writeDone, writeEnded, syncRefusal, syncDone, synced}
 
 -- ---- the sessions not reached, one after the other
 

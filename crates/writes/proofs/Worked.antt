@@ -1,7 +1,7 @@
 -- The tester's table where writes end, by computation.
 use mathlib.Core.Path.{_≡_, refl}
-use mathlib.Core.Bool.{Bool, true, false}
-use mathlib.Core.List.{List, [], _∷_}
+use mathlib.Core.Bool.{true, false}
+use mathlib.Core.List.{List, _∷_}
 use Prim.Native.Nat.{ℕ}
 use lib.ListN.{replicate}
 use Rattle.laws.specs.Words.{bit}
@@ -9,7 +9,6 @@ use Rattle.sets.specs.Sets.{has, with, without, size, lowest}
 use Rattle.state.specs.declared.Mode.{Mode}
 use Rattle.state.specs.declared.State.{State}
 use Rattle.state.specs.declared.Session.{Session}
-use Rattle.state.specs.declared.Roster.{Roster}
 use Rattle.state.specs.declared.Job.{Job}
 use Rattle.state.specs.declared.Pool.{Pool}
 use Rattle.state.specs.declared.Message.{Message}
@@ -17,10 +16,10 @@ use Rattle.state.specs.declared.Told.{Told}
 use Rattle.state.specs.declared.Outcome.{Outcome}
 use Rattle.state.specs.declared.Answer.{Answer}
 use Rattle.state.specs.declared.Effect.{Effect}
-use Rattle.state.specs.declared.Turn.{Turn}
 use Rattle.state.specs.Session.{newSession}
 use Rattle.roster.specs.declared.Kind.{Kind}
-use Rattle.roster.specs.Roster.{idsOf, left, failed}
+use Rattle.roster.specs.Roster.{idsOf}
+use Rattle.changes.specs.Changes.{left, failed}
 use Rattle.rules.specs.Rules.{rosterOk, allAsked, oneAsked, runOk, validPool}
 use Rattle.writes.specs.Writes.{reachBars, writeRefusal, missStep, missed, marks, writeDone, writeEnded, syncs, syncRefusal, syncDone, synced}
 

@@ -5,11 +5,10 @@ use Prim.Native.Nat.{ℕ}
 use lib.Dec.{eqb, ltb}
 use Rattle.laws.specs.Words.{pick}
 use Rattle.laws.specs.Loops.{runAt}
-use Rattle.refusals.specs.Refusals.{refusal, test}
+use Rattle.refusals.specs.Refusals.{Test, test, refusal}
 use Rattle.sets.specs.Sets.{has}
 use Rattle.state.specs.declared.Roster.{Roster}
 use Rattle.state.specs.declared.Job.{Job}
-use Rattle.state.specs.declared.Removal.{Removal}
 use Rattle.state.specs.declared.Pool.{Pool}
 use Rattle.state.specs.declared.Message.{Message}
 use Rattle.state.specs.declared.Told.{Told}
@@ -18,30 +17,33 @@ use Rattle.state.specs.declared.Effect.{Effect}
 use Rattle.state.specs.declared.Turn.{Turn}
 use Rattle.state.specs.Session.{isFree, isNormal}
 use Rattle.roster.specs.declared.Kind.{Kind}
-use Rattle.roster.specs.declared.Cause.{Cause}
-use Rattle.roster.specs.Roster.{sessionAt, idsOf, failed}
+use Rattle.changes.specs.declared.Cause.{Cause}
+use Rattle.roster.specs.Roster.{sessionAt, idsOf}
+use Rattle.changes.specs.Changes.{failed}
 use Rattle.recovery.specs.Recovery.{withRoster}
 use Rattle.exits.specs.Exit.{refused, accepted, haltedIf}
 use Rattle.rules.specs.Rules.{validPool}
 use Rattle.rules.specs.Jobs.{isRunning, peerAt}
 
--- ---- write ended: a chunk, and the set of the sessions that it reached. sound: the lent client map is.
+-- ---- write ended: a chunk, and the set of the sessions that it reached. `sound` says that the lent client map is.
 
 -- no session is NORMAL, or the reached set names an id that is not
 unfoldable pub reachBars : Roster → ℕ → Bool
 reachBars ro reached = eqb (idsOf Kind.Normals ro) 0 || not (eqb (idsOf (Kind.Abnormal reached) ro) 0)
 
-unfoldable pub writeRefusal : Pool → Bool → ℕ → ℕ → ℕ
-writeRefusal p sound chunk reached =
-    refusal
-    (test 1 (not (validPool p))
+abbrev pub writeTests : Pool → Bool → ℕ → ℕ → List Test
+writeTests p sound chunk reached =
+    test 1 (not (validPool p))
     ∷ test 2 (not sound)
     ∷ test 3 (ltb 65535 reached)
     ∷ test 4 (not (ltb chunk (p .chunks)))
     ∷ test 5 (p .roster .sync)
     ∷ test 6 (isRunning (p .job))
     ∷ test 11 (reachBars (p .roster) reached)
-    ∷ [])
+    ∷ []
+
+unfoldable pub writeRefusal : Pool → Bool → ℕ → ℕ → ℕ
+writeRefusal p sound chunk reached = refusal (writeTests p sound chunk reached)
 
 -- NORMAL sessions not reached become FAILED, ascending.
 unfoldable pub missStep : ℕ → ℕ → Roster → Roster
@@ -75,17 +77,16 @@ unfoldable pub writeEnded : Pool → Bool → ℕ → ℕ → Turn
 writeEnded p sound chunk reached =
     pick (eqb (writeRefusal p sound chunk reached) 0) (writeDone p chunk reached) (refused p (writeRefusal p sound chunk reached))
 
--- ---- synced: a member and a chunk. clean: the ids for which the chunk is clean in the lent map of a NORMAL node.
+-- ---- synced: a member and a chunk; `clean`: the ids for which the chunk is clean in the lent map of a NORMAL node.
 
 -- the member NORMAL, the chunk dirty for it, and another NORMAL member clean
 unfoldable pub syncs : Roster → ℕ → ℕ → Bool
 syncs ro member clean =
     isNormal (sessionAt ro member .state) && (not (has clean member) && not (eqb (idsOf (Kind.Reached clean) ro) 0))
 
-unfoldable pub syncRefusal : Pool → Bool → ℕ → ℕ → ℕ → ℕ
-syncRefusal p sound member chunk clean =
-    refusal
-    (test 1 (not (validPool p))
+abbrev pub syncTests : Pool → Bool → ℕ → ℕ → ℕ → List Test
+syncTests p sound member chunk clean =
+    test 1 (not (validPool p))
     ∷ test 2 (not sound)
     ∷ test 3 (ltb 15 member)
     ∷ test 4 (not (ltb chunk (p .chunks)))
@@ -94,7 +95,10 @@ syncRefusal p sound member chunk clean =
     ∷ test 7 (isFree (sessionAt (p .roster) member .state))
     ∷ test 11 (eqb (idsOf Kind.Normals (p .roster)) 0)
     ∷ test 12 (not (syncs (p .roster) member clean))
-    ∷ [])
+    ∷ []
+
+unfoldable pub syncRefusal : Pool → Bool → ℕ → ℕ → ℕ → ℕ
+syncRefusal p sound member chunk clean = refusal (syncTests p sound member chunk clean)
 
 -- NORMAL nodes clear it; the client map keeps it.
 unfoldable pub syncDone : Pool → ℕ → ℕ → Turn

@@ -1,7 +1,5 @@
 use borrow.Author.Needs.{needs}
-use lib.ListN.{length}
 use Prim.Native.Nat.{_-_, _≤_}
-use mathlib.Core.Path.{_≡_, refl}
 use Rattle.bench.proofs.fresh_nodes.Statement.{statement}
 use Rattle.bench.proofs.fresh_nodes.Tie as tie
 

@@ -9,11 +9,8 @@ join-told-requires c κs = search needs
 create-requires : tie.Need-create-requires
 create-requires c κs = search needs
 
-with-roster-requires : tie.Need-with-roster-requires
-with-roster-requires c κs = search needs
-
-accept-requires : tie.Need-accept-requires
-accept-requires c κs = search needs
+change-requires : tie.Need-change-requires
+change-requires c κs = search needs
 
 returns : tie.Need-returns
 unfolding createDone
@@ -22,4 +19,4 @@ returns c = cc
 pub create-done-spec : {M : Type 1} → statement M
 create-done-spec =
     tie.close
-    (tie.spec join-told-requires create-requires with-roster-requires accept-requires returns)
+    (tie.spec join-told-requires create-requires change-requires returns)

@@ -1,6 +1,8 @@
 use borrow.Author.Needs.{needs}
-use Rattle.maps.proofs.Laws.{each-in, each-out, each-none, each-done, each-length, length-zeroRow}
-use Rattle.maps.specs.Map.{each, zeroRow, kept}
+use Rattle.chunks.proofs.Laws.{each-in, each-out, each-none, each-done, each-length}
+use Rattle.maps.proofs.Laws.{length-zeroRow}
+use Rattle.chunks.specs.Chunk.{each}
+use Rattle.maps.specs.Map.{zeroRow, kept}
 use Rattle.sets.specs.Sets.{has}
 use Prim.Native.Nat.{_-_, _≤_}
 use mathlib.Core.Bool.{not}

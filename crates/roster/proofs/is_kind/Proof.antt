@@ -26,6 +26,21 @@ enum-told-4 c = search needs
 enum-told-5 : tie.Need-enum-told-5
 enum-told-5 c = search needs
 
+enum-told-6 : tie.Need-enum-told-6
+enum-told-6 c = search needs
+
+is-deleting-requires : tie.Need-is-deleting-requires
+is-deleting-requires c κs = search needs
+
+enum-told-7 : tie.Need-enum-told-7
+enum-told-7 c = search needs
+
+is-owed-requires : tie.Need-is-owed-requires
+is-owed-requires c κs = search needs
+
+enum-told-8 : tie.Need-enum-told-8
+enum-told-8 c = search needs
+
 is-told-requires : tie.Need-is-told-requires
 is-told-requires c κs = search needs
 
@@ -71,53 +86,62 @@ has-requires-4 c κs = search needs
 is-normal-requires-4 : tie.Need-is-normal-requires-4
 is-normal-requires-4 c κs = search needs
 
-enum-told-6 : tie.Need-enum-told-6
-enum-told-6 c = search needs
+enum-told-9 : tie.Need-enum-told-9
+enum-told-9 c = search needs
 
 is-listed-requires : tie.Need-is-listed-requires
 is-listed-requires c κs = search needs
 
-enum-told-7 : tie.Need-enum-told-7
-enum-told-7 c = search needs
+enum-told-10 : tie.Need-enum-told-10
+enum-told-10 c = search needs
 
 is-odd-requires : tie.Need-is-odd-requires
 is-odd-requires c κs = search needs
 
 returns : tie.Need-returns
-returns c = search needs
+returns c = simp (c .is-free .ensures, c .before .enum-told .given .1)
 
 returns-2 : tie.Need-returns-2
-returns-2 c = search needs
+returns-2 c = simp (c .is-normal .ensures, c .before .enum-told2 .given .1)
 
 returns-3 : tie.Need-returns-3
 returns-3 c = simp (c .is-candidate .ensures, c .before .enum-told3 .given .1)
 
 returns-4 : tie.Need-returns-4
-returns-4 c = search needs
+returns-4 c = simp (c .enum-told4 .given .1)
 
 returns-5 : tie.Need-returns-5
-returns-5 c = search needs
+returns-5 c = simp (c .enum-told5 .given .1)
 
 returns-6 : tie.Need-returns-6
-returns-6 c = simp (c .is-told2 .ensures, c .before .before .k .given .1)
+returns-6 c = simp (c .is-deleting .ensures, c .before .enum-told6 .given .1)
 
 returns-7 : tie.Need-returns-7
-returns-7 c = simp (c .is-candidate2 .ensures, c .before .has .ensures, c .before .before .before .k2 .given .1)
+returns-7 c = simp (c .is-owed .ensures, c .before .enum-told7 .given .1)
 
 returns-8 : tie.Need-returns-8
-returns-8 c = simp (c .has2 .ensures, c .before .is-normal2 .ensures, c .before .before .before .k3 .given .1)
+returns-8 c = simp (c .is-told .ensures, c .before .enum-told8 .given .1)
 
 returns-9 : tie.Need-returns-9
-returns-9 c = simp (c .has3 .ensures, c .before .is-normal3 .ensures, c .before .before .before .k4 .given .1)
+returns-9 c = simp (c .is-told2 .ensures, c .before .before .k .given .1)
 
 returns-10 : tie.Need-returns-10
-returns-10 c = simp (c .is-normal4 .ensures, c .before .has4 .ensures, c .before .before .before .k5 .given .1)
+returns-10 c = simp (c .is-candidate2 .ensures, c .before .has .ensures, c .before .before .before .k2 .given .1)
 
 returns-11 : tie.Need-returns-11
-returns-11 c = simp (c .is-listed .ensures, c .before .enum-told6 .given .1)
+returns-11 c = simp (c .has2 .ensures, c .before .is-normal2 .ensures, c .before .before .before .k3 .given .1)
 
 returns-12 : tie.Need-returns-12
-returns-12 c = simp (c .is-odd .ensures, c .before .enum-told7 .given .1)
+returns-12 c = simp (c .has3 .ensures, c .before .is-normal3 .ensures, c .before .before .before .k4 .given .1)
+
+returns-13 : tie.Need-returns-13
+returns-13 c = simp (c .is-normal4 .ensures, c .before .has4 .ensures, c .before .before .before .k5 .given .1)
+
+returns-14 : tie.Need-returns-14
+returns-14 c = simp (c .is-listed .ensures, c .before .enum-told9 .given .1)
+
+returns-15 : tie.Need-returns-15
+returns-15 c = simp (c .is-odd .ensures, c .before .enum-told10 .given .1)
 
 pub is-kind-spec : {M : Type 1} → statement M
 is-kind-spec =
@@ -131,6 +155,11 @@ is-kind-spec =
     is-candidate-requires
     enum-told-4
     enum-told-5
+    enum-told-6
+    is-deleting-requires
+    enum-told-7
+    is-owed-requires
+    enum-told-8
     is-told-requires
     enum-known-k
     is-told-requires-2
@@ -146,9 +175,9 @@ is-kind-spec =
     enum-known-k-5
     has-requires-4
     is-normal-requires-4
-    enum-told-6
+    enum-told-9
     is-listed-requires
-    enum-told-7
+    enum-told-10
     is-odd-requires
     returns
     returns-2
@@ -161,4 +190,7 @@ is-kind-spec =
     returns-9
     returns-10
     returns-11
-    returns-12)
+    returns-12
+    returns-13
+    returns-14
+    returns-15)

@@ -3,7 +3,7 @@
 -- Assumes nothing.
 use Rattle.rows.proofs.Walk.{_≡_, refl, ap, _∙_, ℕ, List, [], _∷_, length, URA, named, erased, w64, Val, SProp, ent, sep, emp, via, fst∗, snd∗, exE, id⊢, Lft, Share, Fml, ftrue, flft, Memory, Routine, Heap, Calls, Loops, WpFn, Tables, Atoms, sem, Lfts, Fun, fact, givenOf, tables, tablesOf, Given, ‵, raw, _⊛_, ⋆, some, later, _$_, _∵_, !, qed, by, move, use1, use2, split, join, pick, fsplit, fjoin, suffices, frame, await, done, look, init, forget, stop, from, load, and-then, no-more, land, returns, enter, alloc1, alloc0, params1, pass1, pass0, free1, free0, FmC, fmOf, WpFn-mono, RattleType, owns, Is, shows, uint-lawful, u64, u8, RefT, NamedLft, now, plain, namedLft, sliceVal, ShrSlice, slice-vals, shr-slice-tells, shr-slice-lawful, shr-slice-copy, peeks, heard, nothing, Contract, Triple, calls-at, Vals, onEntry, Meets, tripleOf, entered, cited, says, Stays, stay-none-slice, walkOf, goes-none-slice, Walks, ends-at, walked, walk-meets, yes, ensured, lasts}
 use denote.Struct.Laws as LL
-use Rattle.maps.specs.Map.{count}
+use Rattle.chunks.specs.Chunk.{count}
 use Rattle.rows.specs.declared.Row.{Row}
 use Rattle.rows.proofs.Row as T
 use Rattle.rows.proofs.Row.Laws as T′

@@ -22,8 +22,8 @@ enum-known-m-2 c = search needs
 slice-aggregate-put2 : tie.Need-slice-aggregate-put2
 slice-aggregate-put2 c = search needs
 
-bit-requires : tie.Need-bit-requires
-bit-requires c κs = search needs
+one-requires : tie.Need-one-requires
+one-requires c κs = search needs
 
 put2-requires : tie.Need-put2-requires
 put2-requires c κs = search needs
@@ -43,8 +43,8 @@ enum-known-m-4 c = search needs
 slice-aggregate-put4 : tie.Need-slice-aggregate-put4
 slice-aggregate-put4 c = search needs
 
-bit-requires-2 : tie.Need-bit-requires-2
-bit-requires-2 c κs = search needs
+one-requires-2 : tie.Need-one-requires-2
+one-requires-2 c κs = search needs
 
 put4-requires : tie.Need-put4-requires
 put4-requires c κs = search needs
@@ -104,7 +104,7 @@ same-length-2 : tie.Need-same-length-2
 same-length-2 c = search needs
 
 returns-3 : tie.Need-returns-3
-returns-3 c = rw (c .before .before .before .before .before .before .before .m2 .given .1, ← c .before .before .before .bit .ensures) (c .before .before .put2 .ensures)
+returns-3 c = rw (c .before .before .before .before .before .before .before .m2 .given .1, ← c .before .before .before .one .ensures) (c .before .before .put2 .ensures)
 
 same-length-3 : tie.Need-same-length-3
 same-length-3 c = search needs
@@ -116,7 +116,7 @@ same-length-4 : tie.Need-same-length-4
 same-length-4 c = search needs
 
 returns-5 : tie.Need-returns-5
-returns-5 c = rw (c .before .before .before .before .before .before .before .m4 .given .1, ← c .before .before .before .bit2 .ensures) (c .before .before .put4 .ensures)
+returns-5 c = rw (c .before .before .before .before .before .before .before .m4 .given .1, ← c .before .before .before .one2 .ensures) (c .before .before .put4 .ensures)
 
 same-length-5 : tie.Need-same-length-5
 same-length-5 c = search needs
@@ -152,14 +152,14 @@ put-message-spec =
     put1-requires
     enum-known-m-2
     slice-aggregate-put2
-    bit-requires
+    one-requires
     put2-requires
     enum-known-m-3
     slice-aggregate-put2-2
     put2-requires-2
     enum-known-m-4
     slice-aggregate-put4
-    bit-requires-2
+    one-requires-2
     put4-requires
     enum-known-m-5
     slice-aggregate-put2-3

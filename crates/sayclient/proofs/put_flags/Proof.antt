@@ -6,17 +6,17 @@ use borrow.Author.Needs.{needs}
 use Rattle.sayclient.proofs.put_flags.Statement.{statement}
 use Rattle.sayclient.proofs.put_flags.Tie as tie
 
-flags-requires : tie.Need-flags-requires
-flags-requires c κs = search needs
+ids-requires : tie.Need-ids-requires
+ids-requires c κs = search needs
 
-flags-requires-2 : tie.Need-flags-requires-2
-flags-requires-2 c κs = search needs
+ids-requires-2 : tie.Need-ids-requires-2
+ids-requires-2 c κs = search needs
 
-flags-requires-3 : tie.Need-flags-requires-3
-flags-requires-3 c κs = search needs
+ids-requires-3 : tie.Need-ids-requires-3
+ids-requires-3 c κs = search needs
 
-flags-requires-4 : tie.Need-flags-requires-4
-flags-requires-4 c κs = search needs
+ids-requires-4 : tie.Need-ids-requires-4
+ids-requires-4 c κs = search needs
 
 slice-aggregate-put-pair : tie.Need-slice-aggregate-put-pair
 slice-aggregate-put-pair c = search needs
@@ -47,16 +47,16 @@ same-length c = search needs
 
 returns : tie.Need-returns
 unfolding flagsText
-returns c = emits-parts _ _ (emits-then (emits-then (emits-then (emits-then refl (ap (paired _) (c .before .before .before .before .before .before .before .before .before .before .before .before .before .before .before .before .before .before .before .before .before .before .before .flags .ensures)) (c .before .before .before .before .before .before .before .before .before .before .before .before .before .before .before .before .before .put-pair .ensures)) (ap (paired _) (c .before .before .before .before .before .before .before .before .before .before .before .before .before .before .before .before .before .before .before .before .before .before .flags2 .ensures)) (c .before .before .before .before .before .before .before .before .before .before .before .before .put-pair2 .ensures)) (ap (paired _) (c .before .before .before .before .before .before .before .before .before .before .before .before .before .before .before .before .before .before .before .before .before .flags3 .ensures)) (c .before .before .before .before .before .before .before .put-pair3 .ensures)) (ap (paired _) (c .before .before .before .before .before .before .before .before .before .before .before .before .before .before .before .before .before .before .before .before .flags4 .ensures)) (c .before .before .put-pair4 .ensures))
+returns c = emits-parts _ _ (emits-then (emits-then (emits-then (emits-then refl (ap (paired _) (c .before .before .before .before .before .before .before .before .before .before .before .before .before .before .before .before .before .before .before .before .before .before .before .ids .ensures)) (c .before .before .before .before .before .before .before .before .before .before .before .before .before .before .before .before .before .put-pair .ensures)) (ap (paired _) (c .before .before .before .before .before .before .before .before .before .before .before .before .before .before .before .before .before .before .before .before .before .before .ids2 .ensures)) (c .before .before .before .before .before .before .before .before .before .before .before .before .put-pair2 .ensures)) (ap (paired _) (c .before .before .before .before .before .before .before .before .before .before .before .before .before .before .before .before .before .before .before .before .before .ids3 .ensures)) (c .before .before .before .before .before .before .before .put-pair3 .ensures)) (ap (paired _) (c .before .before .before .before .before .before .before .before .before .before .before .before .before .before .before .before .before .before .before .before .ids4 .ensures)) (c .before .before .put-pair4 .ensures))
 
 pub put-flags-spec : {M : Type 1} → statement M
 put-flags-spec =
     tie.close
     (tie.spec
-    flags-requires
-    flags-requires-2
-    flags-requires-3
-    flags-requires-4
+    ids-requires
+    ids-requires-2
+    ids-requires-3
+    ids-requires-4
     slice-aggregate-put-pair
     put-pair-requires
     slice-aggregate-put-pair-2

@@ -6,8 +6,8 @@ use Rattle.sayclient.proofs.put_written.Tie as tie
 slice-aggregate-put-pair : tie.Need-slice-aggregate-put-pair
 slice-aggregate-put-pair c = search needs
 
-bit-requires : tie.Need-bit-requires
-bit-requires c κs = search needs
+one-requires : tie.Need-one-requires
+one-requires c κs = search needs
 
 put-pair-requires : tie.Need-put-pair-requires
 put-pair-requires c κs = search needs
@@ -29,7 +29,7 @@ put-written-spec =
     tie.close
     (tie.spec
     slice-aggregate-put-pair
-    bit-requires
+    one-requires
     put-pair-requires
     slice-aggregate-put-pair-2
     put-pair-requires-2

@@ -18,8 +18,8 @@ put-state-requires c κs = search needs
 slice-aggregate-put-pair-2 : tie.Need-slice-aggregate-put-pair-2
 slice-aggregate-put-pair-2 c = search needs
 
-bit-requires : tie.Need-bit-requires
-bit-requires c κs = search needs
+one-requires : tie.Need-one-requires
+one-requires c κs = search needs
 
 put-pair-requires-2 : tie.Need-put-pair-requires-2
 put-pair-requires-2 c κs = search needs
@@ -27,8 +27,8 @@ put-pair-requires-2 c κs = search needs
 slice-aggregate-put-pair-3 : tie.Need-slice-aggregate-put-pair-3
 slice-aggregate-put-pair-3 c = search needs
 
-bit-requires-2 : tie.Need-bit-requires-2
-bit-requires-2 c κs = search needs
+one-requires-2 : tie.Need-one-requires-2
+one-requires-2 c κs = search needs
 
 put-pair-requires-3 : tie.Need-put-pair-requires-3
 put-pair-requires-3 c κs = search needs
@@ -38,7 +38,7 @@ same-length c = search needs
 
 returns : tie.Need-returns
 unfolding frontText
-returns c = emits-parts _ _ (emits-then (emits-then (emits-then (emits-then refl refl (c .before .before .before .before .before .before .before .before .before .before .before .before .before .before .before .before .before .before .put-pair .ensures)) refl (c .before .before .before .before .before .before .before .before .before .before .before .before .before .before .put-state .ensures)) (ap (paired _) (c .before .before .before .before .before .before .before .before .before .bit .ensures)) (c .before .before .before .before .before .before .before .before .put-pair2 .ensures)) (ap (paired _) (c .before .before .before .bit2 .ensures)) (c .before .before .put-pair3 .ensures))
+returns c = emits-parts _ _ (emits-then (emits-then (emits-then (emits-then refl refl (c .before .before .before .before .before .before .before .before .before .before .before .before .before .before .before .before .before .before .put-pair .ensures)) refl (c .before .before .before .before .before .before .before .before .before .before .before .before .before .before .put-state .ensures)) (ap (paired _) (c .before .before .before .before .before .before .before .before .before .one .ensures)) (c .before .before .before .before .before .before .before .before .put-pair2 .ensures)) (ap (paired _) (c .before .before .before .one2 .ensures)) (c .before .before .put-pair3 .ensures))
 
 pub put-front-spec : {M : Type 1} → statement M
 put-front-spec =
@@ -48,10 +48,10 @@ put-front-spec =
     put-pair-requires
     put-state-requires
     slice-aggregate-put-pair-2
-    bit-requires
+    one-requires
     put-pair-requires-2
     slice-aggregate-put-pair-3
-    bit-requires-2
+    one-requires-2
     put-pair-requires-3
     same-length
     returns)

@@ -1,6 +1,6 @@
 use borrow.Author.Needs.{needs}
 use lib.ListN.{length}
-use Prim.Native.Nat.{_-_, _≤_}
+use Prim.Native.Nat.{_-_}
 use mathlib.Core.Path.{_≡_, refl}
 use Rattle.bench.proofs.deliver.tell_all.Statement.{statement}
 use Rattle.bench.proofs.deliver.tell_all.Tie as tie

@@ -3,8 +3,8 @@ use borrow.Author.Needs.{needs}
 use Rattle.nodestate.proofs.change.instructed.Statement.{statement}
 use Rattle.nodestate.proofs.change.instructed.Tie as tie
 
-took-over-requires : tie.Need-took-over-requires
-took-over-requires c κs = search needs
+taken-over-requires : tie.Need-taken-over-requires
+taken-over-requires c κs = search needs
 
 stored-version-requires : tie.Need-stored-version-requires
 stored-version-requires c κs = search needs
@@ -14,4 +14,4 @@ unfolding instructed
 returns c = cc
 
 pub instructed-spec : {M : Type 1} → statement M
-instructed-spec = tie.close (tie.spec took-over-requires stored-version-requires returns)
+instructed-spec = tie.close (tie.spec taken-over-requires stored-version-requires returns)

@@ -1,0 +1,15 @@
+use borrow.Author.Needs.{needs}
+use Rattle.changes.proofs.take_over.Statement.{statement}
+use Rattle.changes.proofs.take_over.Tie as tie
+
+choose-requires : tie.Need-choose-requires
+choose-requires c κs = search needs
+
+larger-requires : tie.Need-larger-requires
+larger-requires c κs = search needs
+
+returns : tie.Need-returns
+returns c = cc
+
+pub take-over-spec : {M : Type 1} → statement M
+take-over-spec = tie.close (tie.spec choose-requires larger-requires returns)

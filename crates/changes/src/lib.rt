@@ -1,0 +1,206 @@
+// The named changes of the sixteen sessions and of the numbers that follow them. Every function takes any number.
+ghost use mathlib.Core.Path.{_≡_};
+ghost use mathlib.Core.List.{map};
+ghost use Prim.Native.Nat.{max};
+ghost use Rattle.changes.specs.Changes.{more, unmarked, allUnmarked, entered, isFailing, arrived, left, failed, went, owes, removing, begun, freed, flaggedAt, memberEntered, memberDropped, takenOver};
+use state::Mode;
+use state::Roster;
+use state::Session;
+use state::State;
+
+// What made a session FAILED.
+pub enum Cause {
+    Link,
+    Write,
+}
+
+// The ways out of NORMAL.
+pub enum Way {
+    Failed(Cause),
+    Maintenance,
+    Removing(Mode, bool),
+}
+
+fn more(n: u64) -> u64
+    ensures { λ r. ⌜ r ≡ more n ⌝ }
+{
+    if n < refusals::VERSION_TOP { n + 1 } else { n }
+}
+
+fn unmark(ss: [Session; 16]) -> [Session; 16]
+    ensures { λ r. ⌜ r ≡ map unmarked ss ⌝ }
+{
+    let mut out = ss;
+    let mut i = 0;
+    while i < 16 {
+        let s = out[i];
+        out[i] = s.marked(false);
+        i += 1;
+    }
+    out
+}
+
+fn unmark_all(mut ro: Roster) -> Roster
+    ensures { λ r. ⌜ r ≡ allUnmarked ro ⌝ }
+{
+    let ss = ro.sessions;
+    let cleared = unmark(ss);
+    ro.sessions = cleared;
+    ro
+}
+
+// A session enters NORMAL.
+pub fn enter(ro: Roster, id: u64) -> Roster
+    ensures { λ r. ⌜ r ≡ entered ro id ⌝ }
+{
+    let s = roster::session(ro, id);
+    let normal = s.moved(State::Normal);
+    if ro.sync {
+        return roster::store(ro, id, normal);
+    }
+    let cleared = unmark_all(ro);
+    let mut next = roster::store(cleared, id, normal);
+    next.count = more(next.count);
+    next
+}
+
+fn is_failing(w: Way) -> bool
+    ensures { λ r. ⌜ r ≡ isFailing w ⌝ }
+{
+    match w {
+        Way::Failed(cause) => true,
+        Way::Maintenance => false,
+        Way::Removing(mode, owed) => false,
+    }
+}
+
+fn arrive(s: Session, w: Way, last: bool) -> Session
+    ensures { λ r. ⌜ r ≡ arrived s w last ⌝ }
+{
+    match w {
+        Way::Failed(cause) => s.moved(State::Failed).marked(last),
+        Way::Maintenance => s.moved(State::Reconnecting).flagged(true).marked(last),
+        Way::Removing(mode, owed) => s.moved(State::Removing(mode, owed)),
+    }
+}
+
+// A session leaves NORMAL: count, version and mark are settled here and nowhere else.
+pub fn leave(ro: Roster, id: u64, w: Way) -> Roster
+    ensures { λ r. ⌜ r ≡ left ro id w ⌝ }
+{
+    let s = roster::session(ro, id);
+    if ro.sync {
+        let there = arrive(s, w, false);
+        return roster::store(ro, id, there);
+    }
+    let count = numbers::minus(ro.count, 1);
+    let version = ro.version;
+    let there = arrive(s, w, count == 0);
+    let mut next = roster::store(ro, id, there);
+    next.count = count;
+    next.version = numbers::choose(is_failing(w), more(version), version);
+    next
+}
+
+// A session enters FAILED.
+pub fn fail(ro: Roster, id: u64, cause: Cause) -> Roster
+    ensures { λ r. ⌜ r ≡ failed ro id cause ⌝ }
+{
+    let s = roster::session(ro, id);
+    let st = s.state;
+    if state::is_normal(st) {
+        return leave(ro, id, Way::Failed(cause));
+    }
+    let there = s.moved(State::Failed);
+    roster::store(ro, id, there)
+}
+
+// A session that is not NORMAL goes to another state.
+pub fn go(ro: Roster, id: u64, to: State) -> Roster
+    ensures { λ r. ⌜ r ≡ went ro id to ⌝ }
+{
+    let s = roster::session(ro, id);
+    let there = s.moved(to);
+    roster::store(ro, id, there)
+}
+
+fn is_owing(s: State) -> bool
+    ensures { λ r. ⌜ r ≡ owes s ⌝ }
+{
+    match s {
+        State::Free => true,
+        State::Created => true,
+        State::Normal => true,
+        State::Failed => false,
+        State::Reconnecting => true,
+        State::Removing(m, owed) => owed,
+    }
+}
+
+// A session enters REMOVING.
+pub fn remove(ro: Roster, id: u64, mode: Mode) -> Roster
+    ensures { λ r. ⌜ r ≡ removing ro id mode ⌝ }
+{
+    let s = roster::session(ro, id);
+    let st = s.state;
+    if state::is_normal(st) {
+        return leave(ro, id, Way::Removing(mode, true));
+    }
+    let owed = is_owing(st);
+    go(ro, id, State::Removing(mode, owed))
+}
+
+// A new session begins.
+pub fn begin(ro: Roster, id: u64, st: State) -> Roster
+    ensures { λ r. ⌜ r ≡ begun ro id st ⌝ }
+{
+    let s = Session::new(st);
+    roster::store(ro, id, s)
+}
+
+// The session is freed.
+pub fn free(ro: Roster, id: u64) -> Roster
+    ensures { λ r. ⌜ r ≡ freed ro id ⌝ }
+{
+    begin(ro, id, State::Free)
+}
+
+// The maintenance flag of a session is put on or off.
+pub fn flag(ro: Roster, id: u64, on: bool) -> Roster
+    ensures { λ r. ⌜ r ≡ flaggedAt ro id on ⌝ }
+{
+    let s = roster::session(ro, id);
+    let there = s.flagged(on);
+    roster::store(ro, id, there)
+}
+
+// A member is entered.
+pub fn enter_member(mut ro: Roster, id: u64) -> Roster
+    ensures { λ r. ⌜ r ≡ memberEntered ro id ⌝ }
+{
+    ro.members = sets::with(ro.members, id);
+    ro
+}
+
+// A member is dropped.
+pub fn drop_member(mut ro: Roster, id: u64) -> Roster
+    ensures { λ r. ⌜ r ≡ memberDropped ro id ⌝ }
+{
+    ro.members = sets::without(ro.members, id);
+    ro
+}
+
+// A node's member set is taken over where there is none, and its version where it is larger.
+pub fn take_over(mut ro: Roster, members: u64, version: u64) -> Roster
+    ensures { λ r. ⌜ r ≡ takenOver ro members version ⌝ }
+{
+    ro.members = numbers::choose(ro.members == 0, members, ro.members);
+    ro.version = larger(ro.version, version);
+    ro
+}
+
+fn larger(a: u64, b: u64) -> u64
+    ensures { λ r. ⌜ r ≡ max a b ⌝ }
+{
+    if a < b { b } else { a }
+}

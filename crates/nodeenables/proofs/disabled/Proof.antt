@@ -1,0 +1,17 @@
+use borrow.Author.Needs.{needs}
+use Rattle.nodeenables.specs.Enable.{disabled}
+use Rattle.nodeenables.proofs.disabled.Statement.{statement}
+use Rattle.nodeenables.proofs.disabled.Tie as tie
+
+moved-requires : tie.Need-moved-requires
+moved-requires c κs = search needs
+
+ended-transfer-requires : tie.Need-ended-transfer-requires
+ended-transfer-requires c κs = search needs
+
+returns : tie.Need-returns
+unfolding disabled
+returns c = cc
+
+pub disabled-spec : {M : Type 1} → statement M
+disabled-spec = tie.close (tie.spec moved-requires ended-transfer-requires returns)

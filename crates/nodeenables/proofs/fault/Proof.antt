@@ -1,0 +1,26 @@
+use borrow.Author.Needs.{needs}
+use Rattle.nodeenables.specs.Enable.{fault}
+use Rattle.nodeenables.proofs.fault.Statement.{statement}
+use Rattle.nodeenables.proofs.fault.Tie as tie
+
+stop-refusal-requires : tie.Need-stop-refusal-requires
+stop-refusal-requires c κs = search needs
+
+moved-requires : tie.Need-moved-requires
+moved-requires c κs = search needs
+
+does-requires : tie.Need-does-requires
+does-requires c κs = search needs
+
+turn-requires : tie.Need-turn-requires
+turn-requires c κs = search needs
+
+settled-requires : tie.Need-settled-requires
+settled-requires c κs = search needs
+
+returns : tie.Need-returns
+unfolding fault
+returns c = cc
+
+pub fault-spec : {M : Type 1} → statement M
+fault-spec = tie.close (tie.spec stop-refusal-requires moved-requires does-requires turn-requires settled-requires returns)

@@ -1,0 +1,105 @@
+// Enable 1, enable 0, fault.
+ghost use mathlib.Core.Path.{_≡_};
+ghost use Rattle.nodeenables.specs.Enable.{enable1Refusal, enabled, enable1, stoppable, stopRefusal, disabled, enable0, fault};
+use nodestate::Answer;
+use nodestate::Node;
+use nodestate::OnMap;
+use nodestate::OnStaging;
+use nodestate::State;
+use nodestate::Turn;
+use nodestate::change;
+use nodestate::state_rules;
+use nodestate::states;
+use nodestate::turns;
+use refusals::first;
+
+fn enable1_refusal(n: Node, sound: bool, version: u64, set: u64) -> u64
+    ensures { λ r. ⌜ r ≡ enable1Refusal n sound version set ⌝ }
+{
+    let ok = state_rules::valid(n);
+    let serves = states::is_serving(n);
+    let own = sets::has(set, n.id);
+    let ids = (15 < n.id) | (65535 < set);
+    let high = refusals::VERSION_LIMIT < version;
+    first(
+        !ok,
+        1,
+        first(
+            !sound,
+            2,
+            first(
+                ids,
+                3,
+                first(!serves, 9, first(!own, 10, first(high, 14, 0))),
+            ),
+        ),
+    )
+}
+
+// Serving to NORMAL, with the version and the member set it is told. Staging is dropped.
+pub fn enable1(n: Node, sound: bool, version: u64, set: u64) -> Turn
+    ensures { λ r. ⌜ r ≡ enable1 n sound version set ⌝ }
+{
+    let why = enable1_refusal(n, sound, version, set);
+    let next = enabled(n, version, set);
+    let effect = turns::does(OnMap::KeepRows(set), OnStaging::Zero);
+    let done = turns::turn(Answer::Done, next, effect);
+    turns::settled(why, n, done)
+}
+
+fn enabled(n: Node, version: u64, set: u64) -> Node
+    ensures { λ r. ⌜ r ≡ enabled n version set ⌝ }
+{
+    let here = change::moved(n, State::Normal);
+    let ended = change::ended_transfer(here);
+    change::instructed(ended, version, set)
+}
+
+// What refuses enable 0 and fault.
+fn stop_refusal(n: Node, sound: bool) -> u64
+    ensures { λ r. ⌜ r ≡ stopRefusal n sound ⌝ }
+{
+    let ok = state_rules::valid(n);
+    let s = n.state;
+    let may = stoppable(s);
+    first(
+        !ok,
+        1,
+        first(!sound, 2, first(15 < n.id, 3, first(!may, 9, 0))),
+    )
+}
+
+fn stoppable(s: State) -> bool
+    ensures { λ r. ⌜ r ≡ stoppable s ⌝ }
+{
+    states::is_normal(s) | states::is_no_io(s)
+}
+
+// NORMAL, NO_IO to NO_IO. Staging is dropped.
+pub fn enable0(n: Node, sound: bool) -> Turn
+    ensures { λ r. ⌜ r ≡ enable0 n sound ⌝ }
+{
+    let why = stop_refusal(n, sound);
+    let next = disabled(n);
+    let effect = turns::does(OnMap::Keep, OnStaging::Zero);
+    let done = turns::turn(Answer::Done, next, effect);
+    turns::settled(why, n, done)
+}
+
+fn disabled(n: Node) -> Node
+    ensures { λ r. ⌜ r ≡ disabled n ⌝ }
+{
+    let here = change::moved(n, State::NoIo);
+    change::ended_transfer(here)
+}
+
+// NORMAL, NO_IO to NO_IO. A transfer survives it.
+pub fn fault(n: Node, sound: bool) -> Turn
+    ensures { λ r. ⌜ r ≡ fault n sound ⌝ }
+{
+    let why = stop_refusal(n, sound);
+    let next = change::moved(n, State::NoIo);
+    let effect = turns::does(OnMap::Keep, OnStaging::Keep);
+    let done = turns::turn(Answer::Done, next, effect);
+    turns::settled(why, n, done)
+}

@@ -1,0 +1,23 @@
+use borrow.Author.Needs.{needs}
+use Rattle.nodehand.specs.Hand.{committed}
+use Rattle.nodehand.proofs.committed.Statement.{statement}
+use Rattle.nodehand.proofs.committed.Tie as tie
+
+done-to-requires : tie.Need-done-to-requires
+done-to-requires c κs = search needs
+
+moved-requires : tie.Need-moved-requires
+moved-requires c κs = search needs
+
+ended-transfer-requires : tie.Need-ended-transfer-requires
+ended-transfer-requires c κs = search needs
+
+instructed-requires : tie.Need-instructed-requires
+instructed-requires c κs = search needs
+
+returns : tie.Need-returns
+unfolding committed
+returns c = cc
+
+pub committed-spec : {M : Type 1} → statement M
+committed-spec = tie.close (tie.spec done-to-requires moved-requires ended-transfer-requires instructed-requires returns)

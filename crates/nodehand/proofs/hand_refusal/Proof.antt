@@ -1,0 +1,29 @@
+use borrow.Author.Needs.{needs}
+use Rattle.nodehand.specs.Hand.{handRefusal}
+use Rattle.nodehand.proofs.hand_refusal.Statement.{statement}
+use Rattle.nodehand.proofs.hand_refusal.Tie as tie
+
+valid-requires : tie.Need-valid-requires
+valid-requires c κs = search needs
+
+in-hand-requires : tie.Need-in-hand-requires
+in-hand-requires c κs = search needs
+
+first-requires : tie.Need-first-requires
+first-requires c κs = search needs
+
+first-requires-2 : tie.Need-first-requires-2
+first-requires-2 c κs = search needs
+
+first-requires-3 : tie.Need-first-requires-3
+first-requires-3 c κs = search needs
+
+first-requires-4 : tie.Need-first-requires-4
+first-requires-4 c κs = search needs
+
+returns : tie.Need-returns
+unfolding handRefusal
+returns c = cc
+
+pub hand-refusal-spec : {M : Type 1} → statement M
+hand-refusal-spec = tie.close (tie.spec valid-requires in-hand-requires first-requires first-requires-2 first-requires-3 first-requires-4 returns)

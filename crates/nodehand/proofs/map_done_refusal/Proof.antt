@@ -1,0 +1,38 @@
+use borrow.Author.Needs.{needs}
+use Rattle.nodehand.specs.Hand.{mapDoneRefusal}
+use Rattle.nodehand.proofs.map_done_refusal.Statement.{statement}
+use Rattle.nodehand.proofs.map_done_refusal.Tie as tie
+
+valid-requires : tie.Need-valid-requires
+valid-requires c κs = search needs
+
+is-taken-requires : tie.Need-is-taken-requires
+is-taken-requires c κs = search needs
+
+has-requires : tie.Need-has-requires
+has-requires c κs = search needs
+
+first-requires : tie.Need-first-requires
+first-requires c κs = search needs
+
+first-requires-2 : tie.Need-first-requires-2
+first-requires-2 c κs = search needs
+
+first-requires-3 : tie.Need-first-requires-3
+first-requires-3 c κs = search needs
+
+first-requires-4 : tie.Need-first-requires-4
+first-requires-4 c κs = search needs
+
+first-requires-5 : tie.Need-first-requires-5
+first-requires-5 c κs = search needs
+
+first-requires-6 : tie.Need-first-requires-6
+first-requires-6 c κs = search needs
+
+returns : tie.Need-returns
+unfolding mapDoneRefusal
+returns c = cc
+
+pub map-done-refusal-spec : {M : Type 1} → statement M
+map-done-refusal-spec = tie.close (tie.spec valid-requires is-taken-requires has-requires first-requires first-requires-2 first-requires-3 first-requires-4 first-requires-5 first-requires-6 returns)

@@ -1,0 +1,66 @@
+-- The transfer in hand: taking a map, MAP_DONE, MAP_DISABLE; with nothing in hand they give 15, never 9. `sound` says that the lent maps are, the one
+-- that is taken with them.
+use mathlib.Core.Bool.{Bool, true, false, not, _||_}
+use mathlib.Core.List.{List, [], _∷_}
+use Prim.Native.Nat.{ℕ}
+use lib.Dec.{ltb}
+use Rattle.refusals.specs.Limits.{versionLimit}
+use Rattle.refusals.specs.Refusals.{Test, test, refusal}
+use Rattle.sets.specs.Sets.{has}
+use Rattle.nodestate.specs.declared.State.{State}
+use Rattle.nodestate.specs.declared.Transfer.{Transfer}
+use Rattle.nodestate.specs.declared.OnMap.{OnMap}
+use Rattle.nodestate.specs.declared.OnStaging.{OnStaging}
+use Rattle.nodestate.specs.declared.Answer.{Answer}
+use Rattle.nodestate.specs.declared.Node.{Node}
+use Rattle.nodestate.specs.declared.Turn.{Turn}
+use Rattle.nodestate.specs.States.{inHand, isTaken}
+use Rattle.nodestate.specs.Change.{moved, transferred, endedTransfer, instructed}
+use Rattle.nodestate.specs.StateRules.{valid}
+use Rattle.nodestate.specs.Turns.{does, turn, settled}
+
+abbrev pub handTests : Node → Bool → List Test
+handTests n sound =
+    test 1 (not (valid n)) ∷ test 2 (not sound) ∷ test 3 (ltb 15 (n .id)) ∷ test 15 (not (inHand (n .transfer))) ∷ []
+
+unfoldable pub handRefusal : Node → Bool → ℕ
+handRefusal n sound = refusal (handTests n sound)
+
+-- ---- taking a map ORs it in
+
+unfoldable pub taken : Node → Node
+taken n = transferred n Transfer.Taken
+
+unfoldable pub take : Node → Bool → Turn
+take n sound = settled (handRefusal n sound) n (turn Answer.Done (taken n) (does OnMap.Keep OnStaging.Or))
+
+-- ---- MAP_DONE (enabling or not, version, set holding itself): commits, NORMAL if enabling; version and set stored, rows outside the set zeroed
+
+abbrev pub mapDoneTests : Node → Bool → ℕ → ℕ → List Test
+mapDoneTests n sound version set =
+    test 1 (not (valid n))
+    ∷ test 2 (not sound)
+    ∷ test 3 (ltb 15 (n .id) || ltb 65535 set)
+    ∷ test 10 (not (has set (n .id)))
+    ∷ test 14 (ltb versionLimit version)
+    ∷ test 15 (not (isTaken (n .transfer)))
+    ∷ []
+
+unfoldable pub mapDoneRefusal : Node → Bool → ℕ → ℕ → ℕ
+mapDoneRefusal n sound version set = refusal (mapDoneTests n sound version set)
+
+abbrev pub doneTo : Bool → State → State
+doneTo true s = State.Normal
+doneTo false s = s
+
+unfoldable pub committed : Node → Bool → ℕ → ℕ → Node
+committed n enabling version set = instructed (endedTransfer (moved n (doneTo enabling (n .state)))) version set
+
+unfoldable pub mapDone : Node → Bool → Bool → ℕ → ℕ → Turn
+mapDone n sound enabling version set =
+    settled (mapDoneRefusal n sound version set) n (turn Answer.Done (committed n enabling version set) (does (OnMap.Commit set) OnStaging.Zero))
+
+-- ---- MAP_DISABLE drops staging
+
+unfoldable pub mapDisable : Node → Bool → Turn
+mapDisable n sound = settled (handRefusal n sound) n (turn Answer.Done (endedTransfer n) (does OnMap.Keep OnStaging.Zero))

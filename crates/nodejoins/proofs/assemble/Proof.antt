@@ -1,0 +1,34 @@
+use Rattle.nodejoins.specs.Join.{assemble}
+use borrow.Author.Needs.{needs}
+use Rattle.nodejoins.proofs.assemble.Statement.{statement}
+use Rattle.nodejoins.proofs.assemble.Tie as tie
+
+assemble-refusal-requires : tie.Need-assemble-refusal-requires
+assemble-refusal-requires c κs = search needs
+
+moved-requires : tie.Need-moved-requires
+moved-requires c κs = search needs
+
+does-requires : tie.Need-does-requires
+does-requires c κs = search needs
+
+turn-requires : tie.Need-turn-requires
+turn-requires c κs = search needs
+
+settled-requires : tie.Need-settled-requires
+settled-requires c κs = search needs
+
+returns : tie.Need-returns
+unfolding assemble
+returns c = cc
+
+pub assemble-spec : {M : Type 1} → statement M
+assemble-spec =
+    tie.close
+    (tie.spec
+    assemble-refusal-requires
+    moved-requires
+    does-requires
+    turn-requires
+    settled-requires
+    returns)

@@ -1,0 +1,24 @@
+use Rattle.nodejoins.specs.Join.{joinedCreate}
+use borrow.Author.Needs.{needs}
+use Rattle.nodejoins.proofs.joined_create.Statement.{statement}
+use Rattle.nodejoins.proofs.joined_create.Tie as tie
+
+with-requires : tie.Need-with-requires
+with-requires c κs = search needs
+
+moved-requires : tie.Need-moved-requires
+moved-requires c κs = search needs
+
+equipped-requires : tie.Need-equipped-requires
+equipped-requires c κs = search needs
+
+taken-over-requires : tie.Need-taken-over-requires
+taken-over-requires c κs = search needs
+
+returns : tie.Need-returns
+unfolding joinedCreate
+returns c = cc
+
+pub joined-create-spec : {M : Type 1} → statement M
+joined-create-spec =
+    tie.close (tie.spec with-requires moved-requires equipped-requires taken-over-requires returns)

@@ -1,0 +1,38 @@
+use Rattle.nodejoins.specs.Join.{leave}
+use borrow.Author.Needs.{needs}
+use Rattle.nodejoins.proofs.leave.Statement.{statement}
+use Rattle.nodejoins.proofs.leave.Tie as tie
+
+leave-refusal-requires : tie.Need-leave-refusal-requires
+leave-refusal-requires c κs = search needs
+
+left-requires : tie.Need-left-requires
+left-requires c κs = search needs
+
+leaves-requires : tie.Need-leaves-requires
+leaves-requires c κs = search needs
+
+does-requires : tie.Need-does-requires
+does-requires c κs = search needs
+
+turn-requires : tie.Need-turn-requires
+turn-requires c κs = search needs
+
+settled-requires : tie.Need-settled-requires
+settled-requires c κs = search needs
+
+returns : tie.Need-returns
+unfolding leave
+returns c = cc
+
+pub leave-spec : {M : Type 1} → statement M
+leave-spec =
+    tie.close
+    (tie.spec
+    leave-refusal-requires
+    left-requires
+    leaves-requires
+    does-requires
+    turn-requires
+    settled-requires
+    returns)

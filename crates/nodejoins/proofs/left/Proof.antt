@@ -1,0 +1,20 @@
+use Rattle.nodejoins.specs.Join.{left}
+use borrow.Author.Needs.{needs}
+use Rattle.nodejoins.proofs.left.Statement.{statement}
+use Rattle.nodejoins.proofs.left.Tie as tie
+
+left-to-requires : tie.Need-left-to-requires
+left-to-requires c κs = search needs
+
+moved-requires : tie.Need-moved-requires
+moved-requires c κs = search needs
+
+ended-transfer-requires : tie.Need-ended-transfer-requires
+ended-transfer-requires c κs = search needs
+
+returns : tie.Need-returns
+unfolding left
+returns c = cc
+
+pub left-spec : {M : Type 1} → statement M
+left-spec = tie.close (tie.spec left-to-requires moved-requires ended-transfer-requires returns)

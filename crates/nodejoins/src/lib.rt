@@ -1,0 +1,152 @@
+// Join create, assemble or rejoin, leave.
+ghost use mathlib.Core.Path.{_≡_};
+ghost use Rattle.nodejoins.specs.Join.{
+  ownRow,
+  joinCreateRefusal,
+  joinedCreate,
+  joinCreate,
+  assembles,
+  assembleRefusal,
+  assemble,
+  leftTo,
+  leaveRefusal,
+  left,
+  leaves,
+  leave,
+};
+use nodestate::Answer;
+use nodestate::Node;
+use nodestate::OnMap;
+use nodestate::OnStaging;
+use nodestate::State;
+use nodestate::Turn;
+use nodestate::change;
+use nodestate::state_rules;
+use nodestate::states;
+use nodestate::turns;
+use refusals::first;
+
+// The node's own row alone.
+fn own_row(n: Node) -> OnMap
+    ensures { λ r. ⌜ r ≡ ownRow n ⌝ }
+{
+    let own = sets::with(0, n.id);
+    OnMap::KeepRows(own)
+}
+
+fn join_create_refusal(n: Node, sound: bool, set: u64) -> u64
+    ensures { λ r. ⌜ r ≡ joinCreateRefusal n sound set ⌝ }
+{
+    let ok = state_rules::valid(n);
+    let s = n.state;
+    let marked = states::is_registered(s) & n.create;
+    let ids = (15 < n.id) | (65535 < set);
+    first(
+        !ok,
+        1,
+        first(!sound, 2, first(ids, 3, first(!marked, 9, 0))),
+    )
+}
+
+// REGISTERED marked to CREATED, with the members as given and itself.
+pub fn join_create(n: Node, sound: bool, set: u64) -> Turn
+    ensures { λ r. ⌜ r ≡ joinCreate n sound set ⌝ }
+{
+    let why = join_create_refusal(n, sound, set);
+    let next = joined_create(n, set);
+    let map = own_row(n);
+    let effect = turns::does(map, OnStaging::Keep);
+    let done = turns::turn(Answer::Done, next, effect);
+    turns::settled(why, n, done)
+}
+
+fn joined_create(n: Node, set: u64) -> Node
+    ensures { λ r. ⌜ r ≡ joinedCreate n set ⌝ }
+{
+    let all = sets::with(set, n.id);
+    let here = change::moved(n, State::Created);
+    let plain = change::equipped(here, n.store, false);
+    change::taken_over(plain, all)
+}
+
+fn assemble_refusal(n: Node, sound: bool) -> u64
+    ensures { λ r. ⌜ r ≡ assembleRefusal n sound ⌝ }
+{
+    let ok = state_rules::valid(n);
+    let s = n.state;
+    let may = assembles(s, n.store, n.create);
+    first(
+        !ok,
+        1,
+        first(!sound, 2, first(15 < n.id, 3, first(!may, 9, 0))),
+    )
+}
+
+// Assemble or rejoin: REGISTERED unmarked, NORMAL, NO_IO with store, to NO_IO. A transfer survives it.
+pub fn assemble(n: Node, sound: bool) -> Turn
+    ensures { λ r. ⌜ r ≡ assemble n sound ⌝ }
+{
+    let why = assemble_refusal(n, sound);
+    let next = change::moved(n, State::NoIo);
+    let effect = turns::does(OnMap::Keep, OnStaging::Keep);
+    let done = turns::turn(Answer::Done, next, effect);
+    turns::settled(why, n, done)
+}
+
+fn assembles(s: State, store: bool, create: bool) -> bool
+    ensures { λ r. ⌜ r ≡ assembles s store create ⌝ }
+{
+    (states::is_registered(s) & !create) | (states::is_normal(s) | (states::is_no_io(s) & store))
+}
+
+fn leave_refusal(n: Node, sound: bool) -> u64
+    ensures { λ r. ⌜ r ≡ leaveRefusal n sound ⌝ }
+{
+    let ok = state_rules::valid(n);
+    let s = n.state;
+    let joined = states::is_joined(s);
+    first(
+        !ok,
+        1,
+        first(!sound, 2, first(15 < n.id, 3, first(!joined, 9, 0))),
+    )
+}
+
+// CREATED, NORMAL, NO_IO to REGISTERED, or to EMPTY without store. Delete keeps its own row alone.
+pub fn leave(n: Node, sound: bool, delete: bool) -> Turn
+    ensures { λ r. ⌜ r ≡ leave n sound delete ⌝ }
+{
+    let why = leave_refusal(n, sound);
+    let next = left(n);
+    let map = leaves(delete, n);
+    let effect = turns::does(map, OnStaging::Zero);
+    let done = turns::turn(Answer::Done, next, effect);
+    turns::settled(why, n, done)
+}
+
+fn left(n: Node) -> Node
+    ensures { λ r. ⌜ r ≡ left n ⌝ }
+{
+    let to = left_to(n.store);
+    let away = change::moved(n, to);
+    change::ended_transfer(away)
+}
+
+fn left_to(store: bool) -> State
+    ensures { λ r. ⌜ r ≡ leftTo store ⌝ }
+{
+    if store {
+        State::Registered
+    } else {
+        State::Empty
+    }
+}
+
+fn leaves(delete: bool, n: Node) -> OnMap
+    ensures { λ r. ⌜ r ≡ leaves delete n ⌝ }
+{
+    if delete {
+        return own_row(n);
+    }
+    OnMap::Keep
+}

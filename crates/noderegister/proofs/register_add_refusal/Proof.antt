@@ -1,0 +1,50 @@
+use Rattle.noderegister.specs.Register.{registerAddRefusal}
+use borrow.Author.Needs.{needs}
+use Rattle.noderegister.proofs.register_add_refusal.Statement.{statement}
+use Rattle.noderegister.proofs.register_add_refusal.Tie as tie
+
+valid-requires : tie.Need-valid-requires
+valid-requires c κs = search needs
+
+takes-store-requires : tie.Need-takes-store-requires
+takes-store-requires c κs = search needs
+
+has-requires : tie.Need-has-requires
+has-requires c κs = search needs
+
+first-requires : tie.Need-first-requires
+first-requires c κs = search needs
+
+first-requires-2 : tie.Need-first-requires-2
+first-requires-2 c κs = search needs
+
+first-requires-3 : tie.Need-first-requires-3
+first-requires-3 c κs = search needs
+
+first-requires-4 : tie.Need-first-requires-4
+first-requires-4 c κs = search needs
+
+first-requires-5 : tie.Need-first-requires-5
+first-requires-5 c κs = search needs
+
+first-requires-6 : tie.Need-first-requires-6
+first-requires-6 c κs = search needs
+
+returns : tie.Need-returns
+unfolding registerAddRefusal
+returns c = cc
+
+pub register-add-refusal-spec : {M : Type 1} → statement M
+register-add-refusal-spec =
+    tie.close
+    (tie.spec
+    valid-requires
+    takes-store-requires
+    has-requires
+    first-requires
+    first-requires-2
+    first-requires-3
+    first-requires-4
+    first-requires-5
+    first-requires-6
+    returns)

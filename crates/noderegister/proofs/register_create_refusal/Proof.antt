@@ -1,0 +1,38 @@
+use Rattle.noderegister.specs.Register.{registerCreateRefusal}
+use borrow.Author.Needs.{needs}
+use Rattle.noderegister.proofs.register_create_refusal.Statement.{statement}
+use Rattle.noderegister.proofs.register_create_refusal.Tie as tie
+
+valid-requires : tie.Need-valid-requires
+valid-requires c κs = search needs
+
+is-empty-requires : tie.Need-is-empty-requires
+is-empty-requires c κs = search needs
+
+first-requires : tie.Need-first-requires
+first-requires c κs = search needs
+
+first-requires-2 : tie.Need-first-requires-2
+first-requires-2 c κs = search needs
+
+first-requires-3 : tie.Need-first-requires-3
+first-requires-3 c κs = search needs
+
+first-requires-4 : tie.Need-first-requires-4
+first-requires-4 c κs = search needs
+
+returns : tie.Need-returns
+unfolding registerCreateRefusal
+returns c = cc
+
+pub register-create-refusal-spec : {M : Type 1} → statement M
+register-create-refusal-spec =
+    tie.close
+    (tie.spec
+    valid-requires
+    is-empty-requires
+    first-requires
+    first-requires-2
+    first-requires-3
+    first-requires-4
+    returns)

@@ -1,0 +1,25 @@
+use Rattle.noderegister.specs.Register.{registeredAdd}
+use borrow.Author.Needs.{needs}
+use Rattle.noderegister.proofs.registered_add.Statement.{statement}
+use Rattle.noderegister.proofs.registered_add.Tie as tie
+
+added-to-requires : tie.Need-added-to-requires
+added-to-requires c κs = search needs
+
+moved-requires : tie.Need-moved-requires
+moved-requires c κs = search needs
+
+equipped-requires : tie.Need-equipped-requires
+equipped-requires c κs = search needs
+
+instructed-requires : tie.Need-instructed-requires
+instructed-requires c κs = search needs
+
+returns : tie.Need-returns
+unfolding registeredAdd
+returns c = cc
+
+pub registered-add-spec : {M : Type 1} → statement M
+registered-add-spec =
+    tie.close
+    (tie.spec added-to-requires moved-requires equipped-requires instructed-requires returns)

@@ -1,0 +1,34 @@
+use Rattle.noderegister.specs.Register.{registeredCreate}
+use borrow.Author.Needs.{needs}
+use Rattle.noderegister.proofs.registered_create.Statement.{statement}
+use Rattle.noderegister.proofs.registered_create.Tie as tie
+
+with-requires : tie.Need-with-requires
+with-requires c κs = search needs
+
+moved-requires : tie.Need-moved-requires
+moved-requires c κs = search needs
+
+equipped-requires : tie.Need-equipped-requires
+equipped-requires c κs = search needs
+
+forgotten-requires : tie.Need-forgotten-requires
+forgotten-requires c κs = search needs
+
+instructed-requires : tie.Need-instructed-requires
+instructed-requires c κs = search needs
+
+returns : tie.Need-returns
+unfolding registeredCreate
+returns c = cc
+
+pub registered-create-spec : {M : Type 1} → statement M
+registered-create-spec =
+    tie.close
+    (tie.spec
+    with-requires
+    moved-requires
+    equipped-requires
+    forgotten-requires
+    instructed-requires
+    returns)

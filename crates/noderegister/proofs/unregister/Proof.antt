@@ -1,0 +1,38 @@
+use Rattle.noderegister.specs.Register.{unregister}
+use borrow.Author.Needs.{needs}
+use Rattle.noderegister.proofs.unregister.Statement.{statement}
+use Rattle.noderegister.proofs.unregister.Tie as tie
+
+unregister-refusal-requires : tie.Need-unregister-refusal-requires
+unregister-refusal-requires c κs = search needs
+
+unregistered-requires : tie.Need-unregistered-requires
+unregistered-requires c κs = search needs
+
+wipes-requires : tie.Need-wipes-requires
+wipes-requires c κs = search needs
+
+does-requires : tie.Need-does-requires
+does-requires c κs = search needs
+
+turn-requires : tie.Need-turn-requires
+turn-requires c κs = search needs
+
+settled-requires : tie.Need-settled-requires
+settled-requires c κs = search needs
+
+returns : tie.Need-returns
+unfolding unregister
+returns c = cc
+
+pub unregister-spec : {M : Type 1} → statement M
+unregister-spec =
+    tie.close
+    (tie.spec
+    unregister-refusal-requires
+    unregistered-requires
+    wipes-requires
+    does-requires
+    turn-requires
+    settled-requires
+    returns)

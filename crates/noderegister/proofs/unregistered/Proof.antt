@@ -1,0 +1,34 @@
+use Rattle.noderegister.specs.Register.{unregistered}
+use borrow.Author.Needs.{needs}
+use Rattle.noderegister.proofs.unregistered.Statement.{statement}
+use Rattle.noderegister.proofs.unregistered.Tie as tie
+
+unregistered-to-requires : tie.Need-unregistered-to-requires
+unregistered-to-requires c κs = search needs
+
+moved-requires : tie.Need-moved-requires
+moved-requires c κs = search needs
+
+equipped-requires : tie.Need-equipped-requires
+equipped-requires c κs = search needs
+
+ended-transfer-requires : tie.Need-ended-transfer-requires
+ended-transfer-requires c κs = search needs
+
+wiped-requires : tie.Need-wiped-requires
+wiped-requires c κs = search needs
+
+returns : tie.Need-returns
+unfolding unregistered
+returns c = cc
+
+pub unregistered-spec : {M : Type 1} → statement M
+unregistered-spec =
+    tie.close
+    (tie.spec
+    unregistered-to-requires
+    moved-requires
+    equipped-requires
+    ended-transfer-requires
+    wiped-requires
+    returns)

@@ -1,0 +1,109 @@
+-- A node's store comes and goes: register create, register add, unregister. `sound` says that the lent maps are.
+use mathlib.Core.Bool.{Bool, true, false, not, _&&_, _||_}
+use mathlib.Core.List.{List, [], _∷_}
+use Prim.Native.Nat.{ℕ}
+use lib.Dec.{ltb}
+use Rattle.laws.specs.Words.{pick}
+use Rattle.refusals.specs.Limits.{versionLimit}
+use Rattle.refusals.specs.Refusals.{Test, test, refusal}
+use Rattle.sets.specs.Sets.{has, with}
+use Rattle.nodestate.specs.declared.State.{State}
+use Rattle.nodestate.specs.declared.OnMap.{OnMap}
+use Rattle.nodestate.specs.declared.OnStaging.{OnStaging}
+use Rattle.nodestate.specs.declared.Answer.{Answer}
+use Rattle.nodestate.specs.declared.Node.{Node}
+use Rattle.nodestate.specs.declared.Turn.{Turn}
+use Rattle.nodestate.specs.States.{isEmpty, isRegistered, isNoIo}
+use Rattle.nodestate.specs.Change.{moved, equipped, forgotten, endedTransfer, instructed}
+use Rattle.nodestate.specs.StateRules.{valid}
+use Rattle.nodestate.specs.Turns.{does, turn, settled}
+
+-- ---- register create: EMPTY to REGISTERED, marked create; map zeroed, kept chunks gone, membership itself, version 0
+
+abbrev pub registerCreateTests : Node → Bool → List Test
+registerCreateTests n sound =
+    test 1 (not (valid n)) ∷ test 2 (not sound) ∷ test 3 (ltb 15 (n .id)) ∷ test 9 (not (isEmpty (n .state))) ∷ []
+
+unfoldable pub registerCreateRefusal : Node → Bool → ℕ
+registerCreateRefusal n sound = refusal (registerCreateTests n sound)
+
+unfoldable pub registeredCreate : Node → Node
+registeredCreate n = instructed (forgotten (equipped (moved n State.Registered) true true)) 0 (with 0 (n .id))
+
+unfoldable pub registerCreate : Node → Bool → Turn
+registerCreate n sound = settled (registerCreateRefusal n sound) n (turn Answer.Done (registeredCreate n) (does OnMap.Zero OnStaging.Keep))
+
+-- ---- register add (set, version): EMPTY to REGISTERED unmarked, map kept; NO_IO without store gets its store
+
+-- where a store can be added
+abbrev pub takesStore : State → Bool → Bool
+takesStore s store = isEmpty s || (isNoIo s && not store)
+
+-- EMPTY becomes REGISTERED, NO_IO stays
+abbrev pub addedTo : State → State
+addedTo State.Empty = State.Registered
+addedTo State.Registered = State.Registered
+addedTo State.Created = State.Created
+addedTo State.Normal = State.Normal
+addedTo State.NoIo = State.NoIo
+
+abbrev pub registerAddTests : Node → Bool → ℕ → ℕ → List Test
+registerAddTests n sound set version =
+    test 1 (not (valid n))
+    ∷ test 2 (not sound)
+    ∷ test 3 (ltb 15 (n .id) || ltb 65535 set)
+    ∷ test 9 (not (takesStore (n .state) (n .store)))
+    ∷ test 10 (not (has set (n .id)))
+    ∷ test 14 (ltb versionLimit version)
+    ∷ []
+
+unfoldable pub registerAddRefusal : Node → Bool → ℕ → ℕ → ℕ
+registerAddRefusal n sound set version = refusal (registerAddTests n sound set version)
+
+unfoldable pub registeredAdd : Node → ℕ → ℕ → Node
+registeredAdd n set version = instructed (equipped (moved n (addedTo (n .state))) true (n .create)) version set
+
+unfoldable pub registerAdd : Node → Bool → ℕ → ℕ → Turn
+registerAdd n sound set version =
+    settled (registerAddRefusal n sound set version) n (turn Answer.Done (registeredAdd n set version) (does OnMap.Keep OnStaging.Keep))
+
+-- ---- unregister: REGISTERED to EMPTY, mark gone (delete zeroes map, members, version); NO_IO with store stays, without it; staging zeroed
+
+-- where a store can be given up: delete not in NO_IO
+abbrev pub givesStore : State → Bool → Bool → Bool
+givesStore s store delete = isRegistered s || (isNoIo s && (store && not delete))
+
+-- REGISTERED becomes EMPTY, NO_IO stays
+abbrev pub unregisteredTo : State → State
+unregisteredTo State.Empty = State.Empty
+unregisteredTo State.Registered = State.Empty
+unregisteredTo State.Created = State.Created
+unregisteredTo State.Normal = State.Normal
+unregisteredTo State.NoIo = State.NoIo
+
+abbrev pub unregisterTests : Node → Bool → Bool → List Test
+unregisterTests n sound delete =
+    test 1 (not (valid n))
+    ∷ test 2 (not sound)
+    ∷ test 3 (ltb 15 (n .id))
+    ∷ test 9 (not (givesStore (n .state) (n .store) delete))
+    ∷ []
+
+unfoldable pub unregisterRefusal : Node → Bool → Bool → ℕ
+unregisterRefusal n sound delete = refusal (unregisterTests n sound delete)
+
+-- members and version zeroed by delete
+unfoldable pub wiped : Bool → Node → Node
+wiped delete n = pick delete (instructed n 0 0) n
+
+unfoldable pub unregistered : Node → Bool → Node
+unregistered n delete = wiped delete (endedTransfer (equipped (moved n (unregisteredTo (n .state))) false false))
+
+-- the map zeroed by delete
+abbrev pub wipes : Bool → OnMap
+wipes true = OnMap.Zero
+wipes false = OnMap.Keep
+
+unfoldable pub unregister : Node → Bool → Bool → Turn
+unregister n sound delete =
+    settled (unregisterRefusal n sound delete) n (turn Answer.Done (unregistered n delete) (does (wipes delete) OnStaging.Zero))

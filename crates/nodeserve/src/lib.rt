@@ -1,0 +1,99 @@
+// MAP_READY, give, MAP_GET_VER, LAST_IO_TO_MAP.
+ghost use mathlib.Core.Path.{_≡_};
+ghost use Rattle.nodeserve.specs.Serve.{serveRefusal, readied, fills, mapReady, give, mapGetVer, lastIoRefusal, lastIoToMap};
+use nodestate::Answer;
+use nodestate::Node;
+use nodestate::OnMap;
+use nodestate::OnStaging;
+use nodestate::State;
+use nodestate::Transfer;
+use nodestate::Turn;
+use nodestate::change;
+use nodestate::state_rules;
+use nodestate::states;
+use nodestate::turns;
+use refusals::first;
+
+// What refuses MAP_READY, give and MAP_GET_VER.
+fn serve_refusal(n: Node, sound: bool) -> u64
+    ensures { λ r. ⌜ r ≡ serveRefusal n sound ⌝ }
+{
+    let ok = state_rules::valid(n);
+    let serves = states::is_serving(n);
+    first(
+        !ok,
+        1,
+        first(!sound, 2, first(15 < n.id, 3, first(!serves, 9, 0))),
+    )
+}
+
+// To NO_IO, with a transfer in hand that starts from what the map holds (keep) or from nothing.
+pub fn map_ready(n: Node, sound: bool, keep: bool) -> Turn
+    ensures { λ r. ⌜ r ≡ mapReady n sound keep ⌝ }
+{
+    let why = serve_refusal(n, sound);
+    let next = readied(n);
+    let staging = fills(keep);
+    let effect = turns::does(OnMap::Keep, staging);
+    let done = turns::turn(Answer::Done, next, effect);
+    turns::settled(why, n, done)
+}
+
+fn readied(n: Node) -> Node
+    ensures { λ r. ⌜ r ≡ readied n ⌝ }
+{
+    let here = change::moved(n, State::NoIo);
+    change::transferred(here, Transfer::Ready)
+}
+
+fn fills(keep: bool) -> OnStaging
+    ensures { λ r. ⌜ r ≡ fills keep ⌝ }
+{
+    if keep {
+        OnStaging::Fill
+    } else {
+        OnStaging::Zero
+    }
+}
+
+// The map goes out as it is; where it goes is the caller's.
+pub fn give(n: Node, sound: bool) -> Turn
+    ensures { λ r. ⌜ r ≡ give n sound ⌝ }
+{
+    let why = serve_refusal(n, sound);
+    let effect = turns::does(OnMap::Keep, OnStaging::Keep);
+    let done = turns::turn(Answer::Done, n, effect);
+    turns::settled(why, n, done)
+}
+
+pub fn map_get_ver(n: Node, sound: bool) -> Turn
+    ensures { λ r. ⌜ r ≡ mapGetVer n sound ⌝ }
+{
+    let why = serve_refusal(n, sound);
+    let effect = turns::does(OnMap::Keep, OnStaging::Keep);
+    let done = turns::turn(Answer::Version(n.version), n, effect);
+    turns::settled(why, n, done)
+}
+
+fn last_io_refusal(n: Node, sound: bool, chosen: u64) -> u64
+    ensures { λ r. ⌜ r ≡ lastIoRefusal n sound chosen ⌝ }
+{
+    let ok = state_rules::valid(n);
+    let serves = states::is_serving(n);
+    let ids = (15 < n.id) | (15 < chosen);
+    first(
+        !ok,
+        1,
+        first(!sound, 2, first(ids, 3, first(!serves, 9, 0))),
+    )
+}
+
+// The kept chunks go into the map, for every member but the chosen.
+pub fn last_io_to_map(n: Node, sound: bool, chosen: u64) -> Turn
+    ensures { λ r. ⌜ r ≡ lastIoToMap n sound chosen ⌝ }
+{
+    let why = last_io_refusal(n, sound, chosen);
+    let effect = turns::does(OnMap::LastIos(chosen), OnStaging::Keep);
+    let done = turns::turn(Answer::Done, n, effect);
+    turns::settled(why, n, done)
+}

@@ -1,0 +1,17 @@
+use Rattle.nodestate.specs.Change.{memberDropped}
+use borrow.Author.Needs.{needs}
+use Rattle.nodestate.proofs.change.member_dropped.Statement.{statement}
+use Rattle.nodestate.proofs.change.member_dropped.Tie as tie
+
+without-requires : tie.Need-without-requires
+without-requires c κs = search needs
+
+taken-over-requires : tie.Need-taken-over-requires
+taken-over-requires c κs = search needs
+
+returns : tie.Need-returns
+unfolding memberDropped
+returns c = cc
+
+pub member-dropped-spec : {M : Type 1} → statement M
+member-dropped-spec = tie.close (tie.spec without-requires taken-over-requires returns)

@@ -1,0 +1,17 @@
+use Rattle.nodestate.specs.Change.{memberEntered}
+use borrow.Author.Needs.{needs}
+use Rattle.nodestate.proofs.change.member_entered.Statement.{statement}
+use Rattle.nodestate.proofs.change.member_entered.Tie as tie
+
+with-requires : tie.Need-with-requires
+with-requires c κs = search needs
+
+taken-over-requires : tie.Need-taken-over-requires
+taken-over-requires c κs = search needs
+
+returns : tie.Need-returns
+unfolding memberEntered
+returns c = cc
+
+pub member-entered-spec : {M : Type 1} → statement M
+member-entered-spec = tie.close (tie.spec with-requires taken-over-requires returns)

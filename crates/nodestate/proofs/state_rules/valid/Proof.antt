@@ -1,0 +1,20 @@
+use Rattle.nodestate.specs.StateRules.{valid}
+use borrow.Author.Needs.{needs}
+use Rattle.nodestate.proofs.state_rules.valid.Statement.{statement}
+use Rattle.nodestate.proofs.state_rules.valid.Tie as tie
+
+has-requires : tie.Need-has-requires
+has-requires c κs = search needs
+
+standing-requires : tie.Need-standing-requires
+standing-requires c κs = search needs
+
+kept-ok-requires : tie.Need-kept-ok-requires
+kept-ok-requires c κs = search needs
+
+returns : tie.Need-returns
+unfolding valid
+returns c = cc
+
+pub valid-spec : {M : Type 1} → statement M
+valid-spec = tie.close (tie.spec has-requires standing-requires kept-ok-requires returns)

@@ -1,0 +1,17 @@
+use borrow.Author.Needs.{needs}
+use Rattle.nodewrites.specs.Write.{written}
+use Rattle.nodewrites.proofs.write.written.Statement.{statement}
+use Rattle.nodewrites.proofs.write.written.Tie as tie
+
+stored-version-requires : tie.Need-stored-version-requires
+stored-version-requires c κs = search needs
+
+kept-chunk-requires : tie.Need-kept-chunk-requires
+kept-chunk-requires c κs = search needs
+
+returns : tie.Need-returns
+unfolding written
+returns c = cc
+
+pub written-spec : {M : Type 1} → statement M
+written-spec = tie.close (tie.spec stored-version-requires kept-chunk-requires returns)

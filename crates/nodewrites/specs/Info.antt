@@ -1,0 +1,54 @@
+-- POOL_INFO: in CREATED, NORMAL and NO_IO, never about itself. `sound` says that the lent maps are.
+use mathlib.Core.Bool.{Bool, false, not, _||_}
+use mathlib.Core.List.{List, [], _∷_}
+use Prim.Native.Nat.{ℕ}
+use lib.Dec.{eqb, ltb}
+use Rattle.refusals.specs.Refusals.{Test, test, refusal}
+use Rattle.sets.specs.Sets.{has}
+use Rattle.nodestate.specs.declared.OnMap.{OnMap}
+use Rattle.nodestate.specs.declared.OnStaging.{OnStaging}
+use Rattle.nodestate.specs.declared.Answer.{Answer}
+use Rattle.nodestate.specs.declared.Node.{Node}
+use Rattle.nodestate.specs.declared.Turn.{Turn}
+use Rattle.state.specs.declared.Op.{Op}
+use Rattle.nodestate.specs.States.{isJoined}
+use Rattle.nodestate.specs.Change.{memberEntered, memberDropped}
+use Rattle.nodestate.specs.StateRules.{valid}
+use Rattle.nodestate.specs.Turns.{does, turn, settled}
+
+-- add-assemble demands the member
+abbrev pub lacks : Op → Bool → Bool
+lacks Op.AddCreate member = false
+lacks Op.AddAssemble member = not member
+lacks Op.RemoveDelete member = false
+lacks Op.RemoveDisassemble member = false
+
+abbrev pub poolInfoTests : Node → Bool → Op → ℕ → List Test
+poolInfoTests n sound op member =
+    test 1 (not (valid n))
+    ∷ test 2 (not sound)
+    ∷ test 3 (ltb 15 (n .id) || ltb 15 member)
+    ∷ test 9 (not (isJoined (n .state)))
+    ∷ test 10 (eqb member (n .id) || lacks op (has (n .members) member))
+    ∷ []
+
+unfoldable pub poolInfoRefusal : Node → Bool → Op → ℕ → ℕ
+poolInfoRefusal n sound op member = refusal (poolInfoTests n sound op member)
+
+-- add-create enters the member, remove-delete drops it
+unfoldable pub informed : Op → Node → ℕ → Node
+informed Op.AddCreate n member = memberEntered n member
+informed Op.AddAssemble n member = n
+informed Op.RemoveDelete n member = memberDropped n member
+informed Op.RemoveDisassemble n member = n
+
+-- both zero its row
+abbrev pub informs : Op → ℕ → OnMap
+informs Op.AddCreate member = OnMap.ZeroRow member
+informs Op.AddAssemble member = OnMap.Keep
+informs Op.RemoveDelete member = OnMap.ZeroRow member
+informs Op.RemoveDisassemble member = OnMap.Keep
+
+unfoldable pub poolInfo : Node → Bool → Op → ℕ → Turn
+poolInfo n sound op member =
+    settled (poolInfoRefusal n sound op member) n (turn Answer.Done (informed op n member) (does (informs op member) OnStaging.Keep))

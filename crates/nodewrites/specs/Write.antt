@@ -1,0 +1,55 @@
+-- Writes and syncs at a node: NORMAL only. `sound` says that the lent maps are.
+use mathlib.Core.Bool.{Bool, not, _||_}
+use mathlib.Core.List.{List, [], _∷_}
+use Prim.Native.Nat.{ℕ}
+use lib.Dec.{ltb}
+use Rattle.refusals.specs.Limits.{versionTop}
+use Rattle.refusals.specs.Refusals.{Test, test, refusal}
+use Rattle.nodestate.specs.declared.OnMap.{OnMap}
+use Rattle.nodestate.specs.declared.OnStaging.{OnStaging}
+use Rattle.nodestate.specs.declared.Answer.{Answer}
+use Rattle.nodestate.specs.declared.Node.{Node}
+use Rattle.nodestate.specs.declared.Turn.{Turn}
+use Rattle.nodestate.specs.States.{isNormal}
+use Rattle.nodestate.specs.Change.{storedVersion, keptChunk}
+use Rattle.nodestate.specs.StateRules.{valid}
+use Rattle.nodestate.specs.Turns.{does, turn, settled}
+
+-- ---- write (chunk, set, version): marks the chunk for each of the set, stores the version, keeps the chunk number
+
+abbrev pub writeTests : Node → Bool → ℕ → ℕ → ℕ → List Test
+writeTests n sound chunk set version =
+    test 1 (not (valid n))
+    ∷ test 2 (not sound)
+    ∷ test 3 (ltb 15 (n .id) || ltb 65535 set)
+    ∷ test 4 (not (ltb chunk (n .chunks)))
+    ∷ test 9 (not (isNormal (n .state)))
+    ∷ test 14 (ltb versionTop version)
+    ∷ []
+
+unfoldable pub writeRefusal : Node → Bool → ℕ → ℕ → ℕ → ℕ
+writeRefusal n sound chunk set version = refusal (writeTests n sound chunk set version)
+
+unfoldable pub written : Node → ℕ → ℕ → Node
+written n chunk version = keptChunk (storedVersion n version) chunk
+
+unfoldable pub write : Node → Bool → ℕ → ℕ → ℕ → Turn
+write n sound chunk set version =
+    settled (writeRefusal n sound chunk set version) n (turn Answer.Done (written n chunk version) (does (OnMap.Mark set chunk) OnStaging.Keep))
+
+-- ---- synced (member, chunk): clears the chunk for the member
+
+abbrev pub syncedTests : Node → Bool → ℕ → ℕ → List Test
+syncedTests n sound member chunk =
+    test 1 (not (valid n))
+    ∷ test 2 (not sound)
+    ∷ test 3 (ltb 15 (n .id) || ltb 15 member)
+    ∷ test 4 (not (ltb chunk (n .chunks)))
+    ∷ test 9 (not (isNormal (n .state)))
+    ∷ []
+
+unfoldable pub syncedRefusal : Node → Bool → ℕ → ℕ → ℕ
+syncedRefusal n sound member chunk = refusal (syncedTests n sound member chunk)
+
+unfoldable pub synced : Node → Bool → ℕ → ℕ → Turn
+synced n sound member chunk = settled (syncedRefusal n sound member chunk) n (turn Answer.Done n (does (OnMap.Clear member chunk) OnStaging.Keep))

@@ -1,0 +1,80 @@
+// POOL_INFO.
+ghost use mathlib.Core.Path.{_≡_};
+ghost use Rattle.nodewrites.specs.Info.{lacks, poolInfoRefusal, informed, informs, poolInfo};
+use nodestate::Answer;
+use nodestate::Node;
+use nodestate::OnMap;
+use nodestate::OnStaging;
+use nodestate::Turn;
+use nodestate::change;
+use nodestate::state_rules;
+use nodestate::states;
+use nodestate::turns;
+use refusals::first;
+use state::Op;
+
+fn pool_info_refusal(n: Node, sound: bool, op: Op, member: u64) -> u64
+    ensures { λ r. ⌜ r ≡ poolInfoRefusal n sound op member ⌝ }
+{
+    let ok = state_rules::valid(n);
+    let s = n.state;
+    let joined = states::is_joined(s);
+    let ids = (15 < n.id) | (15 < member);
+    let there = sets::has(n.members, member);
+    let bars = (member == n.id) | lacks(op, there);
+    first(
+        !ok,
+        1,
+        first(
+            !sound,
+            2,
+            first(ids, 3, first(!joined, 9, first(bars, 10, 0))),
+        ),
+    )
+}
+
+// Another member came or went.
+pub fn pool_info(n: Node, sound: bool, op: Op, member: u64) -> Turn
+    ensures { λ r. ⌜ r ≡ poolInfo n sound op member ⌝ }
+{
+    let why = pool_info_refusal(n, sound, op, member);
+    let next = informed(op, n, member);
+    let map = informs(op, member);
+    let effect = turns::does(map, OnStaging::Keep);
+    let done = turns::turn(Answer::Done, next, effect);
+    turns::settled(why, n, done)
+}
+
+// Add-assemble demands the member.
+fn lacks(op: Op, member: bool) -> bool
+    ensures { λ r. ⌜ r ≡ lacks op member ⌝ }
+{
+    match op {
+        Op::AddCreate => false,
+        Op::AddAssemble => !member,
+        Op::RemoveDelete => false,
+        Op::RemoveDisassemble => false,
+    }
+}
+
+fn informed(op: Op, n: Node, member: u64) -> Node
+    ensures { λ r. ⌜ r ≡ informed op n member ⌝ }
+{
+    match op {
+        Op::AddCreate => change::member_entered(n, member),
+        Op::AddAssemble => n,
+        Op::RemoveDelete => change::member_dropped(n, member),
+        Op::RemoveDisassemble => n,
+    }
+}
+
+fn informs(op: Op, member: u64) -> OnMap
+    ensures { λ r. ⌜ r ≡ informs op member ⌝ }
+{
+    match op {
+        Op::AddCreate => OnMap::ZeroRow(member),
+        Op::AddAssemble => OnMap::Keep,
+        Op::RemoveDelete => OnMap::ZeroRow(member),
+        Op::RemoveDisassemble => OnMap::Keep,
+    }
+}

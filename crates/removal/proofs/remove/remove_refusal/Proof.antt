@@ -1,0 +1,58 @@
+use Rattle.removal.specs.Remove.{removeRefusal}
+use borrow.Author.Needs.{needs}
+use Rattle.removal.proofs.remove.remove_refusal.Statement.{statement}
+use Rattle.removal.proofs.remove.remove_refusal.Tie as tie
+
+valid-requires : tie.Need-valid-requires
+valid-requires c κs = search needs
+
+is-idle-requires : tie.Need-is-idle-requires
+is-idle-requires c κs = search needs
+
+state-of-requires : tie.Need-state-of-requires
+state-of-requires c κs = search needs
+
+is-free-requires : tie.Need-is-free-requires
+is-free-requires c κs = search needs
+
+other-mode-requires : tie.Need-other-mode-requires
+other-mode-requires c κs = search needs
+
+first-requires : tie.Need-first-requires
+first-requires c κs = search needs
+
+first-requires-2 : tie.Need-first-requires-2
+first-requires-2 c κs = search needs
+
+first-requires-3 : tie.Need-first-requires-3
+first-requires-3 c κs = search needs
+
+first-requires-4 : tie.Need-first-requires-4
+first-requires-4 c κs = search needs
+
+first-requires-5 : tie.Need-first-requires-5
+first-requires-5 c κs = search needs
+
+first-requires-6 : tie.Need-first-requires-6
+first-requires-6 c κs = search needs
+
+returns : tie.Need-returns
+unfolding removeRefusal
+returns c = cc
+
+pub remove-refusal-spec : {M : Type 1} → statement M
+remove-refusal-spec =
+    tie.close
+    (tie.spec
+    valid-requires
+    is-idle-requires
+    state-of-requires
+    is-free-requires
+    other-mode-requires
+    first-requires
+    first-requires-2
+    first-requires-3
+    first-requires-4
+    first-requires-5
+    first-requires-6
+    returns)

@@ -1,3 +1,0 @@
-pub mod Enable
-pub mod Io
-pub mod Info
