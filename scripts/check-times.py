@@ -27,15 +27,15 @@ def main():
     proved = re.findall(r"^rt: (\w+) proved \((\d+) s\)", log, re.M)
     edits = re.findall(r"^rt: must-fail (\w+)/(\w+): refused.*?(?:first at ([^;]*); )?(\d+) s\)", log, re.M)
     last = re.findall(r"^\d+ passed, \d+ failed$", log, re.M)[-1]
-    real = re.findall(r"^real\t(\d+)m", log, re.M)[-1]
+    minutes, seconds = re.findall(r"^real\t(\d+)m(\d+)", log, re.M)[-1]
     out = [
         "# Check times",
         "",
         "Made by `scripts/check-times.py` from the log of a whole run of the gate on two cores, two checks at a time, so that every later change can say what it cost:",
-        "seconds of wall time. Lines: code with contracts, definitions, proofs and laws.",
+        "seconds of wall time. Lines: code with contracts, definitions, proofs and laws (of `laws` and `kept`, which hold nothing but laws, under definitions).",
         "",
-        "Last line of that run: `%s`, after %d minutes. Sum of the times below: %d s of proofs, %d s of must-fail edits."
-        % (last, int(real) + 1, sum(int(s) for _, s in proved), sum(int(e[3]) for e in edits)),
+        "Last line of that run: `%s`, after %s minutes and %s seconds. Sum of the times below: %d s of proofs, %d s of must-fail edits."
+        % (last, minutes, seconds, sum(int(s) for _, s in proved), sum(int(e[3]) for e in edits)),
         "",
         "| crate | seconds | code | definitions | proofs | edits |",
         "|---|---|---|---|---|---|",
