@@ -32,7 +32,7 @@ def main():
         "# Check times",
         "",
         "Made by `scripts/check-times.py` from the log of a whole run of the gate on two cores, two checks at a time, so that every later change can say what it cost:",
-        "seconds of wall time. Lines: code with contracts, definitions, proofs and laws (of `laws` and `kept`, which hold nothing but laws, under definitions).",
+        "seconds of wall time. Lines: code with contracts, definitions, proofs and laws (of `laws` and `keeps`, which hold nothing but laws, under definitions).",
         "",
         "Last line of that run: `%s`, after %s minutes and %s seconds. Sum of the times below: %d s of proofs, %d s of must-fail edits."
         % (last, minutes, seconds, sum(int(s) for _, s in proved), sum(int(e[3]) for e in edits)),

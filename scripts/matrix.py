@@ -95,7 +95,7 @@ def client_setups(sync):
             yield words, beside, lines + job, client_events(members, after)
 
 
-# A node's state: the words, and the lab's numbers (state, store, create, transfer). Node 1, members 0, 1 and 2, version 4.
+# A node's state: the words, and the lab's numbers (state, store, create, transfer). Node 1, members 0, 1 and 2, version 4; kept chunks 9 and 16.
 NODES = [
     ("EMPTY", (0, 0, 0, 0)),
     ("REGISTERED", (1, 1, 0, 0)),
@@ -122,7 +122,7 @@ NODE_EVENTS = [
     ("enable 0", "enable0"),
     ("fault", "fault"),
     ("write", "write 9 5 6"),
-    ("synced", "synced 1 9"),
+    ("synced", "synced 2 18"),
     ("MAP_READY, start empty", "map_ready 0"),
     ("MAP_READY, keep", "map_ready 1"),
     ("give", "give"),
@@ -141,30 +141,50 @@ NODE_EVENTS = [
 ]
 
 
+# What is looked at in map and staging: the rows of 0 (a member, the chosen of LAST_IO_TO_MAP), of 1 (itself), of 2 (a member) and of 3 (no member). In the node's
+# map, in its staging and in the map that it can take (node 2's) each row holds two chunks of its own, so that what is left of a row says where it is from.
+ROWS = (0, 1, 2, 3)
+MAP, STAGING, TAKEN = 16, 32, 48
+LOOKS = ["row 1 %d" % m for m in ROWS] + ["staging 1 %d" % m for m in ROWS]
+
+
+def row_of(first, m):
+    """The chunks that row m holds, in one byte of it."""
+    return {first + m, first + m + 4}
+
+
+def bytes_of(command, first):
+    """The lines that put them into each row of a map."""
+    return ["%s %d %d" % (command, 512 * m + first // 8, sum(1 << c - first for c in row_of(first, m))) for m in ROWS]
+
+
 def node_setups():
+    kept = ["poke_node 1 3 1 0 7 4 0", "node 1 write 9 0 4", "node 1 write 16 0 4"]
+    maps = bytes_of("byte 1", MAP) + bytes_of("staging_byte 1", STAGING) + bytes_of("byte 2", TAKEN)
     for words, (state, store, create, transfer) in NODES:
         members = 0 if state == 0 else 7
-        lines = ["pool 0 4096", "poke_node 1 %d %d %d %d 4 %d" % (state, store, create, members, transfer)]
+        lines = ["pool 0 4096"] + kept + maps + ["poke_node 1 %d %d %d %d 4 %d" % (state, store, create, members, transfer)]
         yield words, lines, NODE_EVENTS
 
 
 def blocks():
-    """Every block: its table, its row, its event, the lines that set it up, and the line of the event."""
+    """Every block: its table, its row, its event, the lines that set it up, the line of the event, and those that look at what it left."""
     for sync in (0, 1):
         for words, beside, lines, events in client_setups(sync):
             for name, line in events:
-                yield ("client", sync, beside), words, name, lines, line
+                yield ("client", sync, beside), words, name, lines, line, []
     for words, lines, events in node_setups():
         for name, line in events:
-            yield ("node",), words, name, lines, "node 1 " + line
+            yield ("node",), words, name, lines, "node 1 " + line, LOOKS
 
 
 def history():
     out = []
-    for _, words, name, lines, line in blocks():
+    for _, words, name, lines, line, looks in blocks():
         out.append("# %s: %s" % (words, name))
         out += lines
         out.append(line)
+        out += looks
     return "\n".join(out) + "\n"
 
 
@@ -190,15 +210,65 @@ def cell(line):
     return " ".join(words) + "".join("; " + m for m in messages)
 
 
+def chunks(line):
+    """The chunks of a row's answer."""
+    found = set()
+    for part in line.split()[1:]:
+        first, _, last = part.partition("-")
+        found |= set(range(int(first), int(last or first) + 1))
+    return found
+
+
+def row_fate(left, was, known):
+    """What became of a row that was `was`; `known`: what else it can be, by name."""
+    if left == was:
+        return "kept"
+    if not left:
+        return "zeroed"
+    for name, row in known.items():
+        if left == row:
+            return name
+    more, gone = sorted(left - was), sorted(was - left)
+    return " ".join(["marked %d" % c for c in more] + ["cleared %d" % c for c in gone])
+
+
+WHOLE = {"kept": "as it was", "ORed": "the map taken ORed in"}
+
+
+def fate(answers, was, known):
+    """What became of a map, in words: one for all rows, or each with its rows."""
+    fates = {}
+    for m, line in zip(ROWS, answers):
+        left = row_fate(chunks(line), row_of(was, m), {name: set().union(*(row_of(first, m) for first in firsts)) for name, firsts in known.items()})
+        fates.setdefault(left, []).append(m)
+    if len(fates) == 1:
+        return WHOLE.get(left, left)
+    return "rows " + ", ".join("%s %s" % (" ".join(map(str, rows)), word) for word, rows in fates.items())
+
+
+def left_of(answer, looked):
+    """The cells that say what became of map and staging; none for a refusal, which leaves both as they were."""
+    if not looked:
+        return []
+    half = len(ROWS)
+    both = [fate(looked[:half], MAP, {"staging's": [STAGING]}), fate(looked[half:], STAGING, {"the map's": [MAP], "ORed": [STAGING, TAKEN]})]
+    if answer.startswith("refused "):
+        if both != ["as it was", "as it was"]:
+            sys.exit("matrix: a refusal changed a map")
+        return ["", ""]
+    return both
+
+
 def page():
     with open(STDOUT, encoding="ascii") as f:
         answers = f.read().split("\n")
     at = 0
     tables = {}
-    for table, words, name, lines, _ in blocks():
+    for table, words, name, lines, _, looks in blocks():
         at += len(lines)
-        tables.setdefault(table, {}).setdefault(words, []).append((name, cell(answers[at])))
-        at += 1
+        looked = answers[at + 1 : at + 1 + len(looks)]
+        tables.setdefault(table, {}).setdefault(words, []).append([name, cell(answers[at])] + left_of(answers[at], looked))
+        at += 1 + len(looks)
     if answers[at:] != [""]:
         sys.exit("matrix: the output does not fit the history")
     out = [
@@ -209,6 +279,10 @@ def page():
         "A number alone is the refusal. Else the answer: for the client the session letters (session 0 first; the acted-on session is 1), `v` the pool version,",
         "`n` the NORMAL count, the sets that are not empty, the job, what the answer counts, and after each `;` a message; for the node its state and fields.",
         "The numbers and words are those of the lab (docs/HISTORIES.md).",
+        "",
+        "For the node (1, with the members 0, 1 and 2) also what became of its map and its staging. Looked at are row 0 (a member, the chosen of LAST_IO_TO_MAP), 1 (its own),",
+        "2 (a member) and 3 (no member). Each held two dirty chunks, others in the map, in staging and in the map that is taken; the kept chunks are 9 and 16, of which 16 is",
+        "dirty for 0. `staging's` and `the map's` say that the row, or all of it, is now equal to the other's. A refusal left both as they were.",
     ]
     for table, rows in tables.items():
         if table[0] == "client":
@@ -216,8 +290,9 @@ def page():
         else:
             out += ["", "## Node"]
         for words, cells in rows.items():
-            out += ["", "**%s**" % words, "", "| event | answer |", "|---|---|"]
-            out += ["| %s | %s |" % (name, text) for name, text in cells]
+            heads = ["event", "answer"] + (["map", "staging"] if table[0] == "node" else [])
+            out += ["", "**%s**" % words, "", "| %s |" % " | ".join(heads), "|" + "---|" * len(heads)]
+            out += ["| %s |" % " | ".join(texts) for texts in cells]
     return "\n".join(out) + "\n"
 
 

@@ -1,19 +1,16 @@
 -- An answer keeps the state rules, in a run and in a removal.
 use mathlib.Core.Path.{_≡_, refl, sym, ap, _∙_, subst}
-use mathlib.Core.Bool.{Bool, true, false, not, _&&_}
-use mathlib.Core.Logic.{_≢_}
+use mathlib.Core.Bool.{Bool, true, false, not}
 use Prim.Native.Nat.{ℕ, _+_, _≤_, _<_}
-use native.Mathlib.Decide.{ℕ-discrete, decLt}
+use native.Mathlib.Decide.{ℕ-discrete}
 use native.Mathlib.Omega.{arith}
 use lib.Dec.{eqb, ltb}
-use lib.ListN.{length, List·getD-eq-default}
 use borrow.Author.Tests.{eqb-true}
 use Rattle.laws.specs.Words.{pick}
 use Rattle.laws.specs.Tests.{by-cases, clash, and-left, and-right}
 use Rattle.refusals.specs.Limits.{chunkLimit, answerLimit, versionLimit}
 use Rattle.sets.specs.Sets.{has, lowest}
 use Rattle.sets.proofs.Laws.{has-without-same, lowest-in, lowest-zero, still}
-use Rattle.state.specs.declared.State.{State}
 use Rattle.state.specs.declared.Session.{Session}
 use Rattle.state.specs.declared.Roster.{Roster}
 use Rattle.state.specs.declared.Phase.{Phase}
@@ -23,39 +20,31 @@ use Rattle.state.specs.declared.Job.{Job}
 use Rattle.state.specs.declared.Pool.{Pool}
 use Rattle.state.specs.declared.Brought.{Brought}
 use Rattle.state.specs.declared.Reply.{Reply}
-use Rattle.state.specs.Session.{isNormal, isReconnecting, isRemoving, candidate, free}
+use Rattle.state.specs.Session.{isNormal, candidate}
 use Rattle.roster.specs.declared.Kind.{Kind}
 use Rattle.roster.specs.Roster.{sessionAt, idsOf}
-use Rattle.changes.specs.Changes.{unmarked, entered}
+use Rattle.changes.specs.Changes.{entered}
 use Rattle.run.specs.declared.Who.{Who}
 use Rattle.run.specs.declared.Next.{Next}
 use Rattle.run.specs.declared.Move.{Move}
-use Rattle.run.specs.Run.{hand, rest, counted, ahead, toSpread, wentOn, becameNormal, failedAt, failed, versionBrought, goodAt, good, takes}
+use Rattle.run.specs.Run.{hand, rest, counted, ahead, toSpread, wentOn, becameNormal, failedAt, failedAnswer, versionBrought, goodAt, good, takes}
 use Rattle.run.specs.Still.{possible}
 use Rattle.run.proofs.Bound.{counted-most, Some, FitAt, FitNext, stillIn, Carries, Lowers, taken-well, some-left, lowers}
-use Rattle.rules.specs.Rules.{allAsked, oneAsked, sourceOk, handOk, jobOk}
+use Rattle.rules.specs.Rules.{allAsked, oneAsked, asked, sourceOk, handOk, jobOk}
 use Rattle.recovery.specs.Recovery.{withRoster, posted, goneOn}
 use Rattle.exits.specs.Exit.{refused}
-use Rattle.kept.specs.Ids.{Long}
-use Rattle.kept.specs.Rosters.{Ok}
-use Rattle.kept.specs.Pools.{Valid}
-use Rattle.kept.specs.Legal.{changes, Moves, moves-none, moves-entered}
-use Rattle.kept.specs.Runs.{AllCandidates, RunOk, run-facts, run-of, candidate-member, candidate-normal, entered-same, entered-other, entered-members, entered-version, entered-sync, candidate-enters, Asking, asking-facts, Sound, Within, spread-sound, gather-sound, last-sound, base-sound, versions-sound}
+use Rattle.keeps.specs.Ids.{Long, below}
+use Rattle.keeps.specs.Rosters.{Ok}
+use Rattle.keeps.specs.Pools.{Valid, removal-facts}
+use Rattle.keeps.specs.Runs.{AllCandidates, RunOk, run-facts, run-of, candidate-member, candidate-normal, entered-same, entered-other, entered-members, entered-version, entered-sync, candidate-enters, Asking, asking-facts, Sound, Within, spread-sound, gather-sound, last-sound, base-sound, versions-sound}
 use Rattle.removal.proofs.Kept.{answers-keep}
-use Rattle.removal.proofs.Moves.{ends-moves, answered-ends}
-use Rattle.answers.specs.Answers.{answerRefusal, enteredBy, moved, reported, answered, answer}
+use Rattle.answers.specs.Answers.{answerRefusal, enteredBy, movedOn, reported, answered, answer}
 
 -- ---- the run in hand
 
 -- an id whose record is a candidate is an id
 pub candidate-below : (ro : Roster) (id : ℕ) → Long ro → candidate (sessionAt ro id) ≡ true → id < 16
-candidate-below ro id l c = go (decLt id 16)
-  where
-    go : Dec (id < 16) → id < 16
-    go (yes h) = h
-    go (no n) =
-        let past : length (ro .sessions) ≤ id = omega (arith, l, n) in
-        clash c (ap candidate (List·getD-eq-default (ro .sessions) free past))
+candidate-below ro id l c = below candidate ro id l refl c
 
 some-of : (ro : Roster) (r : Run) → RunOk ro r → not (eqb (r .left) 0) ≡ true → Some r
 some-of ro r v e = (v .small, some-left (r .left) (v .small) (off (eqb (r .left) 0) e))
@@ -73,7 +62,7 @@ fit-of (Phase.Versions best) ro r k v h s = (some-of ro r v h, (k .small, asking
 fit-of (Phase.Base t) ro r k v h s = (some-of ro r v h, (k .small, asking-facts ro (r .source) (k .long) (and-left (allAsked ro (r .source)) _ s) .member))
 fit-of Phase.LastIo ro r k v h s = (some-of ro r v h, (k .small, asking-facts ro (r .source) (k .long) s .member))
 fit-of (Phase.Gather t) ro r k v h s = (some-of ro r v h, (k .small, asking-facts ro (r .source) (k .long) (and-left (allAsked ro (r .source)) _ s) .member))
-fit-of Phase.Enable ro r k v h s = v .small
+fit-of (Phase.Enable every) ro r k v h s = v .small
 fit-of (Phase.Spread t) ro r k v h s = some-of ro r v h
 
 -- ---- what an answer makes of the sessions and of the run
@@ -84,21 +73,23 @@ record Steps (ro : Roster) (m : Move) : Type 0 where
   same-members : enteredBy (m .normal) ro .members ≡ ro .members
   same-version : enteredBy (m .normal) ro .version ≡ ro .version
   plain : enteredBy (m .normal) ro .sync ≡ false
-  table : Moves ro (enteredBy (m .normal) ro)
-  others : (j : ℕ) → m .normal ≢ Who.One j → unmarked (sessionAt (enteredBy (m .normal) ro) j) ≡ unmarked (sessionAt ro j)
+  able : (id : ℕ) → m .normal ≡ Who.One id → candidate (sessionAt ro id) ≡ true
+
+nobody {ℓ} : {A : Type ℓ} (id : ℕ) → Who.Nobody ≡ Who.One id → A
+nobody id e = absurd (let z : _≡_ {A = ℕ} 0 1 = cc e in omega arith)
 
 on-moves : (ro : Roster) (r : Run) (n : Next) → Ok ro → ro .sync ≡ false → Sound ro n → Steps ro (wentOn r n)
-on-moves ro r n k e s = record { ok = k; sound = s; same-members = refl; same-version = refl; plain = e; table = moves-none ro; others = λ j d. refl }
+on-moves ro r n k e s = record { ok = k; sound = s; same-members = refl; same-version = refl; plain = e; able = λ id e. nobody id e }
 
 rest-within : (r : Run) → Within (rest r) (r .left)
 rest-within r j h = still (r .left) (hand r) j h .0
 
 fails : (p : Phase) (ro : Roster) (r : Run) → Ok ro → RunOk ro r → sourceOk p ro (r .source) (r .left) ≡ true → Steps ro (failedAt p r)
-fails (Phase.Versions best) ro r k v s = record { ok = k; sound = tt; same-members = refl; same-version = refl; plain = v .plain; table = moves-none ro; others = λ j d. refl }
-fails (Phase.Base t) ro r k v s = record { ok = k; sound = tt; same-members = refl; same-version = refl; plain = v .plain; table = moves-none ro; others = λ j d. refl }
-fails Phase.LastIo ro r k v s = record { ok = k; sound = tt; same-members = refl; same-version = refl; plain = v .plain; table = moves-none ro; others = λ j d. refl }
-fails (Phase.Gather t) ro r k v s = record { ok = k; sound = tt; same-members = refl; same-version = refl; plain = v .plain; table = moves-none ro; others = λ j d. refl }
-fails Phase.Enable ro r k v s = record { ok = k; sound = tt; same-members = refl; same-version = refl; plain = v .plain; table = moves-none ro; others = λ j d. refl }
+fails (Phase.Versions best) ro r k v s = record { ok = k; sound = tt; same-members = refl; same-version = refl; plain = v .plain; able = λ id e. nobody id e }
+fails (Phase.Base t) ro r k v s = record { ok = k; sound = tt; same-members = refl; same-version = refl; plain = v .plain; able = λ id e. nobody id e }
+fails Phase.LastIo ro r k v s = record { ok = k; sound = tt; same-members = refl; same-version = refl; plain = v .plain; able = λ id e. nobody id e }
+fails (Phase.Gather t) ro r k v s = record { ok = k; sound = tt; same-members = refl; same-version = refl; plain = v .plain; able = λ id e. nobody id e }
+fails (Phase.Enable every) ro r k v s = record { ok = k; sound = tt; same-members = refl; same-version = refl; plain = v .plain; able = λ id e. nobody id e }
 fails (Phase.Spread t) ro r k v s =
     record {
       ok = k;
@@ -106,12 +97,11 @@ fails (Phase.Spread t) ro r k v s =
       same-members = refl;
       same-version = refl;
       plain = v .plain;
-      table = moves-none ro;
-      others = λ j d. refl;
+      able = λ id e. nobody id e;
     }
 
-failed-moves : (ro : Roster) (r : Run) → Ok ro → RunOk ro r → Steps ro (failed r)
-unfolding failed
+failed-moves : (ro : Roster) (r : Run) → Ok ro → RunOk ro r → Steps ro (failedAnswer r)
+unfolding failedAnswer
 failed-moves ro r k v = fails (r .phase) ro r k v (v .source)
 
 moves-pick : (ro : Roster) (b : Bool) (x y : Move) → Steps ro x → Steps ro y → Steps ro (pick b x y)
@@ -125,21 +115,11 @@ either P false x y p q = q
 brings : (best version : ℕ) (ro : Roster) (r : Run) (b : Brought) → Ok ro → RunOk ro r → Some r → Asking ro (r .source) → Steps ro (versionBrought (ro .members) version best r b)
 brings best version ro r Brought.Nothing k v h q = failed-moves ro r k v
 brings best version ro r (Brought.Version w) k v h q =
-    moves-pick ro (ltb version w) (failed r) _ (failed-moves ro r k v)
+    moves-pick ro (ltb version w) (failedAnswer r) _ (failed-moves ro r k v)
     (on-moves ro r _ k (v .plain)
     (versions-sound ro (k .long) r (pick (ltb best w) (hand r) (r .source))
     (record { none = q .none; all-able = q .all-able; member = either (λ (x : ℕ). has (ro .members) x ≡ true) (ltb best w) (hand r) (r .source) (members-of ro r k v (hand r) (lowest-in (r .left) (h .1))) (q .member) })
     (pick (ltb best w) w best) (rest r) (λ j z. members-of ro r k v j (rest-within r j z))))
-
--- a candidate goes to NORMAL by the table
-goes-normal : (sync : Bool) (st : State) (b : Bool) → sync ≡ false → (isReconnecting st && b) ≡ true → changes sync st State.Normal ≡ true
-goes-normal sync State.Free b e c = clash c refl
-goes-normal sync State.Created b e c = clash c refl
-goes-normal sync State.Normal b e c = refl
-goes-normal sync State.Failed b e c = clash c refl
-goes-normal true State.Reconnecting b e c = clash refl e
-goes-normal false State.Reconnecting b e c = refl
-goes-normal sync (State.Removing m owed) b e c = clash c refl
 
 -- a candidate becomes NORMAL, and an enabling spread goes on to others
 enters : (ro : Roster) (r : Run) (id left : ℕ) → Ok ro → RunOk ro r → candidate (sessionAt ro id) ≡ true
@@ -151,8 +131,7 @@ enters ro r id left k v c a out n =
       same-members = entered-members ro id (v .plain);
       same-version = entered-version ro id (v .plain);
       plain = entered-sync ro id (v .plain);
-      table = moves-entered ro id (k .long) (candidate-below ro id (k .long) c) (goes-normal (ro .sync) (sessionAt ro id .state) (not (sessionAt ro id .maintenance)) (v .plain) c);
-      others = λ j d. ap unmarked (entered-other ro id j (v .plain) (λ e. d (ap Who.One (sym e))));
+      able = λ j e. let q : id ≡ j = cc e in rw (← q) c;
     }
   where
     at : (j : ℕ) → has left j ≡ true → Dec (j ≡ id) → candidate (sessionAt (entered ro id) j) ≡ true
@@ -166,9 +145,10 @@ off-not : (b : Bool) → not b ≡ true → b ≡ false
 off-not true e = sym e
 off-not false e = refl
 
-asked-able : (ro : Roster) (source : ℕ) → oneAsked ro source ≡ true → candidate (sessionAt ro source) ≡ true
+asked-able : (every : Bool) (ro : Roster) (source : ℕ) → Long ro → asked every ro source ≡ true → candidate (sessionAt ro source) ≡ true
 unfolding oneAsked
-asked-able ro source e = and-right (eqb (idsOf Kind.Normals ro) 0) (candidate (sessionAt ro source)) e
+asked-able true ro source l e = let a = asking-facts ro source l e in a .all-able source (a .member)
+asked-able false ro source l e = and-right (eqb (idsOf Kind.Normals ro) 0) (candidate (sessionAt ro source)) e
 
 goes : (p : Phase) (version : ℕ) (ro : Roster) (r : Run) (b : Brought) → Ok ro → RunOk ro r → handOk p (r .left) ≡ true → sourceOk p ro (r .source) (r .left) ≡ true → Steps ro (goodAt p (ro .members) version r b)
 goes (Phase.Versions best) version ro r b k v h s = brings best version ro r b k v (some-of ro r v h) (asking-facts ro (r .source) (k .long) s)
@@ -186,9 +166,9 @@ goes (Phase.Gather Step.Done) version ro r b k v h s =
     on-moves ro r _ k (v .plain)
     (gather-sound ro (k .long) r (r .source) (asking-facts ro (r .source) (k .long) (and-left (allAsked ro (r .source)) _ s)) (rest r)
     (λ j z. members-of ro r k v j (rest-within r j z)) (rest-out r (r .source) (off-not (has (r .left) (r .source)) (and-right (allAsked ro (r .source)) _ s))))
-goes Phase.Enable version ro r b k v h s =
-    let c = asked-able ro (r .source) (and-left (oneAsked ro (r .source)) _ s) in
-    enters ro r (r .source) (r .left) k v c (v .able) (off-not (has (r .left) (r .source)) (and-right (oneAsked ro (r .source)) _ s))
+goes (Phase.Enable every) version ro r b k v h s =
+    let c = asked-able every ro (r .source) (k .long) (and-left (asked every ro (r .source)) _ s) in
+    enters ro r (r .source) (r .left) k v c (v .able) (off-not (has (r .left) (r .source)) (and-right (asked every ro (r .source)) _ s))
     (entered-same ro (r .source) (k .long) (v .plain) (candidate-below ro (r .source) (k .long) c))
 goes (Phase.Spread Step.Ready) version ro r b k v h s = on-moves ro r (ahead r (Phase.Spread Step.Send)) k (v .plain) (v .able, s)
 goes (Phase.Spread Step.Send) version ro r b k v h s = on-moves ro r (ahead r (Phase.Spread Step.Done)) k (v .plain) (v .able, s)
@@ -220,7 +200,7 @@ fit-hand (Phase.Versions best) members r f = (f .0 .0, not-empty (r .left) (f .0
 fit-hand (Phase.Base t) members r f = (f .0 .0, not-empty (r .left) (f .0 .1))
 fit-hand Phase.LastIo members r f = (f .0 .0, not-empty (r .left) (f .0 .1))
 fit-hand (Phase.Gather t) members r f = (f .0 .0, not-empty (r .left) (f .0 .1))
-fit-hand Phase.Enable members r f = (f, refl)
+fit-hand (Phase.Enable every) members r f = (f, refl)
 fit-hand (Phase.Spread t) members r f = (f .0, not-empty (r .left) (f .1))
 
 -- the pool with the next message sent, or the run over
@@ -245,7 +225,7 @@ next-valid (Next.On r) p taken before a b k e l f s c w m =
     }
 
 run-keeps : (p : Pool) (r : Run) (a : Reply) → Valid p → RunOk (p .roster) r → Valid (reported p (takes (p .roster .members) (p .roster .version) r a) .pool)
-unfolding moved
+unfolding movedOn
 run-keeps p r a v q =
     next-valid (m .next) (withRoster p ro′) (r .taken) (possible (p .roster .members) r) (v .some) (v .most) (g .ok) (g .plain)
     (subst (λ (n : ℕ). n ≤ versionLimit) (sym (g .same-version)) (q .limit))
@@ -269,20 +249,12 @@ run-keeps p r a v q =
 
 -- ---- the event
 
-removing-below : (ro : Roster) (id : ℕ) → Long ro → isRemoving (sessionAt ro id .state) ≡ true → id < 16
-removing-below ro id l c = go (decLt id 16)
-  where
-    go : Dec (id < 16) → id < 16
-    go (yes h) = h
-    go (no n) =
-        let past : length (ro .sessions) ≤ id = omega (arith, l, n) in
-        clash c (ap (λ (s : Session). isRemoving (s .state)) (List·getD-eq-default (ro .sessions) free past))
-
 answered-keeps : (j : Job) (p : Pool) (a : Reply) → Valid p → jobOk j (p .roster) ≡ true → Valid (answered j p a .pool)
 answered-keeps Job.Idle p a v o = v
 answered-keeps (Job.Running r) p a v o = run-keeps p r a v (run-facts (p .roster) r (v .ok .long) o)
 answered-keeps (Job.Removing m) p a v o =
-    answers-keep m p a (record { some = v .some; most = v .most; ok = v .ok; below = removing-below (p .roster) (m .id) (v .ok .long) o; removing = o })
+    let h = removal-facts (p .roster) m (v .ok .long) o in
+    answers-keep m p a (record { some = v .some; most = v .most; ok = v .ok; below = h .below; removing = h .removing })
 
 -- An answer, accepted or refused, keeps the state rules.
 pub answer-keeps : (p : Pool) (sound : Bool) (number : ℕ) (a : Reply) → Valid p → Valid (answer p sound number a .pool)
@@ -301,39 +273,10 @@ gone-roster Next.Over p = refl
 gone-roster (Next.On r) p = refl
 
 -- the sessions after an answer in a run: those before, but for the one that became NORMAL
-run-roster : (p : Pool) (m : Move) → reported p m .pool .roster ≡ enteredBy (m .normal) (p .roster)
-unfolding moved
+pub run-roster : (p : Pool) (m : Move) → reported p m .pool .roster ≡ enteredBy (m .normal) (p .roster)
+unfolding movedOn
 run-roster p m = gone-roster (m .next) (withRoster p (enteredBy (m .normal) (p .roster)))
 
--- What an answer leaves of the sessions: states change by the table, the version stays.
-pub record Settles (ro ro′ : Roster) : Type 0 where
-  pub table : Moves ro ro′
-  pub version : ro′ .version ≡ ro .version
-
-settles-run : (p : Pool) (r : Run) (a : Reply) → Valid p → RunOk (p .roster) r → Settles (p .roster) (reported p (takes (p .roster .members) (p .roster .version) r a) .pool .roster)
-settles-run p r a v q =
-    let g = takes-moves (p .roster .version) (p .roster) r a (v .ok) q in
-    subst (λ (ro : Roster). Settles (p .roster) ro) (sym (run-roster p (takes (p .roster .members) (p .roster .version) r a))) (record { table = g .table; version = g .same-version })
-
-settles : (j : Job) (p : Pool) (a : Reply) → Valid p → jobOk j (p .roster) ≡ true → Settles (p .roster) (answered j p a .pool .roster)
-settles Job.Idle p a v o = record { table = moves-none (p .roster); version = refl }
-settles (Job.Running r) p a v o = settles-run p r a v (run-facts (p .roster) r (v .ok .long) o)
-settles (Job.Removing m) p a v o =
-    let e = answered-ends m p a (v .ok .long) (removing-below (p .roster) (m .id) (v .ok .long) o) o in
-    record { table = ends-moves (p .roster) (m .id) _ e; version = e .version }
-
--- An answer changes sessions only by the table, and never the version.
-pub answer-settles : (p : Pool) (sound : Bool) (number : ℕ) (a : Reply) → Valid p → Settles (p .roster) (answer p sound number a .pool .roster)
-unfolding answer
-answer-settles p sound number a v = at (eqb (answerRefusal p sound number) 0)
-  where
-    at : (b : Bool) → Settles (p .roster) (pick b (answered (p .job) p a) (refused p (answerRefusal p sound number)) .pool .roster)
-    at true = settles (p .job) p a v (v .job)
-    at false = record { table = moves-none (p .roster); version = refl }
-
--- In a run only the session whose enabling message was answered well changes; a mark may go from the others.
-pub run-others : (p : Pool) (r : Run) (a : Reply) → Valid p → RunOk (p .roster) r → (j : ℕ) → takes (p .roster .members) (p .roster .version) r a .normal ≢ Who.One j
-    → unmarked (sessionAt (reported p (takes (p .roster .members) (p .roster .version) r a) .pool .roster) j) ≡ unmarked (sessionAt (p .roster) j)
-run-others p r a v q j d =
-    ap (λ (ro : Roster). unmarked (sessionAt ro j)) (run-roster p (takes (p .roster .members) (p .roster .version) r a))
-    ∙ takes-moves (p .roster .version) (p .roster) r a (v .ok) q .others j d
+-- The one that becomes NORMAL was a candidate.
+pub run-able : (p : Pool) (r : Run) (a : Reply) → Valid p → RunOk (p .roster) r → (id : ℕ) → takes (p .roster .members) (p .roster .version) r a .normal ≡ Who.One id → candidate (sessionAt (p .roster) id) ≡ true
+run-able p r a v q id e = takes-moves (p .roster .version) (p .roster) r a (v .ok) q .able id e

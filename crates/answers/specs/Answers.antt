@@ -42,17 +42,17 @@ enteredBy Who.Nobody ro = ro
 enteredBy (Who.One id) ro = entered ro id
 
 -- what an answer did to the run, done to the pool: who became NORMAL, and the next message or the end
-unfoldable pub moved : Pool → Move → Posted
-moved p m = goneOn (m .next) (withRoster p (enteredBy (m .normal) (p .roster)))
+unfoldable pub movedOn : Pool → Move → Posted
+movedOn p m = goneOn (m .next) (withRoster p (enteredBy (m .normal) (p .roster)))
 
 -- an answer in a run: MAP_DISABLE if one gets it, and the answers taken so far, this one with them
 abbrev pub reported : Pool → Move → Turn
-reported p m = accepted p (moved p m .pool) (Outcome.Taken (m .taken)) (disabling (m .disable)) (moved p m .awaited) Effect.Keep
+reported p m = accepted p (movedOn p m .pool) (Outcome.Taken (m .taken)) (disabling (m .disable)) (movedOn p m .awaited) Effect.Keep
 
 abbrev pub answered : Job → Pool → Reply → Turn
 answered Job.Idle p a = refused p 13
 answered (Job.Running r) p a = reported p (takes (p .roster .members) (p .roster .version) r a)
-answered (Job.Removing m) p a = gone p (removal.answered m p a)
+answered (Job.Removing m) p a = gone p (removal.removalAnswered m p a)
 
 unfoldable pub answer : Pool → Bool → ℕ → Reply → Turn
 answer p sound number a =

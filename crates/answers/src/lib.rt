@@ -1,7 +1,7 @@
 // The answer to an awaited message.
 ghost use mathlib.Core.Path.{_≡_};
 ghost use Rattle.run.specs.Run.{takes};
-ghost use Rattle.answers.specs.Answers.{awaits, answerRefusal, enteredBy, moved, reported, answered, answer};
+ghost use Rattle.answers.specs.Answers.{awaits, answerRefusal, enteredBy, movedOn, reported, answered, answer};
 use recovery::Posted;
 use refusals::first;
 use run::Move;
@@ -42,7 +42,7 @@ fn enter(w: Who, ro: Roster) -> Roster
 
 // Who became NORMAL is entered, then the run goes on or is over.
 fn move_on(p: Pool, m: Move) -> Posted
-    ensures { λ r. ⌜ r ≡ moved p m ⌝ }
+    ensures { λ r. ⌜ r ≡ movedOn p m ⌝ }
 {
     let ro = p.roster;
     let w = m.normal;

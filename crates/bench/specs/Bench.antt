@@ -1,11 +1,44 @@
--- What the lab's own commands put into it. Nothing else of the lab changes.
-use Prim.Native.Nat.{ℕ}
-use mathlib.Core.Bool.{Bool}
+-- The lab's own commands. What a definition does not name stays.
+use Prim.Native.Nat.{ℕ, zero, suc}
+use mathlib.Core.Bool.{Bool, false}
+use mathlib.Core.List.{List, [], _∷_, _++_}
+use lib.Dec.{eqb}
+use lib.ListN.{getD, set, replicate}
+use Rattle.laws.specs.Words.{pick}
+use Rattle.refusals.specs.Limits.{mapBytes}
 use Rattle.state.specs.declared.Roster.{Roster}
 use Rattle.state.specs.declared.Session.{Session}
+use Rattle.state.specs.declared.Job.{Job}
+use Rattle.state.specs.declared.Message.{Message}
+use Rattle.state.specs.Session.{isNothing}
 use Rattle.client.specs.declared.Client.{Client}
+use Rattle.client.specs.Client.{fresh}
 use Rattle.roster.specs.Roster.{stored}
+use Rattle.nodestate.specs.declared.Node.{Node}
+use Rattle.nodestate.specs.declared.State as node
+use Rattle.nodestate.specs.declared.Transfer.{Transfer}
+use Rattle.node.specs.declared.StorageNode.{StorageNode}
+use Rattle.node.specs.Face.{freshNode}
+use Rattle.forms.specs.declared.Which.{Which}
+use Rattle.lending.specs.declared.Lent.{Lent}
 use Rattle.bench.specs.declared.Lab.{Lab}
+
+-- ---- a fresh lab
+
+-- all maps lent whole
+abbrev pub wholly : Lent
+wholly = record { own = mapBytes; maps = replicate 16 mapBytes; stagings = replicate 16 mapBytes }
+
+-- fresh nodes of the ids below n
+unfoldable pub freshBelow : ℕ → ℕ → List StorageNode
+freshBelow chunks zero = []
+freshBelow chunks (suc n) = freshBelow chunks n ++ (freshNode n chunks ∷ [])
+
+unfoldable pub freshLab : Bool → ℕ → Lab
+freshLab sync chunks =
+    record { client = fresh sync chunks; nodes = freshBelow chunks 16; lent = wholly; auto = false; awaited = Message.Nothing; number = 0 }
+
+-- ---- one thing changed
 
 -- auto on or off
 abbrev pub withAuto : Lab → Bool → Lab
@@ -13,6 +46,57 @@ withAuto l on = record { client = l .client; nodes = l .nodes; lent = l .lent; a
 
 abbrev pub withClient : Lab → Client → Lab
 withClient l c = record { client = c; nodes = l .nodes; lent = l .lent; auto = l .auto; awaited = l .awaited; number = l .number }
+
+abbrev pub withLent : Lab → Lent → Lab
+withLent l lent = record { client = l .client; nodes = l .nodes; lent = lent; auto = l .auto; awaited = l .awaited; number = l .number }
+
+-- node n, and another in its place; there is none past 15
+abbrev pub noNode : StorageNode
+noNode =
+    record {
+      node = record {
+        id = 0;
+        chunks = 0;
+        state = node.State.Empty;
+        store = false;
+        create = false;
+        members = 0;
+        version = 0;
+        kept = [];
+        held = 0;
+        transfer = Transfer.Nothing;
+      };
+    }
+
+abbrev pub nodeAt : Lab → ℕ → StorageNode
+nodeAt l n = getD (l .nodes) n noNode
+
+abbrev pub withNode : Lab → ℕ → StorageNode → Lab
+withNode l n s = record { client = l .client; nodes = set (l .nodes) n s; lent = l .lent; auto = l .auto; awaited = l .awaited; number = l .number }
+
+abbrev pub awaiting : Lab → Message → ℕ → Lab
+awaiting l m number = record { client = l .client; nodes = l .nodes; lent = l .lent; auto = l .auto; awaited = m; number = number }
+
+-- ---- after an accepted client event
+
+-- where none was sent: the one before while a job is in hand
+abbrev pub stillAwaiting : Lab → Job → Lab
+stillAwaiting l Job.Idle = awaiting l Message.Nothing 0
+stillAwaiting l (Job.Running r) = l
+stillAwaiting l (Job.Removing m) = l
+
+-- the awaited message is the one sent
+unfoldable pub afterEvent : Lab → Client → Message → ℕ → Lab
+afterEvent l c m number = pick (isNothing m) (stillAwaiting (withClient l c) (c .pool .job)) (awaiting (withClient l c) m number)
+
+-- ---- lend
+
+abbrev pub lentBy : Lent → Which → ℕ → Lent
+lentBy l Which.Client n = record { own = n; maps = l .maps; stagings = l .stagings }
+lentBy l (Which.Node k) n = record { own = l .own; maps = set (l .maps) k n; stagings = l .stagings }
+lentBy l (Which.Staging k) n = record { own = l .own; maps = l .maps; stagings = set (l .stagings) k n }
+
+-- ---- poke: a value put into the client's state or a node's, unchecked
 
 abbrev pub rosterOf : Lab → Roster
 rosterOf l = l .client .pool .roster
@@ -46,3 +130,36 @@ pokeChunks l v =
 -- a session's record in its place; an id above 15 changes nothing
 abbrev pub pokeSession : Lab → ℕ → Session → Lab
 pokeSession l id s = withRoster l (stored (rosterOf l) id s)
+
+-- 0 EMPTY, 1 REGISTERED, 2 CREATED, 3 NORMAL, 4 NO_IO
+abbrev pub nodeStateOf : ℕ → node.State
+nodeStateOf x =
+    pick (eqb x 0) node.State.Empty
+    (pick (eqb x 1) node.State.Registered
+    (pick (eqb x 2) node.State.Created
+    (pick (eqb x 3) node.State.Normal
+    node.State.NoIo)))
+
+-- 0 nothing in hand, 1 begun, 2 the map taken
+abbrev pub transferOf : ℕ → Transfer
+transferOf x = pick (eqb x 0) Transfer.Nothing (pick (eqb x 1) Transfer.Ready Transfer.Taken)
+
+-- own id, chunk count and kept chunks stay
+abbrev pub poked : Node → ℕ → Bool → Bool → ℕ → ℕ → ℕ → Node
+poked n state store create members version transfer =
+    record {
+      id = n .id;
+      chunks = n .chunks;
+      state = nodeStateOf state;
+      store = store;
+      create = create;
+      members = members;
+      version = version;
+      kept = n .kept;
+      held = n .held;
+      transfer = transferOf transfer;
+    }
+
+unfoldable pub pokeNode : Lab → ℕ → ℕ → Bool → Bool → ℕ → ℕ → ℕ → Lab
+pokeNode l n state store create members version transfer =
+    withNode l n (record { node = poked (nodeAt l n .node) state store create members version transfer })

@@ -1,12 +1,11 @@
 // The lab's bench: one client with its map, sixteen nodes each with its map and its staging map, and what a command does to them. The maps are lent by the
 // program: the client's 8,192 bytes, and 16 times 8,192 for the nodes' maps and for their staging maps.
-pub mod deliver;
-pub mod nodes;
-
 ghost use mathlib.Core.Path.{_≡_};
-ghost use Rattle.bench.specs.Bench.{withAuto, withRoster, rosterOf, pokeVersion, pokeCount, pokeMembers, pokeChunks, pokeSession};
+ghost use lib.ListN.{set};
+ghost use Rattle.bench.specs.Bench.{freshBelow, freshLab, withAuto, withLent, awaiting, stillAwaiting, afterEvent, lentBy, withRoster, rosterOf, pokeVersion, pokeCount, pokeMembers, pokeChunks, pokeSession, nodeStateOf, transferOf, pokeNode};
 use client::Client;
 use forms::Which;
+use lending::Lent;
 use node::StorageNode;
 use nodestate::Node;
 use nodestate::Transfer;
@@ -16,34 +15,44 @@ use state::Pool;
 use state::Roster;
 use state::Session;
 
-// lent: how many bytes of each map are lent; the nodes' maps, then their staging maps, then the client's. awaited, number: the awaited message as it was sent.
+// lent: how many bytes of each map are lent. awaited, number: the awaited message as it was sent.
 pub struct Lab {
     pub client: Client,
     pub nodes: [StorageNode; 16],
-    pub lent: [u64; 33],
+    pub lent: Lent,
     pub auto: bool,
     pub awaited: Message,
     pub number: u32,
 }
 
 // A fresh lab: all lent whole, auto off.
-pub fn fresh(sync: bool, chunks: u64) -> Lab {
+pub fn fresh(sync: bool, chunks: u64) -> Lab
+    ensures { λ r. ⌜ r ≡ freshLab sync chunks ⌝ }
+{
     let c = Client::fresh(sync, chunks);
+    let all = StorageNode::MAP_BYTES as u64;
+    let lent = Lent {
+        own: all,
+        maps: [all; 16],
+        stagings: [all; 16],
+    };
     Lab {
         client: c,
         nodes: fresh_nodes(chunks),
-        lent: [8192; 33],
+        lent: lent,
         auto: false,
         awaited: Message::Nothing,
         number: 0,
     }
 }
 
-fn fresh_nodes(chunks: u64) -> [StorageNode; 16] {
+fn fresh_nodes(chunks: u64) -> [StorageNode; 16]
+    ensures { λ r. ⌜ r ≡ freshBelow chunks 16 ⌝ }
+{
     let n = StorageNode::fresh(0, chunks);
     let mut all = [n; 16];
-    let mut i: u64 = 1;
-    while i < 16 {
+    let mut i: u64 = 0;
+    while i < Client::MEMBERS {
         let at = i as usize;
         all[at] = StorageNode::fresh(i, chunks);
         i += 1;
@@ -52,14 +61,22 @@ fn fresh_nodes(chunks: u64) -> [StorageNode; 16] {
 }
 
 // The lab after an accepted client event: the awaited message is the one sent, the one before while a job is in hand, or none.
-pub fn after(mut l: Lab, c: Client, awaited: Message, number: u32) -> Lab {
+pub fn after(mut l: Lab, c: Client, awaited: Message, number: u32) -> Lab
+    ensures { λ r. ⌜ r ≡ afterEvent l c awaited number ⌝ }
+{
     let p = c.pool;
     let job = p.job;
     l.client = c;
     let none = state::is_nothing(awaited);
-    if !none {
-        return renewed(l, awaited, number);
+    if none {
+        return still(l, job);
     }
+    renewed(l, awaited, number)
+}
+
+fn still(l: Lab, job: Job) -> Lab
+    ensures { λ r. ⌜ r ≡ stillAwaiting l job ⌝ }
+{
     match job {
         Job::Idle => renewed(l, Message::Nothing, 0),
         Job::Running(r) => l,
@@ -67,7 +84,9 @@ pub fn after(mut l: Lab, c: Client, awaited: Message, number: u32) -> Lab {
     }
 }
 
-fn renewed(l: Lab, awaited: Message, number: u32) -> Lab {
+fn renewed(l: Lab, awaited: Message, number: u32) -> Lab
+    ensures { λ r. ⌜ r ≡ awaiting l awaited number ⌝ }
+{
     let c = l.client;
     let nodes = l.nodes;
     let lent = l.lent;
@@ -81,15 +100,6 @@ fn renewed(l: Lab, awaited: Message, number: u32) -> Lab {
     }
 }
 
-// The place of a map among those of lent.
-pub fn index_of(w: Which) -> u64 {
-    match w {
-        Which::Client => 32,
-        Which::Node(n) => n,
-        Which::Staging(n) => std::num::wrapping_add_u64(n, 16),
-    }
-}
-
 pub fn set_auto(mut l: Lab, on: bool) -> Lab
     ensures { λ r. ⌜ r ≡ withAuto l on ⌝ }
 {
@@ -97,14 +107,49 @@ pub fn set_auto(mut l: Lab, on: bool) -> Lab
     l
 }
 
-pub fn lend(mut l: Lab, w: Which, n: u64) -> Lab {
-    let k = index_of(w);
-    if 32 < k {
-        return l;
+pub fn lend(mut l: Lab, w: Which, n: u64) -> Lab
+    ensures { λ r. ⌜ r ≡ withLent l (lentBy (l .lent) w n) ⌝ }
+{
+    let was = l.lent;
+    let next = lent_by(was, w, n);
+    l.lent = next;
+    l
+}
+
+fn lent_by(l: Lent, w: Which, n: u64) -> Lent
+    ensures { λ r. ⌜ r ≡ lentBy l w n ⌝ }
+{
+    let maps = l.maps;
+    let stagings = l.stagings;
+    match w {
+        Which::Client => Lent {
+            own: n,
+            maps: maps,
+            stagings: stagings,
+        },
+        Which::Node(k) => Lent {
+            own: l.own,
+            maps: resized(maps, k, n),
+            stagings: stagings,
+        },
+        Which::Staging(k) => Lent {
+            own: l.own,
+            maps: maps,
+            stagings: resized(stagings, k, n),
+        },
+    }
+}
+
+// The kth set to n; there is none past 15.
+fn resized(mut sizes: [u64; 16], k: u64, n: u64) -> [u64; 16]
+    ensures { λ r. ⌜ r ≡ set sizes k n ⌝ }
+{
+    if 15 < k {
+        return sizes;
     }
     let i = k as usize;
-    l.lent[i] = n;
-    l
+    sizes[i] = n;
+    sizes
 }
 
 fn with_roster(mut l: Lab, ro: Roster) -> Lab
@@ -185,7 +230,9 @@ pub fn poke_node(
     members: u64,
     version: u64,
     transfer: u64,
-) -> Lab {
+) -> Lab
+    ensures { λ r. ⌜ r ≡ pokeNode l n state store create members version transfer ⌝ }
+{
     if 15 < n {
         return l;
     }
@@ -209,20 +256,32 @@ pub fn poke_node(
     l
 }
 
-fn state_of(x: u64) -> nodestate::State {
-    match x {
-        0 => nodestate::State::Empty,
-        1 => nodestate::State::Registered,
-        2 => nodestate::State::Created,
-        3 => nodestate::State::Normal,
-        _ => nodestate::State::NoIo,
+fn state_of(x: u64) -> nodestate::State
+    ensures { λ r. ⌜ r ≡ nodeStateOf x ⌝ }
+{
+    if x == 0 {
+        return nodestate::State::Empty;
     }
+    if x == 1 {
+        return nodestate::State::Registered;
+    }
+    if x == 2 {
+        return nodestate::State::Created;
+    }
+    if x == 3 {
+        return nodestate::State::Normal;
+    }
+    nodestate::State::NoIo
 }
 
-fn transfer_of(x: u64) -> Transfer {
-    match x {
-        0 => Transfer::Nothing,
-        1 => Transfer::Ready,
-        _ => Transfer::Taken,
+fn transfer_of(x: u64) -> Transfer
+    ensures { λ r. ⌜ r ≡ transferOf x ⌝ }
+{
+    if x == 0 {
+        return Transfer::Nothing;
     }
+    if x == 1 {
+        return Transfer::Ready;
+    }
+    Transfer::Taken
 }

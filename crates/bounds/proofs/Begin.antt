@@ -20,6 +20,8 @@ use Rattle.state.specs.declared.Run.{Run}
 use Rattle.state.specs.declared.Job.{Job}
 use Rattle.state.specs.declared.Pool.{Pool}
 use Rattle.state.specs.declared.Reply.{Reply}
+use Rattle.state.specs.declared.Told.{Told}
+use Rattle.state.specs.declared.Outcome.{Outcome}
 use Rattle.state.specs.declared.Effect.{Effect}
 use Rattle.state.specs.declared.Turn.{Turn}
 use Rattle.state.specs.Session.{isDeleting, isOwed, isCreated}
@@ -28,13 +30,14 @@ use Rattle.roster.specs.Roster.{sessionAt, idsOf}
 use Rattle.changes.specs.Changes.{memberDropped}
 use Rattle.rules.specs.Jobs.{isIdle, isRunning, isPeer}
 use Rattle.run.specs.declared.Next.{Next}
+use Rattle.run.specs.Run.{receiver}
 use Rattle.run.specs.Still.{possible}
 use Rattle.run.proofs.Bound.{some-left}
 use Rattle.recovery.specs.Cases.{start, case1, case2, case3, caseOf, begun}
-use Rattle.recovery.specs.Recovery.{withRoster, over, posted, beginning, tried}
-use Rattle.exits.specs.Exit.{refused}
+use Rattle.recovery.specs.Recovery.{withRoster, jobEnded, posted, beginning, tried, disablingBut}
+use Rattle.exits.specs.Exit.{refused, triedAfter}
 use Rattle.exits.proofs.Laws.{halts}
-use Rattle.kept.specs.Rosters.{Ok}
+use Rattle.keeps.specs.Rosters.{Ok}
 use Rattle.joins.specs.Joins.{createRefusal, createDone, joinCreate, assembleRefusal, assembleDone, joinAssemble}
 use Rattle.enables.specs.Enables.{enableRefusal, enableDone, enable, maintenanceRefusal, maintenanceDone, maintenance}
 use Rattle.links.specs.Links.{downRefusal, dropped, downAt, downDone, linkDown, checkRefusal, checkDone, storeCheck, tryRefusal, tryRun}
@@ -45,31 +48,58 @@ use Rattle.writes.specs.Writes.{writeRefusal, loses, missed, marks, writeDone, 
 use Rattle.answers.specs.Answers.{answerRefusal, answered, answer}
 use Rattle.client.specs.declared.Client.{Client}
 use Rattle.client.specs.Client.{soundFor, removeTurn, writeTurn, answerTurn, syncedTurn, cleanTo}
-use Rattle.events.specs.Events.{Event, outOf, next}
+use Rattle.events.specs.Events.{Event, turnOf, outOf, next, isAccepted}
 use Rattle.events.specs.Tests.{testsOf}
 use Rattle.order.proofs.Order.{none-applies}
-use Rattle.bounds.specs.Demand3.{isTaken, isAnswer, most}
+use Rattle.bounds.specs.Demand3.{isAnswer, most}
 
--- ---- the run in hand afterwards is that of one of the three cases
+-- ---- the run in hand after an event is one that recovery tried began
 
-abbrev pub Fresh : Pool → Type 0
-Fresh q = (r : Run) → q .job ≡ Job.Running r → begun (q .roster) ≡ Next.On r
+-- The turn is that of an event that tried recovery in a pool without a job.
+pub record ByTrial (p : Pool) (u : Turn) : Type 0 where
+  pub after : Pool
+  pub outcome : Outcome
+  pub told : Told
+  pub turn : u ≡ triedAfter p after outcome told
+  pub idle : after ≡ jobEnded (withRoster p (after .roster))
 
-no-run : (j : Job) (ro : Roster) → isRunning j ≡ false → (r : Run) → j ≡ Job.Running r → begun ro ≡ Next.On r
-no-run j ro e r z = clash (ap isRunning z) e
+abbrev pub Tries : Pool → Turn → Type 0
+Tries p u = isRunning (u .pool .job) ≡ true → ByTrial p u
+
+no-run : (p : Pool) (u : Turn) → isRunning (u .pool .job) ≡ false → Tries p u
+no-run p u e z = clash z e
 
 idle-none : (j : Job) → isIdle j ≡ true → isRunning j ≡ false
 idle-none Job.Idle e = refl
 idle-none (Job.Running r) e = clash refl (sym e)
 idle-none (Job.Removing m) e = refl
 
-tried-fresh : (p : Pool) → isRunning (p .job) ≡ false → Fresh (tried p .pool)
-unfolding tried posted
-tried-fresh p i = at (begun (p .roster)) refl
+idle-is : (j : Job) → isIdle j ≡ true → j ≡ Job.Idle
+idle-is Job.Idle e = refl
+idle-is (Job.Running r) e = clash refl (sym e)
+idle-is (Job.Removing m) e = clash refl (sym e)
+
+by-trial : (p : Pool) (ro : Roster) (outcome : Outcome) (told : Told) → isIdle (p .job) ≡ true → Tries p (triedAfter p (withRoster p ro) outcome told)
+by-trial p ro outcome told i z =
+    record {
+      after = withRoster p ro;
+      outcome = outcome;
+      told = told;
+      turn = refl;
+      idle = ap (λ (j : Job). at j) (idle-is (p .job) i);
+    }
   where
-    at : (n : Next) → begun (p .roster) ≡ n → Fresh (beginning n p .pool)
-    at Next.Over e = no-run _ _ i
-    at (Next.On s) e = λ r z. let q : s ≡ r = cc z in e ∙ ap (λ (x : Run). Next.On x) q
+    at : Job → Pool
+    at j = record { roster = ro; job = j; number = p .number; chunks = p .chunks }
+
+-- the run that a trial began
+pub trial-run : (p : Pool) (r : Run) → isRunning (p .job) ≡ false → tried p .pool .job ≡ Job.Running r → begun (p .roster) ≡ Next.On r
+unfolding tried posted
+trial-run p r i = at (begun (p .roster)) refl
+  where
+    at : (n : Next) → begun (p .roster) ≡ n → beginning n p .pool .job ≡ Job.Running r → begun (p .roster) ≡ Next.On r
+    at Next.Over e z = clash (ap isRunning z) i
+    at (Next.On s) e z = let q : s ≡ r = cc z in e ∙ ap (λ (x : Run). Next.On x) q
 
 -- ---- no removal begins a run
 
@@ -103,67 +133,76 @@ well-calm : (st : Stage) (p : Pool) (id : ℕ) → Calm (removal.wellAnswered st
 well-calm Stage.Leave p id = departed-calm (removal.paid p id) id
 well-calm (Stage.Info peer) p id = onward-calm p id (Stage.Info peer) Effect.Keep
 
-answered-calm : (m : Removal) (p : Pool) (a : Reply) → Calm (removal.answered m p a)
+answered-calm : (m : Removal) (p : Pool) (a : Reply) → Calm (removal.removalAnswered m p a)
 answered-calm m p Reply.Failed = refl
 answered-calm m p (Reply.Good b) = well-calm (m .stage) p (m .id)
 
 -- ---- every event but an answer
 
-turned : (P : Pool → Type 0) (n : ℕ) (done : Turn) (p : Pool) → (n ≡ 0 → P (done .pool)) → isTaken (pick (eqb n 0) done (refused p n) .answer) ≡ true → P (pick (eqb n 0) done (refused p n) .pool)
+turned : (P : Turn → Type 0) (n : ℕ) (done : Turn) (p : Pool) → (n ≡ 0 → P done) → isAccepted (pick (eqb n 0) done (refused p n) .answer) ≡ true → P (pick (eqb n 0) done (refused p n))
 turned P n done p change = at (eqb n 0) refl
   where
-    at : (b : Bool) → eqb n 0 ≡ b → isTaken (pick b done (refused p n) .answer) ≡ true → P (pick b done (refused p n) .pool)
+    at : (b : Bool) → eqb n 0 ≡ b → isAccepted (pick b done (refused p n) .answer) ≡ true → P (pick b done (refused p n))
     at true e t = change (eqb-true n 0 e)
     at false e t = clash t refl
 
-either : (P : Pool → Type 0) (b : Bool) (x y : Turn) → P (x .pool) → P (y .pool) → P (pick b x y .pool)
+either : (P : Turn → Type 0) (b : Bool) (x y : Turn) → P x → P y → P (pick b x y)
 either P true x y p q = p
 either P false x y p q = q
 
-down-fresh : (j : Job) (p : Pool) (id : ℕ) → p .job ≡ j → Fresh (downAt j p id .pool)
-down-fresh Job.Idle p id e = no-run _ _ (ap isRunning e)
-down-fresh (Job.Running r) p id e = tried-fresh (over (withRoster p (dropped (p .roster) id))) refl
-down-fresh (Job.Removing m) p id e =
-    halts Fresh (isPeer (Job.Removing m) id) (withRoster p (dropped (p .roster) id)) (no-run _ _ refl) (no-run _ _ (ap isRunning e))
+-- a pool without a run
+abbrev Quiet : Pool → Type 0
+Quiet q = isRunning (q .job) ≡ false
+
+down-tries : (j : Job) (p : Pool) (id : ℕ) → p .job ≡ j → Tries p (downAt j p id)
+down-tries Job.Idle p id e = no-run p _ (ap isRunning e)
+down-tries (Job.Running r) p id e =
+    λ z. record { after = jobEnded (withRoster p (dropped (p .roster) id)); outcome = Outcome.Taken (r .taken); told = disablingBut id (receiver r); turn = refl; idle = refl }
+down-tries (Job.Removing m) p id e =
+    no-run p _ (halts Quiet (isPeer (Job.Removing m) id) (withRoster p (dropped (p .roster) id)) refl (ap isRunning e))
 
 -- no job is in hand where the sixth test does not hold
-idle-at : (p : Pool) → not (isIdle (p .job)) ≡ false → isRunning (p .job) ≡ false
-idle-at p e = idle-none (p .job) (not-false (isIdle (p .job)) e)
+idle-at : (p : Pool) → not (isIdle (p .job)) ≡ false → isIdle (p .job) ≡ true
+idle-at p e = not-false (isIdle (p .job)) e
 
-marks-fresh : (before after : Pool) (chunk reached : ℕ) → Fresh after → Fresh (marks before after chunk reached .pool)
+marks-quiet : (p q : Pool) (chunk reached : ℕ) → Quiet q → Quiet (marks p q chunk reached .pool)
 unfolding marks
-marks-fresh before after chunk reached f = either Fresh (eqb reached 0) _ _ f f
+marks-quiet p q chunk reached f = either (λ u. Quiet (u .pool)) (eqb reached 0) _ _ f f
 
-pub event-fresh : (e : Event) (c : Client) → isAnswer e ≡ false → isTaken (outOf e c .answer) ≡ true → Fresh (next e c .pool)
+pub event-tries : (e : Event) (c : Client) → isAnswer e ≡ false → isAccepted (outOf e c .answer) ≡ true → Tries (c .pool) (turnOf e c)
 unfolding joinCreate createRefusal createDone joinAssemble assembleRefusal assembleDone enable enableRefusal enableDone maintenance maintenanceRefusal maintenanceDone linkDown downDone storeCheck checkRefusal checkDone tryRun tryRefusal remove removeTurn writeEnded writeRefusal writeDone writeTurn synced syncRefusal syncDone syncedTurn
-event-fresh (Event.joinCreate id) c n =
-    turned Fresh (createRefusal (c .pool) id) _ (c .pool) (λ e. no-run _ _ (idle-at (c .pool) (none-applies (testsOf (Event.joinCreate id) c) e 5 (omega arith))))
-event-fresh (Event.joinAssemble id set version) c n =
-    turned Fresh (assembleRefusal (c .pool) id set version) _ (c .pool)
-    (λ e. tried-fresh _ (idle-at (c .pool) (none-applies (testsOf (Event.joinAssemble id set version) c) e 5 (omega arith))))
-event-fresh (Event.enable id) c n =
-    turned Fresh (enableRefusal (c .pool) id) _ (c .pool)
+event-tries (Event.joinCreate id) c n =
+    turned (Tries (c .pool)) (createRefusal (c .pool) id) _ (c .pool)
+    (λ e. no-run (c .pool) _ (idle-none (c .pool .job) (idle-at (c .pool) (none-applies (testsOf (Event.joinCreate id) c) e 5 (omega arith)))))
+event-tries (Event.joinAssemble id set version) c n =
+    turned (Tries (c .pool)) (assembleRefusal (c .pool) id set version) _ (c .pool)
+    (λ e. by-trial (c .pool) _ _ _ (idle-at (c .pool) (none-applies (testsOf (Event.joinAssemble id set version) c) e 5 (omega arith))))
+event-tries (Event.enable id) c n =
+    turned (Tries (c .pool)) (enableRefusal (c .pool) id) _ (c .pool)
     (λ e. let i = idle-at (c .pool) (none-applies (testsOf (Event.enable id) c) e 5 (omega arith)) in
-    either Fresh (isCreated (sessionAt (c .pool .roster) id .state)) _ _ (no-run _ _ i) (tried-fresh _ i))
-event-fresh (Event.maintenance id) c n =
-    turned Fresh (maintenanceRefusal (c .pool) id) _ (c .pool) (λ e. no-run _ _ (idle-at (c .pool) (none-applies (testsOf (Event.maintenance id) c) e 5 (omega arith))))
-event-fresh (Event.linkDown id) c n = turned Fresh (downRefusal (c .pool) id) _ (c .pool) (λ e. down-fresh (c .pool .job) (c .pool) id refl)
-event-fresh (Event.storeCheck id) c n =
-    turned Fresh (checkRefusal (c .pool) id) _ (c .pool)
+    either (Tries (c .pool)) (isCreated (sessionAt (c .pool .roster) id .state)) _ _ (no-run (c .pool) _ (idle-none (c .pool .job) i)) (by-trial (c .pool) _ _ _ i))
+event-tries (Event.maintenance id) c n =
+    turned (Tries (c .pool)) (maintenanceRefusal (c .pool) id) _ (c .pool)
+    (λ e. no-run (c .pool) _ (idle-none (c .pool .job) (idle-at (c .pool) (none-applies (testsOf (Event.maintenance id) c) e 5 (omega arith)))))
+event-tries (Event.linkDown id) c n = turned (Tries (c .pool)) (downRefusal (c .pool) id) _ (c .pool) (λ e. down-tries (c .pool .job) (c .pool) id refl)
+event-tries (Event.storeCheck id) c n =
+    turned (Tries (c .pool)) (checkRefusal (c .pool) id) _ (c .pool)
     (λ e. let i = idle-at (c .pool) (none-applies (testsOf (Event.storeCheck id) c) e 5 (omega arith)) in
-    either Fresh (c .pool .roster .sync) _ _ (no-run _ _ i) (tried-fresh _ i))
-event-fresh Event.tryRun c n =
-    turned Fresh (tryRefusal (c .pool)) _ (c .pool) (λ e. tried-fresh (c .pool) (idle-at (c .pool) (none-applies (testsOf Event.tryRun c) e 5 (omega arith))))
-event-fresh (Event.remove xs id mode) c n = turned Fresh (removeRefusal (c .pool) (soundFor c xs) id mode) _ (c .pool) (λ e. no-run _ _ (started-calm _ id))
-event-fresh (Event.write xs chunk reached) c n =
-    turned Fresh (writeRefusal (c .pool) (soundFor c xs) chunk reached) _ (c .pool)
+    either (Tries (c .pool)) (c .pool .roster .sync) _ _ (no-run (c .pool) _ (idle-none (c .pool .job) i)) (by-trial (c .pool) _ _ _ i))
+event-tries Event.tryRun c n =
+    turned (Tries (c .pool)) (tryRefusal (c .pool)) _ (c .pool)
+    (λ e. by-trial (c .pool) (c .pool .roster) _ _ (idle-at (c .pool) (none-applies (testsOf Event.tryRun c) e 5 (omega arith))))
+event-tries (Event.remove xs id mode) c n = turned (Tries (c .pool)) (removeRefusal (c .pool) (soundFor c xs) id mode) _ (c .pool) (λ e. no-run (c .pool) _ (started-calm _ id))
+event-tries (Event.write xs chunk reached) c n =
+    turned (Tries (c .pool)) (writeRefusal (c .pool) (soundFor c xs) chunk reached) _ (c .pool)
     (λ e. let i : isRunning (c .pool .job) ≡ false = none-applies (testsOf (Event.write xs chunk reached) c) e 5 (omega arith) in
-    marks-fresh (c .pool) _ chunk reached
-    (halts Fresh (loses (c .pool .job) (c .pool .roster) reached) (withRoster (c .pool) (missed (c .pool .roster) reached)) (no-run _ _ refl) (no-run _ _ i)))
-event-fresh (Event.synced xs member chunk) c n =
-    turned Fresh (syncRefusal (c .pool) (soundFor c xs) member chunk (cleanTo xs chunk 16)) _ (c .pool)
-    (λ e. no-run _ _ (none-applies (testsOf (Event.synced xs member chunk) c) e 5 (omega arith)))
-event-fresh (Event.answer xs number a) c n = clash refl n
+    no-run (c .pool) _
+    (marks-quiet (c .pool) _ chunk reached
+    (halts Quiet (loses (c .pool .job) (c .pool .roster) reached) (withRoster (c .pool) (missed (c .pool .roster) reached)) refl i)))
+event-tries (Event.synced xs member chunk) c n =
+    turned (Tries (c .pool)) (syncRefusal (c .pool) (soundFor c xs) member chunk (cleanTo xs chunk 16)) _ (c .pool)
+    (λ e. no-run (c .pool) _ (none-applies (testsOf (Event.synced xs member chunk) c) e 5 (omega arith)))
+event-tries (Event.answer xs number a) c n = clash refl n
 
 -- ---- an answer begins no run
 
@@ -199,9 +238,9 @@ unfolding possible
 most-1 members normals candidates r true e = clash (ap isOn e) refl
 most-1 members normals candidates r false e = starts members (3 * size candidates) (Phase.Spread Step.Ready) (lowest normals) candidates r e (omega arith)
 
-most-2 : (members x candidates : ℕ) (r : Run) (b : Bool) → pick b (start Phase.Enable x (without candidates x)) Next.Over ≡ Next.On r → Most members (3 * size (without candidates x) + 1) r
+most-2 : (members x candidates : ℕ) (r : Run) (b : Bool) → pick b (start (Phase.Enable false) x (without candidates x)) Next.Over ≡ Next.On r → Most members (3 * size (without candidates x) + 1) r
 unfolding possible
-most-2 members x candidates r true e = starts members (3 * size (without candidates x) + 1) Phase.Enable x (without candidates x) r e (omega arith)
+most-2 members x candidates r true e = starts members (3 * size (without candidates x) + 1) (Phase.Enable false) x (without candidates x) r e (omega arith)
 most-2 members x candidates r false e = clash (ap isOn e) refl
 
 most-3 : (members : ℕ) (r : Run) (a b : Bool) → members < 65536 → eqb members 0 ≡ a → pick (a || b) Next.Over (start (Phase.Versions 0) (lowest members) members) ≡ Next.On r → Most members (11 * size members - 8) r

@@ -1,14 +1,16 @@
--- The course of a run through answers handed in: every answer taken lowers what is still possible and raises the count by one.
+-- The course of a run through events, whatever they are: every awaited answer lowers what is still possible and raises the count by one, and all else but a link down
+-- passes it by.
 use mathlib.Core.Path.{_≡_, refl, sym, ap, _∙_, subst}
-use mathlib.Core.Bool.{Bool, true, false, not}
+use mathlib.Core.Bool.{Bool, true, false, not, _&&_, _||_, and-true}
 use mathlib.Core.List.{List, [], _∷_}
 use Prim.Native.Nat.{ℕ, _+_, _-_, _≤_, _<_}
 use native.Mathlib.Omega.{arith}
 use lib.Dec.{eqb}
 use lib.ListN.{length}
-use borrow.Author.Tests.{eqb-true, eq-eqb, not-false}
+use borrow.Author.Tests.{eqb-true, eq-eqb}
 use Rattle.laws.specs.Words.{pick, one}
-use Rattle.laws.specs.Tests.{clash, and-left}
+use Rattle.laws.specs.Tests.{clash, and-false}
+use Rattle.refusals.specs.Refusals.{applies}
 use Rattle.maps.specs.Map.{sound}
 use Rattle.state.specs.declared.Roster.{Roster}
 use Rattle.state.specs.declared.Run.{Run}
@@ -17,34 +19,37 @@ use Rattle.state.specs.declared.Pool.{Pool}
 use Rattle.state.specs.declared.Reply.{Reply}
 use Rattle.state.specs.declared.Turn.{Turn}
 use Rattle.rules.specs.Rules.{jobOk}
-use Rattle.rules.specs.Jobs.{isIdle}
+use Rattle.rules.specs.Jobs.{isIdle, isRunning}
 use Rattle.run.specs.declared.Who.{Who}
 use Rattle.run.specs.declared.Next.{Next}
 use Rattle.run.specs.declared.Move.{Move}
 use Rattle.run.specs.Run as run
 use Rattle.run.specs.Still.{possible}
 use Rattle.run.proofs.Bound.{counted-one, stillIn, Carries, Lowers, taken-well, lowers}
-use Rattle.recovery.specs.Recovery.{withRoster, over, posted, goneOn}
+use Rattle.recovery.specs.Recovery.{withRoster, jobEnded, posted, goneOn}
 use Rattle.exits.specs.Exit.{refused}
-use Rattle.kept.specs.Pools.{Valid, valid-of}
-use Rattle.kept.specs.Runs.{RunOk, run-facts, entered-members}
+use Rattle.keeps.specs.Pools.{Valid, valid-of}
+use Rattle.keeps.specs.Runs.{RunOk, run-facts, entered-members}
+use Rattle.links.specs.Links.{downRefusal, downAt, downDone, linkDown}
 use Rattle.answers.specs.Answers as answers
 use Rattle.answers.proofs.Kept.{fit-of}
 use Rattle.client.specs.declared.Client.{Client}
 use Rattle.client.specs.Client.{soundFor, answerTurn}
-use Rattle.events.specs.Events.{Event, turnOf, next}
+use Rattle.events.specs.Events.{Event, turnOf, next, isAccepted}
 use Rattle.events.specs.Tests.{testsOf}
 use Rattle.order.proofs.Order.{none-applies}
+use Rattle.events.proofs.Shape.{whyNot}
+use Rattle.events.proofs.Demand1.{refused-turn}
 use Rattle.events.proofs.Keeps.{event-keeps}
-use Rattle.bounds.specs.Demand3.{Given, given, after, isTaken, taken, counted, reported, Stands, replied}
+use Rattle.bounds.specs.Demand3.{isAnswer, isDown, through, awaitedAnswers, countOf, lastCount, anyCut, lastsPast, during, Stands, replied}
 
 -- ---- the course
 
 -- What becomes of a client in whose run t answers were taken and `left` are still possible.
-pub record Course (gs : List Given) (c : Client) (t left : ℕ) : Type 0 where
-  pub few : taken gs c ≤ left
-  pub count : reported gs c t ≡ t + taken gs c
-  pub stands : Stands (after gs c .pool .job) (t + taken gs c) (t + left)
+pub record Course (es : List Event) (c : Client) (t left : ℕ) : Type 0 where
+  pub few : awaitedAnswers es c ≤ left
+  pub count : lastCount es c t ≡ t + awaitedAnswers es c
+  pub stands : anyCut es c ≡ false → Stands (through es c .pool .job) (t + awaitedAnswers es c) (t + left)
 
 pub stands-on : (j : Job) (t t′ m m′ : ℕ) → t ≡ t′ → m ≤ m′ → Stands j t m → Stands j t′ m′
 stands-on Job.Idle t t′ m m′ e l s = tt
@@ -55,48 +60,33 @@ stands-on (Job.Removing d) t t′ m m′ e l s = s
 abbrev of : Pool → Client
 of p = record { pool = p }
 
--- ---- nothing is awaited: every answer is refused
+-- The course after the turn of an event: `answer` and `down` say what it is, es is what follows.
+record CourseBy (answer down : Bool) (es : List Event) (u : Turn) (t left : ℕ) : Type 0 where
+  few : one (isAccepted (u .answer) && answer) + awaitedAnswers es (of (u .pool)) ≤ left
+  count : lastCount es (of (u .pool)) (countOf (u .answer) t) ≡ t + (one (isAccepted (u .answer) && answer) + awaitedAnswers es (of (u .pool)))
+  stands : ((isAccepted (u .answer) && down) || anyCut es (of (u .pool))) ≡ false
+      → Stands (through es (of (u .pool)) .pool .job) (t + (one (isAccepted (u .answer) && answer) + awaitedAnswers es (of (u .pool)))) (t + left)
 
-answer-turn : (c : Client) (xs : List ℕ) (number : ℕ) (a : Reply) (b : Bool) → eqb (answers.answerRefusal (c .pool) (soundFor c xs) number) 0 ≡ b
-    → turnOf (Event.answer xs number a) c ≡ pick b (answers.answered (c .pool .job) (c .pool) a) (refused (c .pool) (answers.answerRefusal (c .pool) (soundFor c xs) number))
-unfolding answerTurn answers.answer
-answer-turn c xs number a b e = ap (λ (x : Bool). pick x (answers.answered (c .pool .job) (c .pool) a) (refused (c .pool) (answers.answerRefusal (c .pool) (soundFor c xs) number))) e
+-- what follows it, where the run lasts or not
+abbrev following : List Event → Bool → Pool → List Event
+following es lasts p = pick lasts (during es (of p)) []
 
--- an answer that is taken was awaited
-was-awaited : (c : Client) (xs : List ℕ) (number : ℕ) (a : Reply) → answers.answerRefusal (c .pool) (soundFor c xs) number ≡ 0 → isIdle (c .pool .job) ≡ false
-unfolding answers.answerRefusal
-was-awaited c xs number a e =
-    let w = not-false (answers.awaits (c .pool) number) (none-applies (testsOf (Event.answer xs number a) c) e 12 (omega arith)) in
-    not-true′ (isIdle (c .pool .job)) (and-left (not (isIdle (c .pool .job))) (eqb number (c .pool .number)) w)
-  where
-    not-true′ : (b : Bool) → not b ≡ true → b ≡ false
-    not-true′ true q = sym q
-    not-true′ false q = refl
-
--- the course after a turn
-record CourseBy (gs : List Given) (u : Turn) (t left : ℕ) : Type 0 where
-  few : one (isTaken (u .answer)) + taken gs (of (u .pool)) ≤ left
-  count : reported gs (of (u .pool)) (counted (u .answer) t) ≡ t + (one (isTaken (u .answer)) + taken gs (of (u .pool)))
-  stands : Stands (after gs (of (u .pool)) .pool .job) (t + (one (isTaken (u .answer)) + taken gs (of (u .pool)))) (t + left)
-
-whole : (g : Given) (gs : List Given) (c : Client) (u : Turn) (t left : ℕ) → turnOf (given g) c ≡ u → CourseBy gs u t left → Course (g ∷ gs) c t left
-whole g gs c u t left q h =
-    let k : CourseBy gs (turnOf (given g) c) t left = subst (λ (x : Turn). CourseBy gs x t left) (sym q) h in
+whole : (e : Event) (es : List Event) (c : Client) (u : Turn) (lasts : Bool) (t left : ℕ) → turnOf e c ≡ u → lastsPast e c ≡ lasts → CourseBy (isAnswer e) (isDown e) (following es lasts (u .pool)) u t left → Course (during (e ∷ es) c) c t left
+whole e es c u lasts t left q l h =
+    let k : CourseBy (isAnswer e) (isDown e) (following es (lastsPast e c) (next e c .pool)) (turnOf e c) t left =
+    subst (λ (x : Turn). CourseBy (isAnswer e) (isDown e) (following es (lastsPast e c) (x .pool)) x t left) (sym q)
+    (subst (λ (b : Bool). CourseBy (isAnswer e) (isDown e) (following es b (u .pool)) u t left) (sym l) h) in
     record { few = k .few; count = k .count; stands = k .stands }
 
--- a refused answer changes nothing
-passes : (gs : List Given) (c : Client) (n t left : ℕ) → Course gs c t left → CourseBy gs (refused (c .pool) n) t left
-passes gs c n t left h =
-    let z : t + taken gs c ≡ t + (0 + taken gs c) = omega arith in
-    record { few = omega (arith, h .few); count = h .count ∙ z; stands = stands-on (after gs c .pool .job) _ _ (t + left) (t + left) z (omega arith) (h .stands) }
-
-idle-step : (g : Given) (gs : List Given) (c : Client) (t : ℕ) (b : Bool) → eqb (answers.answerRefusal (c .pool) (soundFor c (g .map)) (g .number)) 0 ≡ b → c .pool .job ≡ Job.Idle → Course gs c t 0 → Course (g ∷ gs) c t 0
-idle-step g gs c t true z e h = clash (ap isIdle e) (was-awaited c (g .map) (g .number) (g .reply) (eqb-true _ 0 z))
-idle-step g gs c t false z e h = whole g gs c _ t 0 (answer-turn c (g .map) (g .number) (g .reply) false z) (passes gs c _ t 0 h)
-
-pub course-idle : (gs : List Given) (c : Client) (t : ℕ) → c .pool .job ≡ Job.Idle → Course gs c t 0
-course-idle [] c t e = record { few = omega arith; count = omega arith; stands = subst (λ (j : Job). Stands j (t + 0) (t + 0)) (sym e) tt }
-course-idle (g ∷ gs) c t e = idle-step g gs c t (eqb (answers.answerRefusal (c .pool) (soundFor c (g .map)) (g .number)) 0) refl e (course-idle gs c t e)
+-- a refused event changes nothing
+passes : (answer down : Bool) (es : List Event) (c : Client) (n t left : ℕ) → Course (during es c) c t left → CourseBy answer down (during es c) (refused (c .pool) n) t left
+passes answer down es c n t left h =
+    let z : t + awaitedAnswers (during es c) c ≡ t + (0 + awaitedAnswers (during es c) c) = omega arith in
+    record {
+      few = omega (arith, h .few);
+      count = h .count ∙ z;
+      stands = λ u. stands-on (through (during es c) c .pool .job) _ _ (t + left) (t + left) z (omega arith) (h .stands u);
+    }
 
 -- ---- a run is in hand
 
@@ -125,13 +115,13 @@ raised : (c : Client) (r : Run) → InHand c r → run.counted (r .taken) ≡ r 
 raised c r h =
     counted-one (r .taken) (omega (arith, facts c r h .most, some-possible c r h))
 
--- a session that becomes NORMAL leaves the membership
+-- a session that becomes NORMAL leaves the membership as it was
 same-members : (w : Who) (ro : Roster) → ro .sync ≡ false → answers.enteredBy w ro .members ≡ ro .members
 same-members Who.Nobody ro e = refl
 same-members (Who.One id) ro e = entered-members ro id e
 
-abbrev Ahead : List Given → Type 0
-Ahead gs = (c : Client) (r : Run) → InHand c r → Course gs c (r .taken) (possible (c .pool .roster .members) r)
+abbrev Ahead : List Event → Type 0
+Ahead es = (c : Client) (r : Run) → InHand c r → Course (during es c) c (r .taken) (possible (c .pool .roster .members) r)
 
 -- a run that sends its message is in hand
 in-hand : (r : Run) (p : Pool) → Valid (goneOn (Next.On r) p .pool) → InHand (of (goneOn (Next.On r) p .pool)) r
@@ -142,98 +132,182 @@ posted-roster : (r : Run) (p : Pool) → goneOn (Next.On r) p .pool .roster ≡ 
 unfolding posted
 posted-roster r p = refl
 
--- the rest of the course, after an answer with which the count is t: the run is over, or goes on
-on-course : (gs : List Given) → Ahead gs → (n : Next) (p : Pool) (t left : ℕ) → Valid (goneOn n p .pool) → Carries t n → stillIn (p .roster .members) n < left
-    → (taken gs (of (goneOn n p .pool)) < left)
-    × (reported gs (of (goneOn n p .pool)) t ≡ t + taken gs (of (goneOn n p .pool)))
-    × Stands (after gs (of (goneOn n p .pool)) .pool .job) (t + taken gs (of (goneOn n p .pool))) (t + (left - 1))
-on-course gs rec Next.Over p t left v k l =
-    let h = course-idle gs (of (over p)) t refl in
-    (omega (arith, h .few), h .count, stands-on (after gs (of (over p)) .pool .job) (t + taken gs (of (over p))) (t + taken gs (of (over p))) (t + 0) (t + (left - 1)) refl (omega arith) (h .stands))
-on-course gs rec (Next.On r) p t left v k l = rest (subst (λ (ro : Roster). Course gs (of (goneOn (Next.On r) p .pool)) (r .taken) (possible (ro .members) r)) (posted-roster r p) (rec (of (goneOn (Next.On r) p .pool)) r (in-hand r p v)))
-  where
-    rest : Course gs (of (goneOn (Next.On r) p .pool)) (r .taken) (possible (p .roster .members) r)
-        → (taken gs (of (goneOn (Next.On r) p .pool)) < left)
-        × (reported gs (of (goneOn (Next.On r) p .pool)) t ≡ t + taken gs (of (goneOn (Next.On r) p .pool)))
-        × Stands (after gs (of (goneOn (Next.On r) p .pool)) .pool .job) (t + taken gs (of (goneOn (Next.On r) p .pool))) (t + (left - 1))
-    rest h = (
-      omega (arith, h .few),
-      subst (λ (x : ℕ). reported gs (of (goneOn (Next.On r) p .pool)) x ≡ x + taken gs (of (goneOn (Next.On r) p .pool))) k (h .count),
-      stands-on (after gs (of (goneOn (Next.On r) p .pool)) .pool .job) (r .taken + taken gs (of (goneOn (Next.On r) p .pool))) (t + taken gs (of (goneOn (Next.On r) p .pool))) (r .taken + possible (p .roster .members) r) (t + (left - 1)) (ap (λ (x : ℕ). x + taken gs (of (goneOn (Next.On r) p .pool))) k) (omega (arith, k)) (h .stands),
-    )
+-- what follows an awaited answer: nothing where the run is over
+abbrev rest : List Event → Next → Pool → List Event
+rest es n p = following es (isRunning (goneOn n p .pool .job)) (goneOn n p .pool)
 
--- ---- one answer in a run
+-- the rest of the course, after an answer with which the count is t
+abbrev Onward : List Event → Next → Pool → ℕ → ℕ → Type 0
+Onward es n p t left =
+    (awaitedAnswers (rest es n p) (of (goneOn n p .pool)) < left)
+    × (lastCount (rest es n p) (of (goneOn n p .pool)) t ≡ t + awaitedAnswers (rest es n p) (of (goneOn n p .pool)))
+    × (anyCut (rest es n p) (of (goneOn n p .pool)) ≡ false
+    → Stands (through (rest es n p) (of (goneOn n p .pool)) .pool .job) (t + awaitedAnswers (rest es n p) (of (goneOn n p .pool))) (t + (left - 1)))
 
--- the pool after an answer that is taken
+goes-on : (ds : List Event) (c : Client) (t t′ still left : ℕ) → t ≡ t′ → still < left → Course ds c t still
+    → (awaitedAnswers ds c < left) × (lastCount ds c t′ ≡ t′ + awaitedAnswers ds c) × (anyCut ds c ≡ false → Stands (through ds c .pool .job) (t′ + awaitedAnswers ds c) (t′ + (left - 1)))
+goes-on ds c t t′ still left k l h = (
+  omega (arith, h .few),
+  subst (λ (x : ℕ). lastCount ds c x ≡ x + awaitedAnswers ds c) k (h .count),
+  λ u. stands-on (through ds c .pool .job) (t + awaitedAnswers ds c) (t′ + awaitedAnswers ds c) (t + still) (t′ + (left - 1)) (ap (λ (x : ℕ). x + awaitedAnswers ds c) k) (omega (arith, k)) (h .stands u),
+)
+
+onward : (es : List Event) → Ahead es → (n : Next) (p : Pool) (t left : ℕ) → Valid (goneOn n p .pool) → Carries t n → stillIn (p .roster .members) n < left → Onward es n p t left
+unfolding posted
+onward es rec Next.Over p t left v k l = (l, (let z : t ≡ t + 0 = omega arith in z), λ u. tt)
+onward es rec (Next.On r) p t left v k l =
+    goes-on (during es (of (goneOn (Next.On r) p .pool))) (of (goneOn (Next.On r) p .pool)) (r .taken) t (possible (p .roster .members) r) left k l
+    (rec (of (goneOn (Next.On r) p .pool)) r (in-hand r p v))
+
+-- ---- an awaited answer
+
+-- the pool after it
 abbrev movedOn : Client → Run → Reply → Pool
 movedOn c r a = withRoster (c .pool) (answers.enteredBy (takesIn c r a .normal) (c .pool .roster))
 
-took-turn : (c : Client) (r : Run) (xs : List ℕ) (number : ℕ) (a : Reply) → c .pool .job ≡ Job.Running r → eqb (answers.answerRefusal (c .pool) (soundFor c xs) number) 0 ≡ true
+answer-turn : (c : Client) (xs : List ℕ) (number : ℕ) (a : Reply) → eqb (whyNot (Event.answer xs number a) c) 0 ≡ true → turnOf (Event.answer xs number a) c ≡ answers.answered (c .pool .job) (c .pool) a
+unfolding answerTurn answers.answer answers.answerRefusal
+answer-turn c xs number a z = rw z refl
+
+pub took-turn : (c : Client) (r : Run) (xs : List ℕ) (number : ℕ) (a : Reply) → c .pool .job ≡ Job.Running r → eqb (whyNot (Event.answer xs number a) c) 0 ≡ true
     → turnOf (Event.answer xs number a) c ≡ answers.reported (c .pool) (takesIn c r a)
-took-turn c r xs number a e z = answer-turn c xs number a true z ∙ ap (λ (j : Job). answers.answered j (c .pool) a) e
+took-turn c r xs number a e z = answer-turn c xs number a z ∙ ap (λ (j : Job). answers.answered j (c .pool) a) e
 
-took : (gs : List Given) → Ahead gs → (g : Given) (c : Client) (r : Run) → InHand c r → eqb (answers.answerRefusal (c .pool) (soundFor c (g .map)) (g .number)) 0 ≡ true
-    → CourseBy gs (answers.reported (c .pool) (takesIn c r (g .reply))) (r .taken) (possible (c .pool .roster .members) r)
-unfolding answers.moved
-took gs rec g c r h z = put (on-course gs rec (takesIn c r (g .reply) .next) (movedOn c r (g .reply)) (run.counted (r .taken)) (possible (c .pool .roster .members) r) valid′ (w .carries) fewer′)
+took-lasts : (c : Client) (r : Run) (xs : List ℕ) (number : ℕ) (a : Reply) → c .pool .job ≡ Job.Running r → eqb (whyNot (Event.answer xs number a) c) 0 ≡ true
+    → lastsPast (Event.answer xs number a) c ≡ isRunning (answers.reported (c .pool) (takesIn c r a) .pool .job)
+took-lasts c r xs number a e z = rw (took-turn c r xs number a e z) (and-true (isRunning (answers.reported (c .pool) (takesIn c r a) .pool .job)))
+
+took : (es : List Event) → Ahead es → (xs : List ℕ) (number : ℕ) (a : Reply) (c : Client) (r : Run) → InHand c r → eqb (whyNot (Event.answer xs number a) c) 0 ≡ true
+    → CourseBy true false (following es (isRunning (answers.reported (c .pool) (takesIn c r a) .pool .job)) (answers.reported (c .pool) (takesIn c r a) .pool)) (answers.reported (c .pool) (takesIn c r a)) (r .taken) (possible (c .pool .roster .members) r)
+unfolding answers.movedOn
+took es rec xs number a c r h z = put (onward es rec (takesIn c r a .next) (movedOn c r a) (run.counted (r .taken)) (possible (c .pool .roster .members) r) valid′ (w .carries) fewer′)
   where
-    w : Lowers (taken-well (c .pool .roster .version) r (g .reply)) (possible (c .pool .roster .members) r) (c .pool .roster .members) r (takesIn c r (g .reply))
-    w = fewer c r (g .reply) h
+    w : Lowers (taken-well (c .pool .roster .version) r a) (possible (c .pool .roster .members) r) (c .pool .roster .members) r (takesIn c r a)
+    w = fewer c r a h
 
-    valid′ : Valid (goneOn (takesIn c r (g .reply) .next) (movedOn c r (g .reply)) .pool)
-    valid′ = subst (λ (u : Turn). Valid (u .pool)) (took-turn c r (g .map) (g .number) (g .reply) (h .job) z) (event-keeps (given g) c (h .valid))
+    valid′ : Valid (goneOn (takesIn c r a .next) (movedOn c r a) .pool)
+    valid′ = subst (λ (u : Turn). Valid (u .pool)) (took-turn c r xs number a (h .job) z) (event-keeps (Event.answer xs number a) c (h .valid))
 
-    fewer′ : stillIn (movedOn c r (g .reply) .roster .members) (takesIn c r (g .reply) .next) < possible (c .pool .roster .members) r
+    fewer′ : stillIn (movedOn c r a .roster .members) (takesIn c r a .next) < possible (c .pool .roster .members) r
     fewer′ =
-        subst (λ (m : ℕ). stillIn m (takesIn c r (g .reply) .next) < possible (c .pool .roster .members) r)
-        (sym (same-members (takesIn c r (g .reply) .normal) (c .pool .roster) (facts c r h .plain))) (w .fewer)
+        subst (λ (m : ℕ). stillIn m (takesIn c r a .next) < possible (c .pool .roster .members) r)
+        (sym (same-members (takesIn c r a .normal) (c .pool .roster) (facts c r h .plain))) (w .fewer)
 
     c′ : Client
-    c′ = of (goneOn (takesIn c r (g .reply) .next) (movedOn c r (g .reply)) .pool)
+    c′ = of (goneOn (takesIn c r a .next) (movedOn c r a) .pool)
 
-    put : (taken gs c′ < possible (c .pool .roster .members) r)
-        × (reported gs c′ (run.counted (r .taken)) ≡ run.counted (r .taken) + taken gs c′)
-        × Stands (after gs c′ .pool .job) (run.counted (r .taken) + taken gs c′) (run.counted (r .taken) + (possible (c .pool .roster .members) r - 1))
-        → CourseBy gs (answers.reported (c .pool) (takesIn c r (g .reply))) (r .taken) (possible (c .pool .roster .members) r)
+    ds : List Event
+    ds = rest es (takesIn c r a .next) (movedOn c r a)
+
+    put : Onward es (takesIn c r a .next) (movedOn c r a) (run.counted (r .taken)) (possible (c .pool .roster .members) r)
+        → CourseBy true false (following es (isRunning (answers.reported (c .pool) (takesIn c r a) .pool .job)) (answers.reported (c .pool) (takesIn c r a) .pool)) (answers.reported (c .pool) (takesIn c r a)) (r .taken) (possible (c .pool .roster .members) r)
     put k =
         let one-more = raised c r h in
-        let same : run.counted (r .taken) + taken gs c′ ≡ r .taken + (1 + taken gs c′) = omega (arith, one-more) in
+        let same : run.counted (r .taken) + awaitedAnswers ds c′ ≡ r .taken + (1 + awaitedAnswers ds c′) = omega (arith, one-more) in
         record {
           few = omega (arith, k .0);
-          count = ap (λ (n : ℕ). reported gs c′ n) (w .raised) ∙ (k .1 ∙ same);
-          stands = stands-on (after gs c′ .pool .job) (run.counted (r .taken) + taken gs c′) (r .taken + (1 + taken gs c′)) (run.counted (r .taken) + (possible (c .pool .roster .members) r - 1)) (r .taken + possible (c .pool .roster .members) r) same (omega (arith, one-more, some-possible c r h)) (k .2);
+          count = ap (λ (n : ℕ). lastCount ds c′ n) (w .raised) ∙ (k .1 ∙ same);
+          stands = λ u. stands-on (through ds c′ .pool .job) (run.counted (r .taken) + awaitedAnswers ds c′) (r .taken + (1 + awaitedAnswers ds c′)) (run.counted (r .taken) + (possible (c .pool .roster .members) r - 1)) (r .taken + possible (c .pool .roster .members) r) same (omega (arith, one-more, some-possible c r h)) (k .2 u);
         }
 
-step : (gs : List Given) → Ahead gs → (g : Given) (c : Client) (r : Run) → InHand c r → (b : Bool) → eqb (answers.answerRefusal (c .pool) (soundFor c (g .map)) (g .number)) 0 ≡ b
-    → Course (g ∷ gs) c (r .taken) (possible (c .pool .roster .members) r)
-step gs rec g c r h true z = whole g gs c _ _ _ (took-turn c r (g .map) (g .number) (g .reply) (h .job) z) (took gs rec g c r h z)
-step gs rec g c r h false z = whole g gs c _ _ _ (answer-turn c (g .map) (g .number) (g .reply) false z) (passes gs c _ _ _ (rec c r h))
+-- ---- a link down
 
--- Every course of a run, through answers handed in, whatever they are.
-pub course : (gs : List Given) (c : Client) (r : Run) → InHand c r → Course gs c (r .taken) (possible (c .pool .roster .members) r)
+down-turn : (c : Client) (id : ℕ) → eqb (whyNot (Event.linkDown id) c) 0 ≡ true → turnOf (Event.linkDown id) c ≡ downAt (c .pool .job) (c .pool) id
+unfolding linkDown downDone downRefusal
+down-turn c id z = rw z refl
+
+-- one that is accepted ends the run
+pub cut-turn : (c : Client) (r : Run) (id : ℕ) → c .pool .job ≡ Job.Running r → eqb (whyNot (Event.linkDown id) c) 0 ≡ true → turnOf (Event.linkDown id) c ≡ downAt (Job.Running r) (c .pool) id
+cut-turn c r id e z = down-turn c id z ∙ ap (λ (j : Job). downAt j (c .pool) id) e
+
+-- and no event that follows comes to it
+cut-lasts : (c : Client) (r : Run) (id : ℕ) → c .pool .job ≡ Job.Running r → eqb (whyNot (Event.linkDown id) c) 0 ≡ true → lastsPast (Event.linkDown id) c ≡ false
+cut-lasts c r id e z = rw (cut-turn c r id e z) (and-false (isRunning (downAt (Job.Running r) (c .pool) id .pool .job)))
+
+-- its result counts the answers taken
+cut : (p : Pool) (r : Run) (id left : ℕ) → CourseBy false true [] (downAt (Job.Running r) p id) (r .taken) left
+cut p r id left = record { few = omega arith; count = omega arith; stands = λ u. clash refl u }
+
+-- ---- any event
+
+-- one that is refused
+refused-lasts : (e : Event) (c : Client) (r : Run) → c .pool .job ≡ Job.Running r → eqb (whyNot e c) 0 ≡ false → lastsPast e c ≡ true
+refused-lasts e c r q z = rw (refused-turn e c z, q) refl
+
+refused-passes : (es : List Event) → Ahead es → (e : Event) (c : Client) (r : Run) → InHand c r → eqb (whyNot e c) 0 ≡ false → Course (during (e ∷ es) c) c (r .taken) (possible (c .pool .roster .members) r)
+refused-passes es rec e c r h z =
+    whole e es c _ true _ _ (refused-turn e c z) (refused-lasts e c r (h .job) z) (passes (isAnswer e) (isDown e) es c (whyNot e c) _ _ (rec c r h))
+
+-- the sixth test of every event but answers and link down holds while a run is in hand
+pub six : (c : Client) (r : Run) → c .pool .job ≡ Job.Running r → (e : Event) → isAnswer e ≡ false → isDown e ≡ false → applies 6 (testsOf e c) ≡ true
+six c r q (Event.joinCreate id) a d = ap (λ (j : Job). not (isIdle j)) q
+six c r q (Event.joinAssemble id set version) a d = ap (λ (j : Job). not (isIdle j)) q
+six c r q (Event.enable id) a d = ap (λ (j : Job). not (isIdle j)) q
+six c r q (Event.maintenance id) a d = ap (λ (j : Job). not (isIdle j)) q
+six c r q (Event.linkDown id) a d = clash refl d
+six c r q (Event.storeCheck id) a d = ap (λ (j : Job). not (isIdle j)) q
+six c r q Event.tryRun a d = ap (λ (j : Job). not (isIdle j)) q
+six c r q (Event.remove xs id mode) a d = ap (λ (j : Job). not (isIdle j)) q
+six c r q (Event.write xs chunk reached) a d = ap isRunning q
+six c r q (Event.synced xs member chunk) a d = ap isRunning q
+six c r q (Event.answer xs number x) a d = clash refl a
+
+-- so none of them is accepted
+barred-out {ℓ} : {A : Type ℓ} (c : Client) (r : Run) → c .pool .job ≡ Job.Running r → (e : Event) → isAnswer e ≡ false → isDown e ≡ false → eqb (whyNot e c) 0 ≡ true → A
+barred-out c r q e a d z = clash (six c r q e a d) (none-applies (testsOf e c) (eqb-true (whyNot e c) 0 z) 5 (omega arith))
+
+-- one that is accepted
+accepted-course : (es : List Event) → Ahead es → (e : Event) (c : Client) (r : Run) → InHand c r → eqb (whyNot e c) 0 ≡ true → Course (during (e ∷ es) c) c (r .taken) (possible (c .pool .roster .members) r)
+accepted-course es rec (Event.answer xs number a) c r h z =
+    whole (Event.answer xs number a) es c _ _ _ _ (took-turn c r xs number a (h .job) z) (took-lasts c r xs number a (h .job) z) (took es rec xs number a c r h z)
+accepted-course es rec (Event.linkDown id) c r h z =
+    whole (Event.linkDown id) es c _ false _ _ (cut-turn c r id (h .job) z) (cut-lasts c r id (h .job) z) (cut (c .pool) r id _)
+accepted-course es rec (Event.joinCreate id) c r h z = barred-out c r (h .job) (Event.joinCreate id) refl refl z
+accepted-course es rec (Event.joinAssemble id set version) c r h z = barred-out c r (h .job) (Event.joinAssemble id set version) refl refl z
+accepted-course es rec (Event.enable id) c r h z = barred-out c r (h .job) (Event.enable id) refl refl z
+accepted-course es rec (Event.maintenance id) c r h z = barred-out c r (h .job) (Event.maintenance id) refl refl z
+accepted-course es rec (Event.storeCheck id) c r h z = barred-out c r (h .job) (Event.storeCheck id) refl refl z
+accepted-course es rec Event.tryRun c r h z = barred-out c r (h .job) Event.tryRun refl refl z
+accepted-course es rec (Event.remove xs id mode) c r h z = barred-out c r (h .job) (Event.remove xs id mode) refl refl z
+accepted-course es rec (Event.write xs chunk reached) c r h z = barred-out c r (h .job) (Event.write xs chunk reached) refl refl z
+accepted-course es rec (Event.synced xs member chunk) c r h z = barred-out c r (h .job) (Event.synced xs member chunk) refl refl z
+
+step : (es : List Event) → Ahead es → (e : Event) (c : Client) (r : Run) → InHand c r → (b : Bool) → eqb (whyNot e c) 0 ≡ b → Course (during (e ∷ es) c) c (r .taken) (possible (c .pool .roster .members) r)
+step es rec e c r h true z = accepted-course es rec e c r h z
+step es rec e c r h false z = refused-passes es rec e c r h z
+
+-- The course of every run, whatever comes.
+pub course : (es : List Event) → Ahead es
 course [] c r h =
     record {
       few = omega arith;
       count = omega arith;
-      stands = subst (λ (j : Job). Stands j (r .taken + 0) (r .taken + possible (c .pool .roster .members) r)) (sym (h .job)) ((let q : r .taken ≡ r .taken + 0 = omega arith in q), omega (arith, some-possible c r h));
+      stands = λ u. subst (λ (j : Job). Stands j (r .taken + 0) (r .taken + possible (c .pool .roster .members) r)) (sym (h .job)) ((let q : r .taken ≡ r .taken + 0 = omega arith in q), omega (arith, some-possible c r h));
     }
-course (g ∷ gs) c r h = step gs (course gs) g c r h (eqb (answers.answerRefusal (c .pool) (soundFor c (g .map)) (g .number)) 0) refl
+course (e ∷ es) c r h = step es (course es) e c r h (eqb (whyNot e c) 0) refl
 
 -- ---- replies under the awaited numbers
 
--- with a sound map, an answer under the awaited number is taken
-accepts : (c : Client) (r : Run) (xs : List ℕ) → InHand c r → soundFor c xs ≡ true → answers.answerRefusal (c .pool) (soundFor c xs) (c .pool .number) ≡ 0
-unfolding answers.answerRefusal
-accepts c r xs h s = simp (valid-of (c .pool) (h .valid), s, h .job, eq-eqb (c .pool .number) (c .pool .number) refl)
+-- with a sound map, an answer under the awaited number is not refused
+pub not-refused : (c : Client) (r : Run) (xs : List ℕ) (a : Reply) → InHand c r → soundFor c xs ≡ true → whyNot (Event.answer xs (c .pool .number) a) c ≡ 0
+not-refused c r xs a h s = simp (valid-of (c .pool) (h .valid), s, h .job, eq-eqb (c .pool .number) (c .pool .number) refl)
 
 -- where nothing is awaited, replies change nothing
-idle-next : (c : Client) (xs : List ℕ) (a : Reply) (b : Bool) → eqb (answers.answerRefusal (c .pool) (soundFor c xs) (c .pool .number)) 0 ≡ b → c .pool .job ≡ Job.Idle → next (Event.answer xs (c .pool .number) a) c .pool .job ≡ Job.Idle
-idle-next c xs a true z e = clash (ap isIdle e) (was-awaited c xs (c .pool .number) a (eqb-true _ 0 z))
-idle-next c xs a false z e = ap (λ (u : Turn). u .pool .job) (answer-turn c xs (c .pool .number) a false z) ∙ e
+idle-next : (c : Client) (xs : List ℕ) (a : Reply) → c .pool .job ≡ Job.Idle → next (Event.answer xs (c .pool .number) a) c .pool .job ≡ Job.Idle
+idle-next c xs a e = at (eqb (whyNot (Event.answer xs (c .pool .number) a) c) 0) refl
+  where
+    n : ℕ
+    n = c .pool .number
 
-pub idle-stays : (xs : List ℕ) (rs : List Reply) (c : Client) → c .pool .job ≡ Job.Idle → replied xs rs c .pool .job ≡ Job.Idle
+    at : (b : Bool) → eqb (whyNot (Event.answer xs (c .pool .number) a) c) 0 ≡ b → next (Event.answer xs (c .pool .number) a) c .pool .job ≡ Job.Idle
+    at true z =
+        clash (ap (λ (j : Job). not (not (isIdle j) && eqb n n)) e)
+        (none-applies (testsOf (Event.answer xs n a) c) (eqb-true (whyNot (Event.answer xs n a) c) 0 z) 12 (omega arith))
+    at false z = ap (λ (u : Turn). u .pool .job) (refused-turn (Event.answer xs n a) c z) ∙ e
+
+idle-stays : (xs : List ℕ) (rs : List Reply) (c : Client) → c .pool .job ≡ Job.Idle → replied xs rs c .pool .job ≡ Job.Idle
 idle-stays xs [] c e = e
-idle-stays xs (a ∷ rs) c e = idle-stays xs rs (next (Event.answer xs (c .pool .number) a) c) (idle-next c xs a (eqb (answers.answerRefusal (c .pool) (soundFor c xs) (c .pool .number)) 0) refl e)
+idle-stays xs (a ∷ rs) c e = idle-stays xs rs (next (Event.answer xs (c .pool .number) a) c) (idle-next c xs a e)
 
 abbrev Ending : List ℕ → List Reply → Type 0
 Ending xs rs = (c : Client) (r : Run) → InHand c r → soundFor c xs ≡ true → possible (c .pool .roster .members) r ≤ length rs → replied xs rs c .pool .job ≡ Job.Idle
@@ -245,13 +319,13 @@ same-chunks (Next.On r) p = refl
 
 on-ending : (xs : List ℕ) (rs : List Reply) → Ending xs rs → (n : Next) (p : Pool) → Valid (goneOn n p .pool) → soundFor (of (goneOn n p .pool)) xs ≡ true → stillIn (p .roster .members) n ≤ length rs
     → replied xs rs (of (goneOn n p .pool)) .pool .job ≡ Job.Idle
-on-ending xs rs rec Next.Over p v s l = idle-stays xs rs (of (over p)) refl
+on-ending xs rs rec Next.Over p v s l = idle-stays xs rs (of (jobEnded p)) refl
 on-ending xs rs rec (Next.On r) p v s l =
     rec (of (goneOn (Next.On r) p .pool)) r (in-hand r p v) s
     (subst (λ (ro : Roster). possible (ro .members) r ≤ length rs) (sym (posted-roster r p)) l)
 
 reply-ends : (xs : List ℕ) (a : Reply) (rs : List Reply) → Ending xs rs → Ending xs (a ∷ rs)
-unfolding answers.moved
+unfolding answers.movedOn
 reply-ends xs a rs rec c r h s l =
     subst (λ (u : Turn). replied xs rs (of (u .pool)) .pool .job ≡ Job.Idle) (sym turn)
     (on-ending xs rs rec (takesIn c r a .next) (movedOn c r a) valid′
@@ -259,7 +333,7 @@ reply-ends xs a rs rec c r h s l =
     (omega (arith, fewer′, l)))
   where
     turn : turnOf (Event.answer xs (c .pool .number) a) c ≡ answers.reported (c .pool) (takesIn c r a)
-    turn = took-turn c r xs (c .pool .number) a (h .job) (eq-eqb _ 0 (accepts c r xs h s))
+    turn = took-turn c r xs (c .pool .number) a (h .job) (eq-eqb _ 0 (not-refused c r xs a h s))
 
     valid′ : Valid (goneOn (takesIn c r a .next) (movedOn c r a) .pool)
     valid′ = subst (λ (u : Turn). Valid (u .pool)) turn (event-keeps (Event.answer xs (c .pool .number) a) c (h .valid))

@@ -1,100 +1,153 @@
 -- Demand 3, first half.
-use mathlib.Core.Path.{_≡_, refl, sym, ap, _∙_, subst}
-use mathlib.Core.Bool.{Bool, true, false, not}
+use mathlib.Core.Path.{_≡_, refl, sym, ap, _∙_}
+use mathlib.Core.Bool.{true, false, not, _&&_, _||_}
+use mathlib.Core.List.{List}
 use Prim.Native.Nat.{ℕ, _+_}
 use native.Mathlib.Omega.{arith}
 use lib.Dec.{eqb}
-use Rattle.laws.specs.Words.{pick}
-use Rattle.laws.specs.Tests.{clash}
-use Rattle.refusals.specs.Refusals.{applies}
+use borrow.Author.Tests.{eq-eqb}
+use Rattle.laws.specs.Tests.{by-cases, clash, and-false}
+use Rattle.state.specs.declared.Roster.{Roster}
 use Rattle.state.specs.declared.Run.{Run}
 use Rattle.state.specs.declared.Job.{Job}
 use Rattle.state.specs.declared.Pool.{Pool}
-use Rattle.rules.specs.Jobs.{isIdle, isRunning}
+use Rattle.state.specs.declared.Outcome.{Outcome}
+use Rattle.state.specs.declared.Turn.{Turn}
+use Rattle.rules.specs.Jobs.{isRunning}
+use Rattle.run.specs.declared.Next.{Next}
+use Rattle.run.specs.Run.{receiver}
 use Rattle.run.specs.Still.{possible}
-use Rattle.exits.specs.Exit.{refused}
-use Rattle.links.specs.Links.{downRefusal, downAt, downDone, linkDown}
+use Rattle.recovery.specs.Cases.{begun}
+use Rattle.recovery.specs.Recovery.{withRoster, jobEnded, tried, disablingBut}
+use Rattle.exits.specs.Exit.{numberOf}
+use Rattle.keeps.specs.Tried.{tried-roster}
+use Rattle.links.specs.Links.{downAt}
 use Rattle.client.specs.declared.Client.{Client}
-use Rattle.events.specs.Events.{Event, outOf, next}
-use Rattle.events.specs.Tests.{testsOf}
+use Rattle.events.specs.Events.{Event, turnOf, outOf, next, isAccepted}
 use Rattle.events.specs.Demand1.{Verdict}
 use Rattle.events.specs.Demand2.{Reached}
-use Rattle.events.proofs.Demand1.{demand-1}
+use Rattle.events.proofs.Shape.{whyNot}
+use Rattle.events.proofs.Demand1.{demand-1, refused-turn}
 use Rattle.events.proofs.Demand2.{reached-valid}
-use Rattle.bounds.specs.Demand3.{after, isTaken, taken, reported, isAnswer, isDown, most, Begins, Afresh, Barred, NoneByAnswer, Bounded, AtMost, Over, Counts, CutOff}
-use Rattle.bounds.proofs.Begin.{event-fresh, answer-calm, begun-most}
-use Rattle.bounds.proofs.Course.{Course, InHand, course, stands-on, ends}
+use Rattle.bounds.specs.Demand3.{isAnswer, cutsOff, through, awaitedAnswers, lastCount, during, most, Begins, triedIn, Afresh, Barred, Bounded, AtMost, NoneLost, Enough, cutPool, CutOff}
+use Rattle.bounds.proofs.Begin.{ByTrial, trial-run, event-tries, answer-calm, begun-most}
+use Rattle.bounds.proofs.Course.{Course, InHand, course, stands-on, took-turn, cut-turn, six, not-refused, ends}
 
 -- ---- how it begins
 
+-- a refused event leaves the run that was in hand
+accepts : (c : Client) (e : Event) (r : Run) → Begins c e r → isAccepted (outOf e c .answer) ≡ true
+accepts c e r b = at (demand-1 e c)
+  where
+    at : Verdict e c → isAccepted (outOf e c .answer) ≡ true
+    at (Verdict.refused n p h) =
+        let was : isRunning (c .pool .job) ≡ true = ap isRunning (sym (ap (λ (x : Client). x .pool .job) (h .client)) ∙ b .run) in
+        let old : (not (isRunning (c .pool .job)) || cutsOff e c) ≡ false = rw (was, p) refl in
+        clash (b .new) old
+    at (Verdict.done s p h) = ap isAccepted p
+
+no-answer : (c : Client) (e : Event) (r : Run) → Begins c e r → isAnswer e ≡ false
+no-answer c (Event.joinCreate id) r b = refl
+no-answer c (Event.joinAssemble id set version) r b = refl
+no-answer c (Event.enable id) r b = refl
+no-answer c (Event.maintenance id) r b = refl
+no-answer c (Event.linkDown id) r b = refl
+no-answer c (Event.storeCheck id) r b = refl
+no-answer c Event.tryRun r b = refl
+no-answer c (Event.remove xs id mode) r b = refl
+no-answer c (Event.write xs chunk reached) r b = refl
+no-answer c (Event.synced xs member chunk) r b = refl
+no-answer c (Event.answer xs number a) r b =
+    by-cases (isRunning (c .pool .job))
+    (λ q. clash (b .new) (let z : (not (isRunning (c .pool .job)) || cutsOff (Event.answer xs number a) c) ≡ false = rw (q, and-false (isAccepted (outOf (Event.answer xs number a) c .answer))) refl in z))
+    (λ q. clash (ap isRunning (b .run)) (answer-calm c xs number a q))
+
 pub afresh : Afresh
 afresh c e r b =
-    let f = event-fresh e c (b .event) (b .accepted) r (b .run) in
-    (f, begun-most (next e c .pool .roster) r (reached-valid (next e c) (Reached.then c e (b .reached)) .ok) f .1)
+    record {
+      event = no-answer c e r b;
+      case = case;
+      count = begun-most (next e c .pool .roster) r (reached-valid (next e c) (Reached.then c e (b .reached)) .ok) case .1;
+      pool = pool ∙ ap (λ (p : Pool). tried p .pool) same;
+      sent = record { outcome = t .outcome; told = t .told; awaited = tried (t .after) .awaited; number = numberOf (tried (t .after) .awaited) (tried (t .after) .pool .number) };
+      accepted = ap (λ (u : Turn). u .answer) (t .turn);
+      awaited = ap (λ (p : Pool). tried p .awaited) same;
+      number = ap (λ (p : Pool). numberOf (tried (t .after) .awaited) (p .number)) (sym pool);
+    }
+  where
+    t : ByTrial (c .pool) (turnOf e c)
+    t = event-tries e c (no-answer c e r b) (accepts c e r b) (ap isRunning (b .run))
 
-pub none-by-answer : NoneByAnswer
-none-by-answer c q g i = answer-calm c (g .map) (g .number) (g .reply) i
+    pool : next e c .pool ≡ tried (t .after) .pool
+    pool = ap (λ (u : Turn). u .pool) (t .turn)
 
--- the sixth test of every event but answers and link down holds while a run is in hand
-six : (c : Client) (r : Run) → c .pool .job ≡ Job.Running r → (e : Event) → isAnswer e ≡ false → isDown e ≡ false → applies 6 (testsOf e c) ≡ true
-six c r q (Event.joinCreate id) a d = ap (λ (j : Job). not (isIdle j)) q
-six c r q (Event.joinAssemble id set version) a d = ap (λ (j : Job). not (isIdle j)) q
-six c r q (Event.enable id) a d = ap (λ (j : Job). not (isIdle j)) q
-six c r q (Event.maintenance id) a d = ap (λ (j : Job). not (isIdle j)) q
-six c r q (Event.linkDown id) a d = clash refl d
-six c r q (Event.storeCheck id) a d = ap (λ (j : Job). not (isIdle j)) q
-six c r q Event.tryRun a d = ap (λ (j : Job). not (isIdle j)) q
-six c r q (Event.remove xs id mode) a d = ap (λ (j : Job). not (isIdle j)) q
-six c r q (Event.write xs chunk reached) a d = ap isRunning q
-six c r q (Event.synced xs member chunk) a d = ap isRunning q
-six c r q (Event.answer xs number x) a d = clash refl a
+    roster : t .after .roster ≡ next e c .pool .roster
+    roster = sym (tried-roster (t .after)) ∙ sym (ap (λ (p : Pool). p .roster) pool)
+
+    same : t .after ≡ triedIn e c
+    same = t .idle ∙ ap (λ (ro : Roster). jobEnded (withRoster (c .pool) ro)) roster
+
+    case : begun (next e c .pool .roster) ≡ Next.On r
+    case = sym (ap begun roster) ∙ trial-run (t .after) r (ap (λ (p : Pool). isRunning (p .job)) (t .idle)) (sym (ap (λ (p : Pool). p .job) pool) ∙ b .run)
+
+-- ---- the bound
 
 pub barred : Barred
 barred c r q e a d = at (demand-1 e c)
   where
-    at : Verdict e c → (isTaken (outOf e c .answer) ≡ false) × (next e c ≡ c)
-    at (Verdict.refused n p h) = (ap isTaken p, h .client)
+    at : Verdict e c → (isAccepted (outOf e c .answer) ≡ false) × (next e c ≡ c)
+    at (Verdict.refused n p h) = (ap isAccepted p, h .client)
     at (Verdict.done s p h) = clash (six c r q e a d) (h 5 (omega arith))
 
 begin-hand : (c : Client) (e : Event) (r : Run) → Begins c e r → InHand (next e c) r
 begin-hand c e r b = record { valid = reached-valid (next e c) (Reached.then c e (b .reached)); job = b .run }
 
--- ---- the bound
+begin-most : (c : Client) (e : Event) (r : Run) → Begins c e r → (possible (next e c .pool .roster .members) r ≡ most (next e c .pool .roster)) × (r .taken ≡ 0)
+begin-most c e r b = begun-most (next e c .pool .roster) r (reached-valid (next e c) (Reached.then c e (b .reached)) .ok) (afresh c e r b .case)
 
 pub at-most : AtMost
-at-most c e r b gs =
-    put (course gs (next e c) r (begin-hand c e r b))
-    (begun-most (next e c .pool .roster) r (reached-valid (next e c) (Reached.then c e (b .reached)) .ok) (afresh c e r b .0))
+at-most c e r b es = put (during es (next e c)) (course es (next e c) r (begin-hand c e r b)) (begin-most c e r b)
   where
-    put : Course gs (next e c) (r .taken) (possible (next e c .pool .roster .members) r) → (possible (next e c .pool .roster .members) r ≡ most (next e c .pool .roster)) × (r .taken ≡ 0)
-        → Bounded gs (next e c) (most (next e c .pool .roster))
-    put h q =
-        let n = taken gs (next e c) in
+    put : (ds : List Event) → Course ds (next e c) (r .taken) (possible (next e c .pool .roster .members) r) → (possible (next e c .pool .roster .members) r ≡ most (next e c .pool .roster)) × (r .taken ≡ 0)
+        → Bounded ds (next e c) (most (next e c .pool .roster))
+    put ds h q =
+        let n = awaitedAnswers ds (next e c) in
         let t : r .taken + n ≡ n = omega (arith, q .1) in
         record {
           few = omega (arith, h .few, q .0);
-          count = ap (λ (k : ℕ). reported gs (next e c) k) (sym (q .1)) ∙ (h .count ∙ t);
-          stands = stands-on (after gs (next e c) .pool .job) _ _ _ (most (next e c .pool .roster)) t (omega (arith, q .0, q .1)) (h .stands);
+          count = ap (λ (k : ℕ). lastCount ds (next e c) k) (sym (q .1)) ∙ (h .count ∙ t);
+          stands = λ u. stands-on (through ds (next e c) .pool .job) _ _ _ (most (next e c .pool .roster)) t (omega (arith, q .0, q .1)) (h .stands u);
         }
 
-pub over : Over
-over c e r b xs s rs l =
-    let q = begun-most (next e c .pool .roster) r (reached-valid (next e c) (Reached.then c e (b .reached)) .ok) (afresh c e r b .0) in
-    ends xs rs (next e c) r (begin-hand c e r b) s (omega (arith, q .0, l))
+pub none-lost : NoneLost
+none-lost c q r e xs s a =
+    let h : InHand c r = record { valid = reached-valid c q; job = e } in
+    ap (λ (u : Turn). isAccepted (u .answer) && true) (took-turn c r xs (c .pool .number) a e (eq-eqb _ 0 (not-refused c r xs a h s)))
+
+pub enough : Enough
+enough c e r b xs s rs l = ends xs rs (next e c) r (begin-hand c e r b) s (omega (arith, begin-most c e r b .0, l))
 
 -- ---- a link down
 
-down-counts : (p : Pool) (id : ℕ) (r : Run) (b : Bool) (n : ℕ) → isTaken (pick b (downAt (Job.Running r) p id) (refused p n) .answer) ≡ true → Counts (pick b (downAt (Job.Running r) p id) (refused p n) .answer) (r .taken)
-down-counts p id r true n t = refl
-down-counts p id r false n t = clash t refl
-
-down-turn : (c : Client) (r : Run) → c .pool .job ≡ Job.Running r → (id : ℕ) → isTaken (outOf (Event.linkDown id) c .answer) ≡ true → Counts (outOf (Event.linkDown id) c .answer) (r .taken)
-unfolding linkDown downDone
-down-turn c r e id =
-    subst (λ (j : Job). isTaken (pick (eqb (downRefusal (c .pool) id) 0) (downAt j (c .pool) id) (refused (c .pool) (downRefusal (c .pool) id)) .answer) ≡ true
-    → Counts (pick (eqb (downRefusal (c .pool) id) 0) (downAt j (c .pool) id) (refused (c .pool) (downRefusal (c .pool) id)) .answer) (r .taken))
-    (sym e) (down-counts (c .pool) id r (eqb (downRefusal (c .pool) id) 0) (downRefusal (c .pool) id))
+-- a refused event is not accepted
+none-refuses : (e : Event) (c : Client) → isAccepted (outOf e c .answer) ≡ true → eqb (whyNot e c) 0 ≡ true
+none-refuses e c t = by-cases (eqb (whyNot e c) 0) (λ z. z) (λ z. clash t (ap (λ (u : Turn). isAccepted (u .answer)) (refused-turn e c z)))
 
 pub cut-off : CutOff
 cut-off c q r e id t =
-    (down-turn c r e id t, λ r′ z. afresh c (Event.linkDown id) r′ (record { reached = q; event = refl; accepted = t; run = z }))
+    record {
+      sent = record { outcome = Outcome.Taken (r .taken); told = disablingBut id (receiver r); awaited = tried (cutPool id c) .awaited; number = numberOf (tried (cutPool id c) .awaited) (tried (cutPool id c) .pool .number) };
+      accepted = ap (λ (u : Turn). u .answer) turn;
+      count = refl;
+      disable = refl;
+      pool = pool;
+      awaited = refl;
+      number = ap (λ (p : Pool). numberOf (tried (cutPool id c) .awaited) (p .number)) (sym pool);
+      afresh = λ r′ z. afresh c (Event.linkDown id) r′ (record { reached = q; run = z; new = rw (t, e) refl }) .count;
+    }
+  where
+    turn : turnOf (Event.linkDown id) c ≡ downAt (Job.Running r) (c .pool) id
+    turn = cut-turn c r id e (none-refuses (Event.linkDown id) c t)
+
+    pool : next (Event.linkDown id) c .pool ≡ tried (cutPool id c) .pool
+    pool = ap (λ (u : Turn). u .pool) turn

@@ -1,6 +1,6 @@
--- Demand 3, first half: once a run has begun, it is over after at most so many answers, whatever they say.
+-- Demand 3, first half: a run is over after at most so many awaited answers, whatever they say and whatever comes between.
 use mathlib.Core.Path.{_≡_}
-use mathlib.Core.Bool.{Bool, true, false, not}
+use mathlib.Core.Bool.{Bool, true, false, not, _&&_, _||_}
 use mathlib.Core.List.{List, [], _∷_}
 use Prim.Native.Nat.{ℕ, _+_, _*_, _-_, _≤_, _<_}
 use lib.Dec.{eqb}
@@ -10,67 +10,26 @@ use Rattle.sets.specs.Sets.{without, size, lowest}
 use Rattle.state.specs.declared.Roster.{Roster}
 use Rattle.state.specs.declared.Run.{Run}
 use Rattle.state.specs.declared.Job.{Job}
+use Rattle.state.specs.declared.Pool.{Pool}
 use Rattle.state.specs.declared.Outcome.{Outcome}
+use Rattle.state.specs.declared.Sent.{Sent}
 use Rattle.state.specs.declared.Answer.{Answer}
 use Rattle.state.specs.declared.Reply.{Reply}
 use Rattle.roster.specs.declared.Kind.{Kind}
 use Rattle.roster.specs.Roster.{idsOf}
 use Rattle.rules.specs.Jobs.{isRunning}
 use Rattle.run.specs.declared.Next.{Next}
+use Rattle.run.specs.Run.{receiver}
 use Rattle.recovery.specs.Cases.{begun}
+use Rattle.recovery.specs.Recovery.{withRoster, jobEnded, tried, disablingBut}
+use Rattle.exits.specs.Exit.{numberOf}
+use Rattle.links.specs.Links.{dropped}
 use Rattle.client.specs.declared.Client.{Client}
 use Rattle.client.specs.Client.{soundFor}
-use Rattle.events.specs.Events.{Event, outOf, next}
+use Rattle.events.specs.Events.{Event, outOf, next, isAccepted}
 use Rattle.events.specs.Demand2.{Reached}
 
--- ---- answers handed in
-
--- An answer as it is handed in: any map lent, any number, good or failed, with any version.
-pub record Given : Type 0 where
-  pub map : List ℕ
-  pub number : ℕ
-  pub reply : Reply
-
-abbrev pub given : Given → Event
-given g = Event.answer (g .map) (g .number) (g .reply)
-
--- the client after answers handed in one after the other, the refused ones with them
-abbrev pub after : List Given → Client → Client
-after [] c = c
-after (g ∷ gs) c = after gs (next (given g) c)
-
--- an answer that is taken is one that is not refused
-abbrev pub isTaken : Answer → Bool
-isTaken (Answer.Refused n) = false
-isTaken (Answer.Done s) = true
-
--- how many of them are taken; refused ones do not count
-abbrev pub taken : List Given → Client → ℕ
-taken [] c = 0
-taken (g ∷ gs) c = one (isTaken (outOf (given g) c .answer)) + taken gs (next (given g) c)
-
--- the count in the last result that has one, n where none has
-abbrev pub countIn : Outcome → ℕ → ℕ
-countIn Outcome.Plain n = n
-countIn (Outcome.Taken k) n = k
-countIn (Outcome.Written acknowledged list) n = n
-
-abbrev pub counted : Answer → ℕ → ℕ
-counted (Answer.Refused why) n = n
-counted (Answer.Done s) n = countIn (s .outcome) n
-
-abbrev pub reported : List Given → Client → ℕ → ℕ
-reported [] c n = n
-reported (g ∷ gs) c n = reported gs (next (given g) c) (counted (outOf (given g) c .answer) n)
-
--- ---- a run that begins
-
--- The most answers of a run that begins with these sessions. Case 1: 3R. Case 2: 3R + 1. Case 3: 11K - 8. R: the receivers. K: the members.
-abbrev pub most : Roster → ℕ
-most ro =
-    pick (not (eqb (idsOf Kind.Normals ro) 0)) (3 * size (idsOf Kind.Candidates ro))
-    (pick (not (eqb (idsOf Kind.Marked ro) 0)) (3 * size (without (idsOf Kind.Candidates ro) (lowest (idsOf Kind.Marked ro))) + 1)
-    (11 * size (ro .members) - 8))
+-- ---- events one after the other
 
 abbrev pub isAnswer : Event → Bool
 isAnswer (Event.joinCreate id) = false
@@ -85,21 +44,6 @@ isAnswer (Event.write xs chunk reached) = false
 isAnswer (Event.synced xs member chunk) = false
 isAnswer (Event.answer xs number a) = true
 
--- An accepted event at a reached client, not an answer, after which the run r is in hand.
-pub record Begins (c : Client) (e : Event) (r : Run) : Type 0 where
-  pub reached : Reached c
-  pub event : isAnswer e ≡ false
-  pub accepted : isTaken (outOf e c .answer) ≡ true
-  pub run : next e c .pool .job ≡ Job.Running r
-
--- Such a run is a new one, that of one of the three cases for the sessions as they are, with no answer taken; and no answer begins a run.
-abbrev pub Afresh : Type 0
-Afresh = (c : Client) (e : Event) (r : Run) → Begins c e r → (begun (next e c .pool .roster) ≡ Next.On r) × (r .taken ≡ 0)
-
-abbrev pub NoneByAnswer : Type 0
-NoneByAnswer = (c : Client) → Reached c → (g : Given) → isRunning (c .pool .job) ≡ false → isRunning (next (given g) c .pool .job) ≡ false
-
--- link down is the one event beside answers that a run lets by
 abbrev pub isDown : Event → Bool
 isDown (Event.joinCreate id) = false
 isDown (Event.joinAssemble id set version) = false
@@ -113,12 +57,107 @@ isDown (Event.write xs chunk reached) = false
 isDown (Event.synced xs member chunk) = false
 isDown (Event.answer xs number a) = false
 
--- While a run is in hand, every event but answers and link down is refused and changes nothing: so what is said below of answers handed in one after the other holds
--- whatever else comes between them, save a link down.
-abbrev pub Barred : Type 0
-Barred = (c : Client) (r : Run) → c .pool .job ≡ Job.Running r → (e : Event) → isAnswer e ≡ false → isDown e ≡ false → (isTaken (outOf e c .answer) ≡ false) × (next e c ≡ c)
+-- an awaited answer: one that is accepted, good or failed
+abbrev pub isAwaited : Event → Client → Bool
+isAwaited e c = isAccepted (outOf e c .answer) && isAnswer e
+
+-- a link down that is accepted
+abbrev pub cutsOff : Event → Client → Bool
+cutsOff e c = isAccepted (outOf e c .answer) && isDown e
+
+-- the client after events, one after the other, the refused ones with them
+abbrev pub through : List Event → Client → Client
+through [] c = c
+through (e ∷ es) c = through es (next e c)
+
+-- how many of them are awaited answers
+abbrev pub awaitedAnswers : List Event → Client → ℕ
+awaitedAnswers [] c = 0
+awaitedAnswers (e ∷ es) c = one (isAwaited e c) + awaitedAnswers es (next e c)
+
+-- the count in the last result that has one, n where none has
+abbrev pub countIn : Outcome → ℕ → ℕ
+countIn Outcome.Plain n = n
+countIn (Outcome.Taken k) n = k
+countIn (Outcome.Written acknowledged list) n = n
+
+abbrev pub countOf : Answer → ℕ → ℕ
+countOf (Answer.Refused why) n = n
+countOf (Answer.Done s) n = countIn (s .outcome) n
+
+abbrev pub lastCount : List Event → Client → ℕ → ℕ
+lastCount [] c n = n
+lastCount (e ∷ es) c n = lastCount es (next e c) (countOf (outOf e c .answer) n)
+
+-- one of them is an accepted link down
+abbrev pub anyCut : List Event → Client → Bool
+anyCut [] c = false
+anyCut (e ∷ es) c = cutsOff e c || anyCut es (next e c)
+
+-- the run in hand lasts past the event: one is in hand after it, and it is no accepted link down
+abbrev pub lastsPast : Event → Client → Bool
+lastsPast e c = isRunning (next e c .pool .job) && not (cutsOff e c)
+
+-- Those that come while the run in hand lasts: up to the answer that is its last or the link down that ends it, that one with them.
+abbrev pub during : List Event → Client → List Event
+during [] c = []
+during (e ∷ es) c = e ∷ pick (lastsPast e c) (during es (next e c)) []
+
+-- ---- a run that begins
+
+-- The most answers of a run that begins with these sessions. Case 1: 3R. Case 2: 3R + 1. Case 3: 11K - 8. R: the receivers. K: the members.
+abbrev pub most : Roster → ℕ
+most ro =
+    pick (not (eqb (idsOf Kind.Normals ro) 0)) (3 * size (idsOf Kind.Candidates ro))
+    (pick (not (eqb (idsOf Kind.Marked ro) 0)) (3 * size (without (idsOf Kind.Candidates ro) (lowest (idsOf Kind.Marked ro))) + 1)
+    (11 * size (ro .members) - 8))
+
+-- After an event at a reached client the run r is in hand, and it is a new one: none was in hand before, or a link down ended it.
+pub record Begins (c : Client) (e : Event) (r : Run) : Type 0 where
+  pub reached : Reached c
+  pub run : next e c .pool .job ≡ Job.Running r
+  pub new : (not (isRunning (c .pool .job)) || cutsOff e c) ≡ true
+
+-- the pool in which an event that tries recovery tries it: the sessions as the event leaves them, no job in hand
+abbrev pub triedIn : Event → Client → Pool
+triedIn e c = jobEnded (withRoster (c .pool) (next e c .pool .roster))
+
+-- The event is an accepted one, and no answer; the run is that of one of the three cases for the sessions as they then are, with no answer taken; the next pool,
+-- the awaited message and its number are those of recovery tried.
+pub record New (c : Client) (e : Event) (r : Run) : Type 0 where
+  pub event : isAnswer e ≡ false
+  pub case : begun (next e c .pool .roster) ≡ Next.On r
+  pub count : r .taken ≡ 0
+  pub pool : next e c .pool ≡ tried (triedIn e c) .pool
+  pub sent : Sent
+  pub accepted : outOf e c .answer ≡ Answer.Done sent
+  pub awaited : sent .awaited ≡ tried (triedIn e c) .awaited
+  pub number : sent .number ≡ numberOf (sent .awaited) (next e c .pool .number)
+
+-- Every run that begins is such a one.
+abbrev pub Afresh : Type 0
+Afresh = (c : Client) (e : Event) (r : Run) → Begins c e r → New c e r
+
+-- a run is in hand at c that began at an earlier client, and all that came since came while it lasted
+pub record Began (c : Client) : Type 0 where
+  pub from : Client
+  pub by : Event
+  pub first : Run
+  pub begins : Begins from by first
+  pub since : List Event
+  pub lasted : during since (next by from) ≡ since
+  pub uncut : anyCut since (next by from) ≡ false
+  pub here : through since (next by from) ≡ c
+
+-- So began every run that is in hand at a reached client.
+abbrev pub EveryRun : Type 0
+EveryRun = (c : Client) → Reached c → (r : Run) → c .pool .job ≡ Job.Running r → Began c
 
 -- ---- the bound
+
+-- While a run is in hand, every event but answers and link down is refused and changes nothing.
+abbrev pub Barred : Type 0
+Barred = (c : Client) (r : Run) → c .pool .job ≡ Job.Running r → (e : Event) → isAnswer e ≡ false → isDown e ≡ false → (isAccepted (outOf e c .answer) ≡ false) × (next e c ≡ c)
 
 -- How the job stands after t answers taken, m being the most: over; or the run is in hand, its count is t, and t is less than m. It is never a removal.
 abbrev pub Stands : Job → ℕ → ℕ → Type 0
@@ -126,37 +165,51 @@ Stands Job.Idle t m = Unit {0}
 Stands (Job.Running r) t m = (r .taken ≡ t) × (t < m)
 Stands (Job.Removing d) t m = ⊥
 
--- of the answers gs, handed in at the client c, in a run that can take m
-pub record Bounded (gs : List Given) (c : Client) (m : ℕ) : Type 0 where
-  pub few : taken gs c ≤ m
-  pub count : reported gs c 0 ≡ taken gs c
-  pub stands : Stands (after gs c .pool .job) (taken gs c) m
+-- of events that come to the client c while its run lasts, m being the most that the run can take
+pub record Bounded (es : List Event) (c : Client) (m : ℕ) : Type 0 where
+  pub few : awaitedAnswers es c ≤ m
+  pub count : lastCount es c 0 ≡ awaitedAnswers es c
+  pub stands : anyCut es c ≡ false → Stands (through es c .pool .job) (awaitedAnswers es c) m
 
--- A run begins, and then answers are handed in, any of them, refused ones among them: at most so many are taken, the count in the result is the number of
--- those taken, and the run is over once that many are.
+-- A run begins, and then events come, any of them, with any data, refused ones among them. Of those that come while it lasts at most so many are awaited answers, the
+-- count in the result is their number, and unless a link down ends it, the run is over once that many are taken.
 abbrev pub AtMost : Type 0
-AtMost = (c : Client) (e : Event) (r : Run) → Begins c e r → (gs : List Given) → Bounded gs (next e c) (most (next e c .pool .roster))
+AtMost = (c : Client) (e : Event) (r : Run) → Begins c e r → (es : List Event) → Bounded (during es (next e c)) (next e c) (most (next e c .pool .roster))
+
+-- While a run is in hand at a reached client, an answer under the awaited number with a sound map is never refused, whatever it says.
+abbrev pub NoneLost : Type 0
+NoneLost = (c : Client) → Reached c → (r : Run) → c .pool .job ≡ Job.Running r → (xs : List ℕ) → soundFor c xs ≡ true → (a : Reply)
+    → isAwaited (Event.answer xs (c .pool .number) a) c ≡ true
 
 -- the client after these replies, each handed in under the awaited number with the map xs
 abbrev pub replied : List ℕ → List Reply → Client → Client
 replied xs [] c = c
 replied xs (a ∷ rs) c = replied xs rs (next (Event.answer xs (c .pool .number) a) c)
 
--- With a sound map and the awaited numbers no answer of a run is refused, so as many replies as the bound says end it, whatever they say.
-abbrev pub Over : Type 0
-Over = (c : Client) (e : Event) (r : Run) → Begins c e r → (xs : List ℕ) → soundFor (next e c) xs ≡ true → (rs : List Reply) → most (next e c .pool .roster) ≤ length rs
+-- So as many replies as the bound says end the run, whatever they say.
+abbrev pub Enough : Type 0
+Enough = (c : Client) (e : Event) (r : Run) → Begins c e r → (xs : List ℕ) → soundFor (next e c) xs ≡ true → (rs : List Reply) → most (next e c .pool .roster) ≤ length rs
     → replied xs rs (next e c) .pool .job ≡ Job.Idle
 
 -- ---- a link down
 
--- the answer is no refusal, and its count is n
-abbrev pub Counts : Answer → ℕ → Type 0
-Counts (Answer.Refused why) n = ⊥
-Counts (Answer.Done s) n = s .outcome ≡ Outcome.Taken n
+-- the pool whose run a link down ended: its session dropped, no job in hand
+abbrev pub cutPool : ℕ → Client → Pool
+cutPool id c = jobEnded (withRoster (c .pool) (dropped (c .pool .roster) id))
 
--- An accepted link down while a run is in hand ends it at once: the result counts the answers taken in that run, and what is in hand afterwards, if anything, is a
--- new run of one of the three cases with no answer taken.
+-- The run r is ended at once, and recovery is tried in the ended pool: the next pool, the awaited message and its number are those of the trial, so the run is not kept,
+-- and one that is in hand afterwards is new, with no answer taken. The result counts the answers taken in the ended run. MAP_DISABLE goes to the receiver in hand,
+-- unless that is the session whose link dropped.
+pub record Cut (c : Client) (r : Run) (id : ℕ) : Type 0 where
+  pub sent : Sent
+  pub accepted : outOf (Event.linkDown id) c .answer ≡ Answer.Done sent
+  pub count : sent .outcome ≡ Outcome.Taken (r .taken)
+  pub disable : sent .told ≡ disablingBut id (receiver r)
+  pub pool : next (Event.linkDown id) c .pool ≡ tried (cutPool id c) .pool
+  pub awaited : sent .awaited ≡ tried (cutPool id c) .awaited
+  pub number : sent .number ≡ numberOf (sent .awaited) (next (Event.linkDown id) c .pool .number)
+  pub afresh : (r′ : Run) → next (Event.linkDown id) c .pool .job ≡ Job.Running r′ → r′ .taken ≡ 0
+
+-- Every accepted link down, while a run is in hand at a reached client, does so.
 abbrev pub CutOff : Type 0
-CutOff = (c : Client) → Reached c → (r : Run) → c .pool .job ≡ Job.Running r → (id : ℕ) → isTaken (outOf (Event.linkDown id) c .answer) ≡ true
-    → Counts (outOf (Event.linkDown id) c .answer) (r .taken)
-    × ((r′ : Run) → next (Event.linkDown id) c .pool .job ≡ Job.Running r′ → (begun (next (Event.linkDown id) c .pool .roster) ≡ Next.On r′) × (r′ .taken ≡ 0))
+CutOff = (c : Client) → Reached c → (r : Run) → c .pool .job ≡ Job.Running r → (id : ℕ) → isAccepted (outOf (Event.linkDown id) c .answer) ≡ true → Cut c r id

@@ -77,7 +77,7 @@ left ro id w =
     (stored ro id (arrived (sessionAt ro id) w false))
     (numbered (stored ro id (arrived (sessionAt ro id) w (eqb (ro .count - 1) 0))) (ro .count - 1) (pick (isFailing w) (more (ro .version)) (ro .version)))
 
--- A session enters FAILED, told by what.
+-- A session enters FAILED, told by what. Nothing keeps the cause yet: it waits for a rule that does.
 unfoldable pub failed : Roster → ℕ → Cause → Roster
 failed ro id cause =
     pick (isNormal (sessionAt ro id .state))
@@ -105,8 +105,8 @@ removing ro id mode =
     (went ro id (State.Removing mode (owes (sessionAt ro id .state))))
 
 -- a new session begins
-abbrev pub begun : Roster → ℕ → State → Roster
-begun ro id st = stored ro id (newSession st)
+abbrev pub enrolled : Roster → ℕ → State → Roster
+enrolled ro id st = stored ro id (newSession st)
 
 -- the session is freed
 abbrev pub freed : Roster → ℕ → Roster

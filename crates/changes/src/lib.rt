@@ -2,13 +2,13 @@
 ghost use mathlib.Core.Path.{_≡_};
 ghost use mathlib.Core.List.{map};
 ghost use Prim.Native.Nat.{max};
-ghost use Rattle.changes.specs.Changes.{more, unmarked, allUnmarked, entered, isFailing, arrived, left, failed, went, owes, removing, begun, freed, flaggedAt, memberEntered, memberDropped, takenOver};
+ghost use Rattle.changes.specs.Changes.{more, unmarked, allUnmarked, entered, isFailing, arrived, left, failed, went, owes, removing, enrolled, freed, flaggedAt, memberEntered, memberDropped, takenOver};
 use state::Mode;
 use state::Roster;
 use state::Session;
 use state::State;
 
-// What made a session FAILED.
+// What made a session FAILED. Nothing keeps it yet.
 pub enum Cause {
     Link,
     Write,
@@ -151,8 +151,8 @@ pub fn remove(ro: Roster, id: u64, mode: Mode) -> Roster
 }
 
 // A new session begins.
-pub fn begin(ro: Roster, id: u64, st: State) -> Roster
-    ensures { λ r. ⌜ r ≡ begun ro id st ⌝ }
+pub fn enroll(ro: Roster, id: u64, st: State) -> Roster
+    ensures { λ r. ⌜ r ≡ enrolled ro id st ⌝ }
 {
     let s = Session::new(st);
     roster::store(ro, id, s)
@@ -162,7 +162,7 @@ pub fn begin(ro: Roster, id: u64, st: State) -> Roster
 pub fn free(ro: Roster, id: u64) -> Roster
     ensures { λ r. ⌜ r ≡ freed ro id ⌝ }
 {
-    begin(ro, id, State::Free)
+    enroll(ro, id, State::Free)
 }
 
 // The maintenance flag of a session is put on or off.

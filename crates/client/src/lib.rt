@@ -1,10 +1,12 @@
 // The compute client: its state, and one method for each event, which takes the state and hands the next one back with the answer. Ids, chunks, sets,
 // versions and answer numbers may be anything; a lent map may have any length.
 ghost use mathlib.Core.Path.{_≡_};
+ghost use Rattle.refusals.specs.Limits.{numbers};
 ghost use Rattle.joins.specs.Joins.{joinCreate, joinAssemble};
 ghost use Rattle.enables.specs.Enables.{enable, maintenance};
 ghost use Rattle.links.specs.Links.{linkDown, storeCheck, tryRun};
 ghost use Rattle.client.specs.Client.{fresh, handed, carried, removeTurn, writeTurn, answerTurn, cleanTo, syncedTurn};
+use refusals::Numbers;
 use state::Answer;
 use state::Effect;
 use state::Job;
@@ -34,6 +36,18 @@ impl Client {
     pub const MAP_BYTES: usize = refusals::MAP_BYTES;
 
     pub const VERSION_LIMIT: u64 = refusals::VERSION_LIMIT;
+
+    // The numbers of the type as a value: those that the rules speak of.
+    pub fn numbers() -> Numbers
+        ensures { λ r. ⌜ r ≡ numbers ⌝ }
+    {
+        Numbers {
+            members: Self::MEMBERS,
+            chunks: Self::CHUNK_LIMIT,
+            bytes: Self::MAP_BYTES as u64,
+            version: Self::VERSION_LIMIT,
+        }
+    }
 
     // A fresh client. A chunk count outside 1 to 4,096 gives a value that every event refuses.
     pub fn fresh(sync: bool, chunks: u64) -> Client

@@ -1,34 +1,32 @@
--- Enable and maintenance, accepted or refused: the state rules are kept; a session's state changes only by the table, and the version
--- never falls; the other sessions' records stay.
+-- Enable and maintenance, accepted or refused, keep the state rules; and what enable leaves of the sessions.
 use mathlib.Core.Path.{_≡_, refl, sym}
-use mathlib.Core.Bool.{Bool, true, false, not, _&&_}
+use mathlib.Core.Bool.{true, false, not, _&&_}
 use mathlib.Core.Logic.{_≢_}
 use Prim.Native.Nat.{ℕ, _<_}
 use native.Mathlib.Omega.{arith}
 use lib.Dec.{ltb}
 use borrow.Author.Tests.{ltb-false, not-false}
+use Rattle.laws.specs.Words.{pick}
 use Rattle.laws.specs.Tests.{by-cases, clash, passed, and-left}
 use Rattle.refusals.specs.Limits.{versionLimit}
 use Rattle.state.specs.declared.State.{State}
 use Rattle.state.specs.declared.Session.{Session}
 use Rattle.state.specs.declared.Pool.{Pool}
-use Rattle.state.specs.Session.{isFree, isCreated, isNormal, isReconnecting, flagged}
-use Rattle.state.specs.Table.{legal}
+use Rattle.state.specs.Session.{isFree, isCreated, isNormal, isReconnecting, moved, flagged}
 use Rattle.changes.specs.declared.Way.{Way}
 use Rattle.roster.specs.Roster.{sessionAt}
-use Rattle.changes.specs.Changes.{unmarked, entered, left, flaggedAt}
+use Rattle.changes.specs.Changes.{more, unmarked, entered, left, flaggedAt}
 use Rattle.recovery.specs.Recovery.{withRoster}
 use Rattle.exits.proofs.Laws.{turned}
 use Rattle.rules.specs.Rules.{validPool}
 use Rattle.rules.specs.Jobs.{isIdle}
-use Rattle.kept.specs.Ids.{Long, stored-other}
-use Rattle.kept.specs.Pools.{Valid}
-use Rattle.kept.specs.Links.{isLive, away-keeps, unflagged-keeps, enters-keeps}
-use Rattle.kept.specs.Tried.{idle-valid, tried-keeps, tried-roster}
-use Rattle.kept.specs.Legal.{Moves, goes, stays, moves-none, moves-stored, moves-entered, moves-left, entered-other, left-other}
+use Rattle.keeps.specs.Ids.{Long, stored-same, stored-other}
+use Rattle.keeps.specs.Pools.{Valid}
+use Rattle.keeps.specs.Links.{isLive, away-keeps, unflagged-keeps, enters-keeps}
+use Rattle.keeps.specs.Tried.{idle-valid, tried-keeps, tried-roster}
+use Rattle.keeps.specs.Runs.{entered-other}
+use Rattle.keeps.specs.Records.{Numbers, entered-at, entered-numbers}
 use Rattle.enables.specs.Enables.{enables, enableRefusal, enableDone, enable, maintenanceRefusal, maintenanceDone, maintenance}
-
--- ---- the states that the events ask for, and the legal changes
 
 created-is : (st : State) → isCreated st ≡ true → (isNormal st ≡ false) × (isLive st ≡ true)
 created-is State.Free e = clash refl (sym e)
@@ -37,22 +35,6 @@ created-is State.Normal e = clash refl (sym e)
 created-is State.Failed e = clash refl (sym e)
 created-is State.Reconnecting e = clash refl (sym e)
 created-is (State.Removing m owed) e = clash refl (sym e)
-
-to-normal : (sync : Bool) (st : State) → isCreated st ≡ true → legal sync st State.Normal ≡ true
-to-normal sync State.Free e = e
-to-normal sync State.Created e = refl
-to-normal sync State.Normal e = clash refl (sym e)
-to-normal sync State.Failed e = clash refl (sym e)
-to-normal sync State.Reconnecting e = clash refl (sym e)
-to-normal sync (State.Removing m owed) e = e
-
-to-maintenance : (st : State) → isNormal st ≡ true → legal false st State.Reconnecting ≡ true
-to-maintenance State.Free e = e
-to-maintenance State.Created e = clash refl (sym e)
-to-maintenance State.Normal e = refl
-to-maintenance State.Failed e = clash refl (sym e)
-to-maintenance State.Reconnecting e = clash refl (sym e)
-to-maintenance (State.Removing m owed) e = e
 
 -- ---- enable
 
@@ -101,31 +83,30 @@ pub enable-keeps : (p : Pool) (id : ℕ) → Valid p → Valid (enable p id .poo
 unfolding enable
 enable-keeps p id v = turned Valid (enableRefusal p id) (enableDone p id) p v (λ e. enable-does p id v (enable-passed p id e))
 
-enable-turns : (p : Pool) (id : ℕ) → Long (p .roster) → Enables p id → Moves (p .roster) (enableDone p id .pool .roster)
+-- What enable leaves of the sessions: from CREATED it is NORMAL, and the mark goes from every other; in maintenance only the flag goes.
+pub enabled-at : (p : Pool) (id : ℕ) → Long (p .roster) → id < 16
+    → sessionAt (enableDone p id .pool .roster) id ≡ pick (isCreated (sessionAt (p .roster) id .state)) (moved (sessionAt (p .roster) id) State.Normal) (flagged (sessionAt (p .roster) id) false)
 unfolding enableDone
-enable-turns p id l h =
+enabled-at p id l h =
     by-cases (isCreated (sessionAt (p .roster) id .state))
-    (λ e. rw e (moves-entered (p .roster) id l (h .below) (goes (p .roster .sync) (sessionAt (p .roster) id .state) State.Normal (to-normal (p .roster .sync) (sessionAt (p .roster) id .state) e))))
-    (λ e. rw (e, tried-roster (withRoster p (flaggedAt (p .roster) id false)))
-    (moves-stored (p .roster) id (flagged (sessionAt (p .roster) id) false) l (h .below) (stays (p .roster .sync) (sessionAt (p .roster) id .state) (sessionAt (p .roster) id .state) refl)))
+    (λ e. rw e (entered-at (p .roster) id l h))
+    (λ e. rw (e, tried-roster (withRoster p (flaggedAt (p .roster) id false))) (stored-same (p .roster) id (flagged (sessionAt (p .roster) id) false) l h))
 
-pub enable-moves : (p : Pool) (id : ℕ) → Long (p .roster) → Moves (p .roster) (enable p id .pool .roster)
-unfolding enable
-enable-moves p id l =
-    turned (λ q. Moves (p .roster) (q .roster)) (enableRefusal p id) (enableDone p id) p (moves-none (p .roster)) (λ e. enable-turns p id l (enable-passed p id e))
-
--- the other sessions stay, save marks that go
-enable-spares : (p : Pool) (id j : ℕ) → j ≢ id → unmarked (sessionAt (enableDone p id .pool .roster) j) ≡ unmarked (sessionAt (p .roster) j)
+pub enabled-other : (p : Pool) (id j : ℕ) → p .roster .sync ≡ false → j ≢ id
+    → sessionAt (enableDone p id .pool .roster) j ≡ pick (isCreated (sessionAt (p .roster) id .state)) (unmarked (sessionAt (p .roster) j)) (sessionAt (p .roster) j)
 unfolding enableDone
-enable-spares p id j ne =
+enabled-other p id j plain ne =
     by-cases (isCreated (sessionAt (p .roster) id .state))
-    (λ e. rw e (entered-other (p .roster) id j ne))
-    (λ e. rw (e, tried-roster (withRoster p (flaggedAt (p .roster) id false)), stored-other (p .roster) id (flagged (sessionAt (p .roster) id) false) j ne) refl)
+    (λ e. rw e (entered-other (p .roster) id j plain ne))
+    (λ e. rw (e, tried-roster (withRoster p (flaggedAt (p .roster) id false))) (stored-other (p .roster) id (flagged (sessionAt (p .roster) id) false) j ne))
 
-pub enable-others : (p : Pool) (id j : ℕ) → j ≢ id → unmarked (sessionAt (enable p id .pool .roster) j) ≡ unmarked (sessionAt (p .roster) j)
-unfolding enable
-enable-others p id j ne =
-    turned (λ q. unmarked (sessionAt (q .roster) j) ≡ unmarked (sessionAt (p .roster) j)) (enableRefusal p id) (enableDone p id) p refl (λ e. enable-spares p id j ne)
+pub enabled-numbers : (p : Pool) (id : ℕ) → p .roster .sync ≡ false
+    → Numbers (p .roster) (enableDone p id .pool .roster) (pick (isCreated (sessionAt (p .roster) id .state)) (more (p .roster .count)) (p .roster .count)) (p .roster .version) (p .roster .members)
+unfolding enableDone
+enabled-numbers p id plain =
+    by-cases (isCreated (sessionAt (p .roster) id .state))
+    (λ e. rw e (entered-numbers (p .roster) id false plain))
+    (λ e. rw (e, tried-roster (withRoster p (flaggedAt (p .roster) id false))) (record { kind = refl; counted = refl; versioned = refl; held = refl }))
 
 -- ---- maintenance
 
@@ -152,16 +133,3 @@ maintenance-keeps p id v =
     turned Valid (maintenanceRefusal p id) (maintenanceDone p id) p v
     (λ e. let h = maintenance-passed p id e in
     idle-valid p (left (p .roster) id Way.Maintenance) v (h .idle) (away-keeps (p .roster) id Way.Maintenance (v .ok) (h .below) (h .plain) (h .normal) refl))
-
-pub maintenance-moves : (p : Pool) (id : ℕ) → Long (p .roster) → Moves (p .roster) (maintenance p id .pool .roster)
-unfolding maintenance maintenanceDone
-maintenance-moves p id l =
-    turned (λ q. Moves (p .roster) (q .roster)) (maintenanceRefusal p id) (maintenanceDone p id) p (moves-none (p .roster))
-    (λ e. let h = maintenance-passed p id e in
-    moves-left (p .roster) id Way.Maintenance l (h .below)
-    (rw (h .plain) (goes false (sessionAt (p .roster) id .state) State.Reconnecting (to-maintenance (sessionAt (p .roster) id .state) (h .normal)))))
-
-pub maintenance-others : (p : Pool) (id j : ℕ) → j ≢ id → sessionAt (maintenance p id .pool .roster) j ≡ sessionAt (p .roster) j
-unfolding maintenance maintenanceDone
-maintenance-others p id j ne =
-    turned (λ q. sessionAt (q .roster) j ≡ sessionAt (p .roster) j) (maintenanceRefusal p id) (maintenanceDone p id) p refl (λ e. left-other (p .roster) id Way.Maintenance j ne)

@@ -13,17 +13,17 @@ use Rattle.state.specs.declared.Turn.{Turn}
 use Rattle.exits.specs.Exit.{refused}
 use Rattle.client.specs.declared.Client.{Client}
 use Rattle.client.specs.Client.{carried}
-use Rattle.events.specs.Events.{Event, turnOf, Lent, lentTo, mapLeft}
+use Rattle.events.specs.Events.{Event, turnOf, isAccepted, Lent, lentTo, mapLeft}
 use Rattle.events.specs.Tests.{testsOf}
 use Rattle.events.specs.Demand1.{Refuses, Verdict, Demand1}
 use Rattle.order.proofs.Order.{first-applies, none-applies}
-use Rattle.events.proofs.Shape.{isDone, whyNot, shape}
+use Rattle.events.proofs.Shape.{whyNot, shape}
 
 record Sends (a : Answer) : Type 0 where
   what : Sent
   is : a ≡ Answer.Done what
 
-sends : (a : Answer) → isDone a ≡ true → Sends a
+sends : (a : Answer) → isAccepted a ≡ true → Sends a
 sends (Answer.Refused n) e = clash e refl
 sends (Answer.Done s) e = record { what = s; is = refl }
 

@@ -1,21 +1,25 @@
 -- Demand 2 for the client: what holds of every reached client, and of every event there.
 use mathlib.Core.Path.{_≡_, refl, sym, ap, _∙_}
-use mathlib.Core.Bool.{true, not}
+use mathlib.Core.Bool.{Bool, true, false, not}
 use Prim.Native.Nat.{ℕ}
-use native.Mathlib.Omega.{arith}
 use Rattle.laws.specs.Tests.{clash}
 use Rattle.refusals.specs.Refusals.{applies}
+use Rattle.state.specs.declared.State.{State}
 use Rattle.state.specs.declared.Answer.{Answer}
+use Rattle.state.specs.Table.{legal}
 use Rattle.rules.specs.Rules.{validPool}
-use Rattle.kept.specs.Pools.{Valid, valid-of}
+use Rattle.keeps.specs.Pools.{Valid, valid-of}
 use Rattle.client.specs.declared.Client.{Client}
-use Rattle.events.specs.Events.{Event, outOf}
+use Rattle.events.specs.Events.{Event, outOf, next}
 use Rattle.events.specs.Tests.{testsOf}
 use Rattle.events.specs.Demand1.{Verdict}
-use Rattle.events.specs.Demand2.{Reached, RulesKept, NeverOne, ByTheTable, VersionNeverFalls, OthersStay, MapOnly, SoundStays}
+use Rattle.events.specs.Demand2.{Reached, RulesKept, NeverOne, stateOf, isSync, Change, ByTheTable, VersionNeverFalls, OthersStay, MapOnly, SoundStays}
+use Rattle.events.proofs.States.{normal-is}
 use Rattle.events.proofs.Demand1.{demand-1}
-use Rattle.events.proofs.Keeps.{fresh-valid, event-keeps, event-changes}
+use Rattle.events.proofs.Keeps.{fresh-valid, event-keeps}
 use Rattle.events.proofs.Others.{event-others}
+use Rattle.events.proofs.Fates.{Fate, state-of, kept-stands, event-fate}
+use Rattle.events.proofs.Versions.{event-kind, event-never-falls}
 use Rattle.events.proofs.Touches.{event-touches}
 use Rattle.events.proofs.Sound.{event-same, event-sound}
 
@@ -53,11 +57,27 @@ never-one c r e n q z =
     let a : applies 1 (testsOf e c) ≡ true = ap (λ (k : ℕ). applies k (testsOf e c)) (sym z) ∙ refusal-of e c n q in
     clash a (one-applies e c ∙ ap not (rules-kept c r))
 
+-- a fate is a change by the table
+from-normal : (sync : Bool) → sync ≡ false → legal sync State.Normal State.Reconnecting ≡ true
+from-normal sync e = rw e refl
+
+by-fate : (c : Client) (e : Event) (c′ : Client) (id : ℕ) → Fate c e c′ id → Change (isSync c) e id (stateOf c id) (stateOf c′ id)
+by-fate c e c′ id (Fate.kept k) = Change.stays (kept-stands c c′ id k)
+by-fate c e c′ id (Fate.begins x st r) = Change.created x st (state-of c′ id _ r)
+by-fate c e c′ id (Fate.joins set version x plain st r) = Change.assembled set version x plain st (state-of c′ id _ r)
+by-fate c e c′ id (Fate.goes to l n b r) = Change.goes (rw (state-of c′ id _ r) l)
+by-fate c e c′ id (Fate.fails last x n b r) = Change.goes (rw (state-of c′ id _ r, normal-is (stateOf c id) n) refl)
+by-fate c e c′ id (Fate.maintained last x plain n b r) = Change.goes (rw (state-of c′ id _ r, normal-is (stateOf c id) n) (from-normal (isSync c) plain))
+by-fate c e c′ id (Fate.unflagged x is r) = Change.stays (state-of c′ id _ r)
+by-fate c e c′ id (Fate.paid mode st r) = Change.paid mode st (state-of c′ id _ r)
+by-fate c e c′ id (Fate.freed i m r) = Change.freed m (state-of c′ id _ r)
+by-fate c e c′ id (Fate.removed xs mode x l r) = Change.removed xs mode x l (state-of c′ id _ r)
+
 pub by-the-table : ByTheTable
-by-the-table c r e = event-changes e c (reached-valid c r)
+by-the-table c r e = let v = reached-valid c r in ((λ id. by-fate c e (next e c) id (event-fate e c id v)), event-kind e c v)
 
 pub version-never-falls : VersionNeverFalls
-version-never-falls c r e = let t = event-changes e c (reached-valid c r) in omega (arith, t .first .version, t .second .version)
+version-never-falls c r e = event-never-falls e c (reached-valid c r)
 
 pub others-stay : OthersStay
 others-stay c r e j n = event-others e c j (reached-valid c r) n

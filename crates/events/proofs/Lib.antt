@@ -1,8 +1,17 @@
 pub mod Shape
 pub mod Demand1
 pub mod Keeps
+pub mod States
 pub mod Others
+pub mod Fates
+pub mod Versions
+pub mod Marks
+pub mod Sessions
+pub mod Written
+pub mod Removals
 pub mod Touches
 pub mod Sound
 pub mod Demand2
+pub mod Said
+pub mod Instance
 pub mod Unique

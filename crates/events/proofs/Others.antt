@@ -1,99 +1,130 @@
--- The sessions that an event is not about keep their records, save that a mark may go.
+-- The sessions that an event is not about keep their records, save that a mark goes when a session enters NORMAL.
 use mathlib.Core.Path.{_≡_, refl, sym, ap, _∙_}
 use mathlib.Core.Logic.{_≢_}
-use mathlib.Core.Bool.{Bool, true, false}
-use Prim.Native.Nat.{ℕ, _≤_, _<_}
-use native.Mathlib.Decide.{decLt}
-use native.Mathlib.Omega.{arith}
-use lib.Dec.{eqb}
-use lib.ListN.{length, List·getD-eq-default}
+use mathlib.Core.Bool.{true, false}
+use Prim.Native.Nat.{ℕ, _<_}
 use borrow.Author.Tests.{eqb-false, eq-eqb}
-use Rattle.laws.specs.Tests.{clash}
+use Rattle.laws.specs.Tests.{by-cases, clash}
 use Rattle.state.specs.declared.Session.{Session}
 use Rattle.state.specs.declared.Roster.{Roster}
+use Rattle.state.specs.declared.Stage.{Stage}
+use Rattle.state.specs.declared.Removal.{Removal}
 use Rattle.state.specs.declared.Job.{Job}
 use Rattle.state.specs.declared.Pool.{Pool}
 use Rattle.state.specs.declared.Reply.{Reply}
-use Rattle.state.specs.Session.{isRemoving, free}
+use Rattle.state.specs.Session.{isCreated, isNormal, candidate}
 use Rattle.roster.specs.Roster.{sessionAt}
-use Rattle.changes.specs.Changes.{unmarked}
+use Rattle.changes.specs.declared.Way.{Way}
+use Rattle.changes.specs.Changes.{removing}
 use Rattle.rules.specs.Rules.{jobOk}
 use Rattle.run.specs.declared.Who.{Who}
 use Rattle.run.specs.Run.{takes}
 use Rattle.recovery.specs.Recovery.{withRoster}
-use Rattle.exits.specs.Exit.{haltedIf}
-use Rattle.exits.proofs.Laws.{picked, turned, halts}
-use Rattle.kept.specs.Ids.{Long}
-use Rattle.kept.specs.Pools.{Valid}
-use Rattle.kept.specs.Runs.{run-facts}
-use Rattle.kept.specs.Tried.{tried-roster}
-use Rattle.joins.proofs.Kept.{create-others, assemble-others}
-use Rattle.links.specs.Links.{tryRefusal, tryRun}
-use Rattle.enables.proofs.Kept.{enable-others, maintenance-others}
-use Rattle.links.proofs.Kept.{down-others, check-others}
-use Rattle.writes.specs.Writes.{loses, missed, marks, writeRefusal, writeDone, writeEnded}
-use Rattle.writes.proofs.Kept.{missed-spares, synced-same}
-use Rattle.removal.proofs.Moves.{remove-moves, answered-ends}
-use Rattle.answers.specs.Answers.{answerRefusal, answered, answer}
-use Rattle.answers.proofs.Kept.{run-others}
+use Rattle.exits.proofs.Laws.{turned}
+use Rattle.keeps.specs.Ids.{Long}
+use Rattle.keeps.specs.Pools.{Valid, removal-facts}
+use Rattle.keeps.specs.Runs.{run-facts, candidate-normal, entered-other}
+use Rattle.keeps.specs.Records.{entered-at, left-other}
+use Rattle.keeps.specs.Tried.{tried-roster}
+use Rattle.joins.specs.Joins.{createRefusal, createDone, joinCreate, assembleRefusal, assembled, assembleDone, joinAssemble}
+use Rattle.joins.proofs.Kept.{created-other, assembled-other}
+use Rattle.enables.specs.Enables.{enableRefusal, enableDone, enable, maintenanceRefusal, maintenanceDone, maintenance}
+use Rattle.enables.proofs.Kept.{Enables, enable-passed, enabled-at, enabled-other}
+use Rattle.links.specs.Links.{downRefusal, downDone, linkDown, checkRefusal, storeCheck, tryRefusal, tryRun}
+use Rattle.links.proofs.Kept.{down-roster, dropped-other, checked-other}
+use Rattle.writes.specs.Writes.{writeRefusal, writeEnded}
+use Rattle.writes.proofs.Kept.{write-passed, write-roster, missed-does, synced-same}
+use Rattle.removal.specs.Removal as removal
+use Rattle.removal.specs.Remove.{removeRefusal, remove}
+use Rattle.removal.proofs.Steps.{departed-goes, started-goes, told-goes, paid-other, paid-long, removing-other, removing-long, remove-passed}
+use Rattle.answers.specs.Answers.{answerRefusal, enteredBy, reported, answered, answer}
+use Rattle.answers.proofs.Kept.{candidate-below, run-able, run-roster}
 use Rattle.client.specs.declared.Client.{Client}
 use Rattle.client.specs.Client.{soundFor, removeTurn, writeTurn, answerTurn, syncedTurn, cleanTo}
 use Rattle.events.specs.Events.{Event, next}
-use Rattle.events.specs.Demand2.{isOne, answerConcerns, concerns}
+use Rattle.events.specs.Demand2.{isOne, answerConcerns, concerns, Kept}
+use Rattle.events.proofs.States.{created-not}
 
--- the record of j is as it was, but for its mark
-abbrev Stays : Pool → ℕ → Pool → Type 0
-Stays p j q = unmarked (sessionAt (q .roster) j) ≡ unmarked (sessionAt (p .roster) j)
+-- the record of j is kept in a pool that an event leaves
+abbrev Keeps : Client → ℕ → Pool → Type 0
+Keeps c j q = Kept c (record { pool = q }) j
 
-whole : (p q : Pool) (j : ℕ) → sessionAt (q .roster) j ≡ sessionAt (p .roster) j → Stays p j q
-whole p q j e = ap unmarked e
+-- ---- enable
 
-try-stays : (p : Pool) (j : ℕ) → Stays p j (tryRun p .pool)
-unfolding tryRun
-try-stays p j = turned (Stays p j) (tryRefusal p) _ p refl (λ e. ap (λ (ro : Roster). unmarked (sessionAt ro j)) (tried-roster p))
+enable-kept : (c : Client) (id j : ℕ) → Valid (c .pool) → Enables (c .pool) id → j ≢ id → Keeps c j (enableDone (c .pool) id .pool)
+enable-kept c id j v h ne =
+    by-cases (isCreated (sessionAt (c .pool .roster) id .state))
+    (λ b. Kept.cleared (rw b at (enabled-other (c .pool) id j (h .plain) ne)) (record {
+      who = id;
+      before = created-not (sessionAt (c .pool .roster) id .state) b;
+      after = ap (λ (s : Session). isNormal (s .state)) (rw b at (enabled-at (c .pool) id (v .ok .long) (h .below)));
+    }))
+    (λ b. Kept.equal (rw b at (enabled-other (c .pool) id j (h .plain) ne)))
 
-write-stays : (p : Pool) (sound : Bool) (chunk reached j : ℕ) → sessionAt (missed (p .roster) reached) j ≡ sessionAt (p .roster) j → Stays p j (writeEnded p sound chunk reached .pool)
-unfolding writeEnded writeDone marks
-write-stays p sound chunk reached j e =
-    turned (Stays p j) (writeRefusal p sound chunk reached) _ p refl
-    (λ z. picked (Stays p j) (eqb reached 0) _ _ (λ y. here) (λ y. here))
-  where
-    here : Stays p j (haltedIf (loses (p .job) (p .roster) reached) (withRoster p (missed (p .roster) reached)))
-    here = halts (Stays p j) (loses (p .job) (p .roster) reached) (withRoster p (missed (p .roster) reached)) (ap unmarked e) (ap unmarked e)
+-- ---- answers
 
--- the session of a removal in hand is an id
-pub removing-below : (ro : Roster) (id : ℕ) → Long ro → isRemoving (sessionAt ro id .state) ≡ true → id < 16
-removing-below ro id l c = elim (decLt id 16) [
-  | yes h ↦ h
-  | no n ↦ let past : length (ro .sessions) ≤ id = omega (arith, l, n) in
-      clash c (ap (λ (s : Session). isRemoving (s .state)) (List·getD-eq-default (ro .sessions) free past))
-]
+other-one : (w : Who) (j id : ℕ) → isOne w j ≡ false → w ≡ Who.One id → j ≢ id
+other-one w j id n e z = clash (eq-eqb j id z) (sym (ap (λ (w : Who). isOne w j) e) ∙ n)
 
-other-one : (w : Who) (j : ℕ) → isOne w j ≡ false → w ≢ Who.One j
-other-one Who.Nobody j e z = clash (eq-eqb j j refl) (ap (λ (w : Who). isOne w j) (sym z) ∙ e)
-other-one (Who.One id) j e z = clash (eq-eqb j j refl) (ap (λ (w : Who). isOne w j) (sym z) ∙ e)
+run-kept : (c : Client) (j : ℕ) → Valid (c .pool) → c .pool .roster .sync ≡ false → (q : Pool) (w : Who) → isOne w j ≡ false
+    → ((id : ℕ) → w ≡ Who.One id → candidate (sessionAt (c .pool .roster) id) ≡ true) → q .roster ≡ enteredBy w (c .pool .roster) → Keeps c j q
+run-kept c j v plain q Who.Nobody n able e = Kept.equal (ap (λ (ro : Roster). sessionAt ro j) e)
+run-kept c j v plain q (Who.One id) n able e =
+    let can = able id refl in
+    Kept.cleared (ap (λ (ro : Roster). sessionAt ro j) e ∙ entered-other (c .pool .roster) id j plain (other-one (Who.One id) j id n refl)) (record {
+      who = id;
+      before = candidate-normal (sessionAt (c .pool .roster) id) can;
+      after = ap (λ (ro : Roster). isNormal (sessionAt ro id .state)) e
+          ∙ ap (λ (s : Session). isNormal (s .state)) (entered-at (c .pool .roster) id (v .ok .long) (candidate-below (c .pool .roster) id (v .ok .long) can));
+    })
 
-job-stays : (k : Job) (c : Client) (a : Reply) (j : ℕ) → Valid (c .pool) → jobOk k (c .pool .roster) ≡ true → answerConcerns k c a j ≡ false → Stays (c .pool) j (answered k (c .pool) a .pool)
-job-stays Job.Idle c a j v o n = refl
-job-stays (Job.Running r) c a j v o n =
-    run-others (c .pool) r a v (run-facts (c .pool .roster) r (v .ok .long) o) j (other-one (takes (c .pool .roster .members) (c .pool .roster .version) r a .normal) j n)
-job-stays (Job.Removing m) c a j v o n =
-    ap unmarked (answered-ends m (c .pool) a (v .ok .long) (removing-below (c .pool .roster) (m .id) (v .ok .long) o) o .others j (eqb-false j (m .id) n))
+well-other : (st : Stage) (p : Pool) (id j : ℕ) → Long (p .roster) → id < 16 → j ≢ id → sessionAt (removal.wellAnswered st p id .posted .pool .roster) j ≡ sessionAt (p .roster) j
+well-other Stage.Leave p id j l h ne = departed-goes (removal.paid p id) id (paid-long p id l) h .others j ne ∙ paid-other p id j ne
+well-other (Stage.Info peer) p id j l h ne = told-goes p id peer l h .others j ne
 
-pub event-others : (e : Event) (c : Client) (j : ℕ) → Valid (c .pool) → concerns e c j ≡ false → Stays (c .pool) j (next e c .pool)
-unfolding removeTurn writeTurn answerTurn syncedTurn answer
-event-others (Event.joinCreate id) c j v n = ap unmarked (create-others (c .pool) id j (eqb-false j id n))
-event-others (Event.joinAssemble id set version) c j v n = ap unmarked (assemble-others (c .pool) id set version j (eqb-false j id n))
-event-others (Event.enable id) c j v n = enable-others (c .pool) id j (eqb-false j id n)
-event-others (Event.maintenance id) c j v n = ap unmarked (maintenance-others (c .pool) id j (eqb-false j id n))
-event-others (Event.linkDown id) c j v n = ap unmarked (down-others (c .pool) id j (eqb-false j id n))
-event-others (Event.storeCheck id) c j v n = check-others (c .pool) id j (eqb-false j id n)
-event-others Event.tryRun c j v n = try-stays (c .pool) j
+removal-other : (m : Removal) (p : Pool) (a : Reply) (j : ℕ) → Long (p .roster) → m .id < 16 → j ≢ m .id → sessionAt (removal.removalAnswered m p a .posted .pool .roster) j ≡ sessionAt (p .roster) j
+removal-other m p Reply.Failed j l h ne = refl
+removal-other m p (Reply.Good b) j l h ne = well-other (m .stage) p (m .id) j l h ne
+
+answered-kept : (k : Job) (c : Client) (a : Reply) (j : ℕ) → Valid (c .pool) → jobOk k (c .pool .roster) ≡ true → answerConcerns k c a j ≡ false → Keeps c j (answered k (c .pool) a .pool)
+answered-kept Job.Idle c a j v o n = Kept.equal refl
+answered-kept (Job.Running r) c a j v o n =
+    let f = run-facts (c .pool .roster) r (v .ok .long) o in
+    let m = takes (c .pool .roster .members) (c .pool .roster .version) r a in
+    run-kept c j v (f .plain) (reported (c .pool) m .pool) (m .normal) n (λ id. run-able (c .pool) r a v f id) (run-roster (c .pool) m)
+answered-kept (Job.Removing m) c a j v o n =
+    Kept.equal (removal-other m (c .pool) a j (v .ok .long) (removal-facts (c .pool .roster) m (v .ok .long) o .below) (eqb-false j (m .id) n))
+
+-- ---- every event
+
+pub event-others : (e : Event) (c : Client) (j : ℕ) → Valid (c .pool) → concerns e c j ≡ false → Kept c (next e c) j
+unfolding joinCreate createDone joinAssemble assembleDone enable maintenance maintenanceDone linkDown downDone storeCheck tryRun remove removeTurn writeEnded writeTurn syncedTurn answer answerTurn
+event-others (Event.joinCreate id) c j v n =
+    turned (Keeps c j) (createRefusal (c .pool) id) _ (c .pool) (Kept.equal refl) (λ e. Kept.equal (created-other (c .pool .roster) id j (eqb-false j id n)))
+event-others (Event.joinAssemble id set version) c j v n =
+    turned (Keeps c j) (assembleRefusal (c .pool) id set version) _ (c .pool) (Kept.equal refl)
+    (λ e. Kept.equal (ap (λ (ro : Roster). sessionAt ro j) (tried-roster (withRoster (c .pool) (assembled (c .pool .roster) id set version))) ∙ assembled-other (c .pool .roster) id set version j (eqb-false j id n)))
+event-others (Event.enable id) c j v n =
+    turned (Keeps c j) (enableRefusal (c .pool) id) _ (c .pool) (Kept.equal refl) (λ e. enable-kept c id j v (enable-passed (c .pool) id e) (eqb-false j id n))
+event-others (Event.maintenance id) c j v n =
+    turned (Keeps c j) (maintenanceRefusal (c .pool) id) _ (c .pool) (Kept.equal refl) (λ e. Kept.equal (left-other (c .pool .roster) id Way.Maintenance j (eqb-false j id n)))
+event-others (Event.linkDown id) c j v n =
+    turned (Keeps c j) (downRefusal (c .pool) id) _ (c .pool) (Kept.equal refl)
+    (λ e. Kept.equal (ap (λ (ro : Roster). sessionAt ro j) (down-roster (c .pool .job) (c .pool) id) ∙ dropped-other (c .pool .roster) id j (eqb-false j id n)))
+event-others (Event.storeCheck id) c j v n =
+    turned (Keeps c j) (checkRefusal (c .pool) id) _ (c .pool) (Kept.equal refl) (λ e. Kept.equal (checked-other (c .pool) id j (eqb-false j id n)))
+event-others Event.tryRun c j v n =
+    turned (Keeps c j) (tryRefusal (c .pool)) _ (c .pool) (Kept.equal refl) (λ e. Kept.equal (ap (λ (ro : Roster). sessionAt ro j) (tried-roster (c .pool))))
 event-others (Event.remove xs id mode) c j v n =
-    let t = remove-moves (c .pool) (soundFor c xs) id mode (v .ok .long) in
-    ap unmarked (t .second .others j (eqb-false j id n) ∙ t .first .others j (eqb-false j id n))
-event-others (Event.write xs chunk reached) c j v n = write-stays (c .pool) (soundFor c xs) chunk reached j (missed-spares (c .pool .roster) reached j n)
+    turned (Keeps c j) (removeRefusal (c .pool) (soundFor c xs) id mode) _ (c .pool) (Kept.equal refl)
+    (λ e. let h = remove-passed (c .pool) (soundFor c xs) id mode e in
+    let ne = eqb-false j id n in
+    Kept.equal (started-goes (withRoster (c .pool) (removing (c .pool .roster) id mode)) id (removing-long (c .pool .roster) id mode (v .ok .long)) (h .below) .others j ne ∙ removing-other (c .pool .roster) id j mode ne))
+event-others (Event.write xs chunk reached) c j v n =
+    turned (Keeps c j) (writeRefusal (c .pool) (soundFor c xs) chunk reached) _ (c .pool) (Kept.equal refl)
+    (λ e. let w = write-passed (c .pool) (soundFor c xs) chunk reached e in
+    Kept.equal (ap (λ (ro : Roster). sessionAt ro j) (write-roster (c .pool) chunk reached) ∙ missed-does (c .pool .roster) reached (v .ok) (w .plain) .spares j n))
 event-others (Event.synced xs member chunk) c j v n =
-    ap (λ (p : Pool). unmarked (sessionAt (p .roster) j)) (synced-same (c .pool) (soundFor c xs) member chunk (cleanTo xs chunk 16))
+    Kept.equal (ap (λ (p : Pool). sessionAt (p .roster) j) (synced-same (c .pool) (soundFor c xs) member chunk (cleanTo xs chunk 16)))
 event-others (Event.answer xs number a) c j v n =
-    turned (Stays (c .pool) j) (answerRefusal (c .pool) (soundFor c xs) number) _ (c .pool) refl (λ e. job-stays (c .pool .job) c a j v (v .job) n)
+    turned (Keeps c j) (answerRefusal (c .pool) (soundFor c xs) number) _ (c .pool) (Kept.equal refl) (λ e. answered-kept (c .pool .job) c a j v (v .job) n)

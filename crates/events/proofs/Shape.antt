@@ -4,14 +4,13 @@ use mathlib.Core.Bool.{Bool, true, false, not}
 use Prim.Native.Nat.{ℕ}
 use native.Mathlib.Omega.{arith}
 use lib.Dec.{eqb}
-use borrow.Author.Tests.{not-false}
+use borrow.Author.Tests.{eqb-true, not-false}
 use Rattle.laws.specs.Words.{pick}
 use Rattle.laws.specs.Tests.{clash, and-left}
 use Rattle.refusals.specs.Refusals.{refusal}
 use Rattle.state.specs.declared.Job.{Job}
 use Rattle.state.specs.declared.Pool.{Pool}
 use Rattle.state.specs.declared.Reply.{Reply}
-use Rattle.state.specs.declared.Answer.{Answer}
 use Rattle.state.specs.declared.Turn.{Turn}
 use Rattle.state.specs.declared.Told.{Told}
 use Rattle.state.specs.declared.Outcome.{Outcome}
@@ -27,13 +26,9 @@ use Rattle.writes.specs.Writes.{writeRefusal, marks, writeDone, writeEnded, syn
 use Rattle.answers.specs.Answers.{awaits, answerRefusal, answered, answer}
 use Rattle.client.specs.declared.Client.{Client}
 use Rattle.client.specs.Client.{removeTurn, writeTurn, answerTurn, syncedTurn}
-use Rattle.events.specs.Events.{Event, turnOf}
+use Rattle.events.specs.Events.{Event, turnOf, isAccepted}
 use Rattle.events.specs.Tests.{testsOf}
 use Rattle.order.proofs.Order.{none-applies}
-
-abbrev pub isDone : Answer → Bool
-isDone (Answer.Refused n) = false
-isDone (Answer.Done s) = true
 
 -- the event's refusal, 0 where none applies
 abbrev pub whyNot : Event → Client → ℕ
@@ -43,18 +38,18 @@ whyNot e c = refusal (testsOf e c)
 pub record Shape (e : Event) (c : Client) : Type 0 where
   pub does : Turn
   pub same : turnOf e c ≡ pick (eqb (whyNot e c) 0) does (refused (c .pool) (whyNot e c))
-  pub plain : whyNot e c ≡ 0 → isDone (does .answer) ≡ true
+  pub plain : whyNot e c ≡ 0 → isAccepted (does .answer) ≡ true
 
-done-pick : (b : Bool) (x y : Turn) → isDone (x .answer) ≡ true → isDone (y .answer) ≡ true → isDone (pick b x y .answer) ≡ true
+done-pick : (b : Bool) (x y : Turn) → isAccepted (x .answer) ≡ true → isAccepted (y .answer) ≡ true → isAccepted (pick b x y .answer) ≡ true
 done-pick true x y p q = p
 done-pick false x y p q = q
 
-down-done : (j : Job) (p : Pool) (id : ℕ) → isDone (downAt j p id .answer) ≡ true
+down-done : (j : Job) (p : Pool) (id : ℕ) → isAccepted (downAt j p id .answer) ≡ true
 down-done Job.Idle p id = refl
 down-done (Job.Running r) p id = refl
 down-done (Job.Removing m) p id = refl
 
-answer-done : (j : Job) (p : Pool) (a : Reply) → isIdle j ≡ false → isDone (answered j p a .answer) ≡ true
+answer-done : (j : Job) (p : Pool) (a : Reply) → isIdle j ≡ false → isAccepted (answered j p a .answer) ≡ true
 answer-done Job.Idle p a e = clash refl e
 answer-done (Job.Running r) p a e = refl
 answer-done (Job.Removing m) p a e = refl
@@ -84,3 +79,11 @@ shape (Event.answer xs number a) c =
       plain = λ e. let w : awaits (c .pool) number ≡ true = not-false (awaits (c .pool) number) (none-applies (testsOf (Event.answer xs number a) c) e 12 (omega arith)) in
           answer-done (c .pool .job) (c .pool) a (off (isIdle (c .pool .job)) (and-left (not (isIdle (c .pool .job))) (eqb number (c .pool .number)) w));
     }
+
+-- an event that is accepted does what it does
+pub taken : (P : Turn → Type 0) (n : ℕ) (done : Turn) (p : Pool) → (n ≡ 0 → P done) → isAccepted (pick (eqb n 0) done (refused p n) .answer) ≡ true → P (pick (eqb n 0) done (refused p n))
+taken P n done p does = at (eqb n 0) refl
+  where
+    at : (b : Bool) → eqb n 0 ≡ b → isAccepted (pick b done (refused p n) .answer) ≡ true → P (pick b done (refused p n))
+    at true e a = does (eqb-true n 0 e)
+    at false e a = clash a refl

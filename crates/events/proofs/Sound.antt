@@ -26,10 +26,10 @@ use Rattle.rules.specs.Jobs.{isPeer}
 use Rattle.run.specs.declared.Next.{Next}
 use Rattle.run.specs.Run.{takes}
 use Rattle.recovery.specs.Cases.{begun}
-use Rattle.recovery.specs.Recovery.{withRoster, over, posted, beginning, goneOn, tried}
+use Rattle.recovery.specs.Recovery.{withRoster, jobEnded, posted, beginning, goneOn, tried}
 use Rattle.exits.specs.Exit.{refused, haltedIf}
 use Rattle.exits.proofs.Laws.{picked, turned, halts}
-use Rattle.kept.specs.Pools.{Valid}
+use Rattle.keeps.specs.Pools.{Valid}
 use Rattle.joins.specs.Joins.{createRefusal, createDone, joinCreate, assembleRefusal, assembleDone, joinAssemble}
 use Rattle.enables.specs.Enables.{enableRefusal, enableDone, enable, maintenanceRefusal, maintenanceDone, maintenance}
 use Rattle.links.specs.Links.{downRefusal, dropped, downAt, downDone, linkDown, checkRefusal, checkDone, storeCheck, tryRefusal, tryRun}
@@ -38,7 +38,7 @@ use Rattle.removal.specs.Removal as removal
 use Rattle.removal.specs.Remove.{removeRefusal, remove}
 use Rattle.writes.specs.Writes.{writeRefusal, loses, missed, marks, writeDone, writeEnded}
 use Rattle.writes.proofs.Kept.{synced-same}
-use Rattle.answers.specs.Answers.{answerRefusal, enteredBy, moved, answered, answer}
+use Rattle.answers.specs.Answers.{answerRefusal, enteredBy, movedOn, answered, answer}
 use Rattle.client.specs.declared.Client.{Client}
 use Rattle.client.specs.Client.{carried, soundFor, removeTurn, writeTurn, answerTurn, syncedTurn, cleanTo}
 use Rattle.events.specs.Events.{Event, next, lentTo, mapLeft}
@@ -90,12 +90,12 @@ well-same : (st : Stage) (p : Pool) (id : ℕ) → GoneSame p (removal.wellAnswe
 well-same Stage.Leave p id = departed-same (removal.paid p id) id
 well-same (Stage.Info peer) p id = onward-same p id (Stage.Info peer) Effect.Keep
 
-answered-same : (m : Removal) (p : Pool) (a : Reply) → GoneSame p (removal.answered m p a)
+answered-same : (m : Removal) (p : Pool) (a : Reply) → GoneSame p (removal.removalAnswered m p a)
 answered-same m p Reply.Failed = refl
 answered-same m p (Reply.Good b) = well-same (m .stage) p (m .id)
 
 job-same : (j : Job) (p : Pool) (a : Reply) → Same p (answered j p a .pool)
-unfolding moved
+unfolding movedOn
 job-same Job.Idle p a = refl
 job-same (Job.Running r) p a =
     let m = takes (p .roster .members) (p .roster .version) r a in
@@ -104,7 +104,7 @@ job-same (Job.Removing m) p a = answered-same m p a
 
 down-same : (j : Job) (p : Pool) (id : ℕ) → Same p (downAt j p id .pool)
 down-same Job.Idle p id = refl
-down-same (Job.Running r) p id = tried-same (over (withRoster p (dropped (p .roster) id)))
+down-same (Job.Running r) p id = tried-same (jobEnded (withRoster p (dropped (p .roster) id)))
 down-same (Job.Removing m) p id = halts (Same p) (isPeer (Job.Removing m) id) (withRoster p (dropped (p .roster) id)) refl refl
 
 pub event-same : (e : Event) (c : Client) → next e c .pool .chunks ≡ c .pool .chunks

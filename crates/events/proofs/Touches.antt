@@ -25,23 +25,23 @@ use Rattle.changes.specs.Changes.{went, freed, memberDropped, removing}
 use Rattle.recovery.specs.Recovery.{withRoster, posted}
 use Rattle.rules.specs.Rules.{jobOk}
 use Rattle.exits.specs.Exit.{refused}
-use Rattle.kept.specs.Ids.{Long, stored-same}
-use Rattle.kept.specs.Pools.{Valid}
-use Rattle.kept.specs.Changes.{removing-at}
+use Rattle.keeps.specs.Ids.{Long, stored-same}
+use Rattle.keeps.specs.Pools.{Valid, removal-facts}
+use Rattle.keeps.specs.Changes.{removing-at}
 use Rattle.joins.specs.Joins.{createRefusal, createDone, joinCreate, assembleRefusal, assembleDone, joinAssemble}
 use Rattle.enables.specs.Enables.{enableRefusal, enableDone, enable, maintenanceRefusal, maintenanceDone, maintenance}
 use Rattle.links.specs.Links.{downRefusal, downAt, downDone, linkDown, checkRefusal, checkDone, storeCheck, tryRefusal, tryRun}
 use Rattle.removal.specs.declared.Gone.{Gone}
 use Rattle.removal.specs.Removal as removal
 use Rattle.removal.specs.Remove.{removeRefusal, removeBegun, remove}
-use Rattle.removal.proofs.Moves.{remove-passed}
+use Rattle.removal.proofs.Steps.{remove-passed}
 use Rattle.writes.specs.Writes.{writeRefusal, marks, writeDone, writeEnded, syncRefusal, syncDone, synced}
 use Rattle.answers.specs.Answers.{answerRefusal, answered, answer}
 use Rattle.client.specs.declared.Client.{Client}
 use Rattle.client.specs.Client.{soundFor, removeTurn, writeTurn, answerTurn, syncedTurn, cleanTo}
 use Rattle.events.specs.Events.{Event, turnOf, next}
-use Rattle.events.proofs.Others.{removing-below}
 use Rattle.events.specs.Demand2.{nobodyLeft, keeps, removalTouches, answerTouches, touches, stateOf}
+use Rattle.events.proofs.States.{mode-same}
 
 -- ---- an event is what it does, or refused
 
@@ -91,13 +91,6 @@ unfolding removal.started
 started-touch p id deletes d = gone-pick id deletes (isOwed (removal.stateOf p id)) _ _ (λ e. refl) (λ e. departed-touch p id deletes d)
 
 -- the mode of a removal stays with its session
-mode-same : (st : State) → isDelete (removal.modeOf st) ≡ isDeleting st
-mode-same st = at (isDeleting st)
-  where
-    at : (b : Bool) → isDelete (pick b Mode.Delete Mode.Disassemble) ≡ b
-    at true = refl
-    at false = refl
-
 paid-mode : (p : Pool) (id : ℕ) → Long (p .roster) → id < 16 → isDeleting (removal.stateOf (removal.paid p id) id) ≡ isDeleting (removal.stateOf p id)
 unfolding went
 paid-mode p id l h =
@@ -108,7 +101,7 @@ well-touch : (st : Stage) (p : Pool) (id : ℕ) → Long (p .roster) → id < 16
 well-touch Stage.Leave p id l h = departed-touch (removal.paid p id) id _ (λ e. sym (paid-mode p id l h) ∙ e)
 well-touch (Stage.Info peer) p id l h = onward-touch p id _ (Stage.Info peer) Effect.Keep (λ ro. refl)
 
-answered-touch : (m : Removal) (p : Pool) (a : Reply) → Long (p .roster) → m .id < 16 → Touch (m .id) (isDeleting (removal.stateOf p (m .id))) (removal.answered m p a)
+answered-touch : (m : Removal) (p : Pool) (a : Reply) → Long (p .roster) → m .id < 16 → Touch (m .id) (isDeleting (removal.stateOf p (m .id))) (removal.removalAnswered m p a)
 answered-touch m p Reply.Failed l h = refl
 answered-touch m p (Reply.Good b) l h = well-touch (m .stage) p (m .id) l h
 
@@ -122,7 +115,7 @@ begun-touch p id mode l h =
 job-touch : (j : Job) (c : Client) (a : Reply) → Valid (c .pool) → jobOk j (c .pool .roster) ≡ true → answerTouches j c (answered j (c .pool) a .pool .roster) (answered j (c .pool) a .effect) ≡ true
 job-touch Job.Idle c a v o = refl
 job-touch (Job.Running r) c a v o = refl
-job-touch (Job.Removing m) c a v o = answered-touch m (c .pool) a (v .ok .long) (removing-below (c .pool .roster) (m .id) (v .ok .long) o)
+job-touch (Job.Removing m) c a v o = answered-touch m (c .pool) a (v .ok .long) (removal-facts (c .pool .roster) m (v .ok .long) o .below)
 
 refused-job : (j : Job) (c : Client) (ro : Roster) → answerTouches j c ro Effect.Keep ≡ true
 refused-job Job.Idle c ro = refl

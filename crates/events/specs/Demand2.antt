@@ -2,25 +2,29 @@
 use mathlib.Core.Path.{_≡_}
 use mathlib.Core.Logic.{_≢_}
 use mathlib.Core.Bool.{Bool, true, false, _&&_, not}
+use mathlib.Core.List.{List}
 use Prim.Native.Nat.{ℕ, _≤_}
 use lib.Dec.{eqb}
+use Rattle.laws.specs.Words.{pick}
 use Rattle.refusals.specs.Limits.{chunkLimit}
 use Rattle.sets.specs.Sets.{has}
 use Rattle.maps.specs.Map.{sound}
+use Rattle.state.specs.declared.Mode.{Mode}
 use Rattle.state.specs.declared.State.{State}
+use Rattle.state.specs.declared.Session.{Session}
 use Rattle.state.specs.declared.Job.{Job}
 use Rattle.state.specs.declared.Roster.{Roster}
 use Rattle.state.specs.declared.Answer.{Answer}
 use Rattle.state.specs.declared.Effect.{Effect}
 use Rattle.state.specs.declared.Reply.{Reply}
-use Rattle.state.specs.Session.{isNormal, isDelete, isDeleting}
+use Rattle.state.specs.Session.{isNormal, isRemoving, isDelete, isDeleting}
+use Rattle.state.specs.Table.{legal}
 use Rattle.roster.specs.declared.Kind.{Kind}
 use Rattle.roster.specs.Roster.{sessionAt, idsOf}
 use Rattle.changes.specs.Changes.{unmarked}
 use Rattle.run.specs.declared.Who.{Who}
 use Rattle.run.specs.Run.{takes}
 use Rattle.rules.specs.Rules.{validPool}
-use Rattle.kept.specs.Legal.{Moves}
 use Rattle.client.specs.declared.Client.{Client}
 use Rattle.client.specs.Client.{fresh}
 use Rattle.events.specs.Events.{Event, turnOf, outOf, next, Lent, lentTo, mapLeft}
@@ -39,24 +43,36 @@ RulesKept = (c : Client) → Reached c → validPool (c .pool) ≡ true
 abbrev pub NeverOne : Type 0
 NeverOne = (c : Client) → Reached c → (e : Event) (n : ℕ) → outOf e c .answer ≡ Answer.Refused n → n ≢ 1
 
--- In one event sessions change along source document 001's table, a session begins, or a REMOVING one is freed; the version never falls. A removal that awaits
--- nothing takes its session to REMOVING and frees it in the same event: hence the sessions in between.
-pub record Changes (ro ro′ : Roster) : Type 0 where
-  pub between : Roster
-  pub first : Moves ro between
-  pub second : Moves between ro′
+-- the record of an id's session, and its state
+abbrev pub recordOf : Client → ℕ → Session
+recordOf c id = sessionAt (c .pool .roster) id
 
--- At every reached client, every event changes sessions only so.
+abbrev pub stateOf : Client → ℕ → State
+stateOf c id = recordOf c id .state
+
+-- the pool's kind
+abbrev pub isSync : Client → Bool
+isSync c = c .pool .roster .sync
+
+-- What one event may make of the state of id's session: it stays; it goes along source document 001's table; it begins, at join create CREATED (in a sync pool
+-- NORMAL), at join assemble CREATED, then RECONNECTING; while it is REMOVING its LEAVE_POOL is done, or it is freed; and remove, of its own id, may take it to
+-- REMOVING and free it in the same event.
+pub data Change (sync : Bool) (e : Event) (id : ℕ) (from to : State) : Type 0 where
+  stays : to ≡ from → Change sync e id from to
+  goes : legal sync from to ≡ true → Change sync e id from to
+  created : e ≡ Event.joinCreate id → from ≡ State.Free → to ≡ pick sync State.Normal State.Created → Change sync e id from to
+  assembled : (set version : ℕ) → e ≡ Event.joinAssemble id set version → sync ≡ false → from ≡ State.Free → to ≡ State.Reconnecting → Change sync e id from to
+  paid : (mode : Mode) → from ≡ State.Removing mode true → to ≡ State.Removing mode false → Change sync e id from to
+  freed : isRemoving from ≡ true → to ≡ State.Free → Change sync e id from to
+  removed : (xs : List ℕ) (mode : Mode) → e ≡ Event.remove xs id mode → legal sync from (State.Removing mode true) ≡ true → to ≡ State.Free → Change sync e id from to
+
+-- At every reached client, every event makes one such change of each session, and never changes the pool's kind.
 abbrev pub ByTheTable : Type 0
-ByTheTable = (c : Client) → Reached c → (e : Event) → Changes (c .pool .roster) (next e c .pool .roster)
+ByTheTable = (c : Client) → Reached c → (e : Event) → ((id : ℕ) → Change (isSync c) e id (stateOf c id) (stateOf (next e c) id)) × (isSync (next e c) ≡ isSync c)
 
 -- At every reached client, no event lowers the version.
 abbrev pub VersionNeverFalls : Type 0
 VersionNeverFalls = (c : Client) → Reached c → (e : Event) → c .pool .roster .version ≤ next e c .pool .roster .version
-
--- the state of an id's session
-abbrev pub stateOf : Client → ℕ → State
-stateOf c id = sessionAt (c .pool .roster) id .state
 
 -- the one that an answer makes NORMAL
 abbrev pub isOne : Who → ℕ → Bool
@@ -83,10 +99,20 @@ concerns (Event.write xs chunk reached) c j = isNormal (stateOf c j) && not (has
 concerns (Event.synced xs member chunk) c j = false
 concerns (Event.answer xs number a) c j = answerConcerns (c .pool .job) c a j
 
--- Every other session's record stays, save that its mark may go.
+-- In an event from c to c′ some session entered NORMAL.
+pub record Entered (c c′ : Client) : Type 0 where
+  pub who : ℕ
+  pub before : isNormal (stateOf c who) ≡ false
+  pub after : isNormal (stateOf c′ who) ≡ true
+
+-- a session's record is as it was; or it is the old one with its mark gone, and some session entered NORMAL
+pub data Kept (c c′ : Client) (id : ℕ) : Type 0 where
+  equal : recordOf c′ id ≡ recordOf c id → Kept c c′ id
+  cleared : recordOf c′ id ≡ unmarked (recordOf c id) → Entered c c′ → Kept c c′ id
+
+-- Every other session's record is kept so.
 abbrev pub OthersStay : Type 0
-OthersStay = (c : Client) → Reached c → (e : Event) (j : ℕ) → concerns e c j ≡ false
-    → unmarked (sessionAt (next e c .pool .roster) j) ≡ unmarked (sessionAt (c .pool .roster) j)
+OthersStay = (c : Client) → Reached c → (e : Event) (id : ℕ) → concerns e c id ≡ false → Kept c (next e c) id
 
 -- no session is left
 abbrev pub nobodyLeft : Roster → Bool

@@ -1,9 +1,11 @@
 -- All events of the client, each with its data; where a map is lent, with the map's bytes. What an event hands back is what the contracts of the client's
 -- methods say.
+use mathlib.Core.Bool.{Bool, true, false}
 use mathlib.Core.List.{List}
 use Prim.Native.Nat.{ℕ}
 use Rattle.state.specs.declared.Mode.{Mode}
 use Rattle.state.specs.declared.Reply.{Reply}
+use Rattle.state.specs.declared.Answer.{Answer}
 use Rattle.state.specs.declared.Turn.{Turn}
 use Rattle.joins.specs.Joins as Joins
 use Rattle.enables.specs.Enables as Enables
@@ -47,6 +49,11 @@ outOf e c = handed (turnOf e c)
 
 abbrev pub next : Event → Client → Client
 next e c = outOf e c .client
+
+-- an event is accepted where its answer is no refusal
+abbrev pub isAccepted : Answer → Bool
+isAccepted (Answer.Refused n) = false
+isAccepted (Answer.Done s) = true
 
 -- the map that is lent, if any
 pub data Lent : Type 0 where

@@ -2,4 +2,5 @@ pub mod Events
 pub mod Tests
 pub mod Demand1
 pub mod Demand2
+pub mod Said
 pub mod Unique

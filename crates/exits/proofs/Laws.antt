@@ -7,7 +7,7 @@ use borrow.Author.Tests.{eqb-true}
 use Rattle.laws.specs.Words.{pick}
 use Rattle.state.specs.declared.Pool.{Pool}
 use Rattle.state.specs.declared.Turn.{Turn}
-use Rattle.recovery.specs.Recovery.{over}
+use Rattle.recovery.specs.Recovery.{jobEnded}
 use Rattle.exits.specs.Exit.{refused, haltedIf}
 
 -- one turn or the other
@@ -24,6 +24,6 @@ pub refuses : (n : ℕ) (done : Turn) (p : Pool) → eqb n 0 ≡ false → pick 
 refuses n done p e = rw e refl
 
 -- a pool whose removal may halt
-pub halts : (P : Pool → Type 0) (lost : Bool) (p : Pool) → P (over p) → P p → P (haltedIf lost p)
+pub halts : (P : Pool → Type 0) (lost : Bool) (p : Pool) → P (jobEnded p) → P p → P (haltedIf lost p)
 halts P true p h g = h
 halts P false p h g = g

@@ -11,7 +11,7 @@ use Rattle.state.specs.declared.Answer.{Answer}
 use Rattle.state.specs.declared.Effect.{Effect}
 use Rattle.state.specs.declared.Turn.{Turn}
 use Rattle.state.specs.Session.{isNothing}
-use Rattle.recovery.specs.Recovery.{withRoster, over, tried}
+use Rattle.recovery.specs.Recovery.{withRoster, jobEnded, tried}
 
 -- A refusal leaves the state and the client map as they were, with no message.
 abbrev pub refused : Pool → ℕ → Turn
@@ -21,7 +21,8 @@ refused p n = record { answer = Answer.Refused n; pool = p; effect = Effect.Keep
 abbrev pub numberOf : Message → ℕ → ℕ
 numberOf m n = pick (isNothing m) 0 n
 
--- An accepted event: the state before and after, what it reports, the messages not awaited, the awaited one, and what is done to the client map.
+-- An accepted event: the state before and after, what it reports, the messages not awaited, the awaited one, and what is done to the client map. Nothing
+-- looks at the state before yet: it waits for a rule that compares the two.
 abbrev pub accepted : Pool → Pool → Outcome → Told → Message → Effect → Turn
 accepted before after outcome told awaited effect =
     record {
@@ -40,4 +41,4 @@ triedAfter before after outcome told = accepted before (tried after .pool) outco
 
 -- A removal whose awaited peer is lost halts: no job is in hand. What is owed stands in the session.
 abbrev pub haltedIf : Bool → Pool → Pool
-haltedIf lost p = pick lost (over p) p
+haltedIf lost p = pick lost (jobEnded p) p

@@ -27,7 +27,7 @@ fn number_of(m: Message, n: u32) -> u32
     if state::is_nothing(m) { 0 } else { n }
 }
 
-// The one exit of every accepted event.
+// The one exit of every accepted event. before waits for a rule that compares the state before and after.
 pub fn accept(
     before: Pool,
     after: Pool,
@@ -82,7 +82,7 @@ pub fn halt_if(lost: bool, p: Pool) -> Pool
     ensures { λ r. ⌜ r ≡ haltedIf lost p ⌝ }
 {
     if lost {
-        return recovery::end(p);
+        return recovery::end_job(p);
     }
     p
 }

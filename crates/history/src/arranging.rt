@@ -4,7 +4,7 @@ use forms::Command;
 use forms::Which;
 
 // A pool line zeroes all maps, a byte line stores a byte; the others leave the maps.
-pub fn in_maps(c: Command, own: &mut [u8], maps: &mut [u8], stagings: &mut [u8]) {
+pub(crate) fn in_maps(c: Command, own: &mut [u8], maps: &mut [u8], stagings: &mut [u8]) {
     match c {
         Command::Pool(sync, chunks) => zero_all(own, maps, stagings),
         Command::Byte(w, i, v) => byte(w, i, v, own, maps, stagings),
@@ -39,7 +39,7 @@ fn store(all: &mut [u8], n: u64, i: u64, v: u64) {
     text::put(all, at, b);
 }
 
-pub fn in_lab(l: Lab, c: Command) -> Lab {
+pub(crate) fn in_lab(l: Lab, c: Command) -> Lab {
     match c {
         Command::Pool(sync, chunks) => bench::fresh(sync, chunks),
         Command::Auto(on) => bench::set_auto(l, on),

@@ -1,8 +1,6 @@
 // A command, and the line that answers it.
 use crate::arranging;
 use bench::Lab;
-use bench::deliver;
-use bench::nodes;
 use forms::Command;
 use forms::Event;
 use forms::NodeEvent;
@@ -16,14 +14,13 @@ pub struct Said {
     pub at: usize,
 }
 
-pub fn obey(
+pub(crate) fn obey(
     l: Lab,
     c: Command,
     at: usize,
     own: &mut [u8],
     maps: &mut [u8],
     stagings: &mut [u8],
-    scratch: &mut [u8],
     out: &mut [u8],
 ) -> Said {
     match c {
@@ -32,9 +29,9 @@ pub fn obey(
             let to = text::put_bytes(out, at, b"unreadable\n");
             Said { lab: l, at: to }
         }
-        Command::Client(e) => client_line(l, e, at, own, maps, stagings, scratch, out),
-        Command::Node(n, e) => node_line(l, n, e, at, maps, stagings, scratch, out),
-        Command::Deliver => deliver_line(l, at, own, maps, stagings, scratch, out),
+        Command::Client(e) => client_line(l, e, at, own, maps, stagings, out),
+        Command::Node(n, e) => node_line(l, n, e, at, maps, stagings, out),
+        Command::Deliver => deliver_line(l, at, own, maps, stagings, out),
         Command::Row(w, m) => {
             let to = row_line(w, m, at, own, maps, stagings, out);
             Said { lab: l, at: to }
@@ -61,7 +58,6 @@ fn client_line(
     own: &mut [u8],
     maps: &mut [u8],
     stagings: &mut [u8],
-    scratch: &mut [u8],
     out: &mut [u8],
 ) -> Said {
     let before = l.client;
@@ -74,7 +70,7 @@ fn client_line(
             let to = refused(n, at, out);
             Said { lab: l, at: to }
         }
-        Answer::Done(sent) => accepted(l, c, sent, at, maps, stagings, scratch, out),
+        Answer::Done(sent) => accepted(l, c, sent, at, maps, stagings, out),
     }
 }
 
@@ -85,7 +81,6 @@ fn accepted(
     at: usize,
     maps: &mut [u8],
     stagings: &mut [u8],
-    scratch: &mut [u8],
     out: &mut [u8],
 ) -> Said {
     let awaited = sent.awaited;
@@ -94,7 +89,7 @@ fn accepted(
     let k = bench::after(l, c, awaited, sent.number);
     let a = sayclient::put_client(out, at, p, sent);
     let to = text::put_bytes(out, a, b"\n");
-    let next = deliver::tell_auto(k, told, maps, stagings, scratch);
+    let next = delivery::tell_auto(k, told, maps, stagings);
     Said { lab: next, at: to }
 }
 
@@ -105,10 +100,9 @@ fn node_line(
     at: usize,
     maps: &mut [u8],
     stagings: &mut [u8],
-    scratch: &mut [u8],
     out: &mut [u8],
 ) -> Said {
-    let r = nodes::node_event(l, n, e, maps, stagings, scratch);
+    let r = delivery::node_event(l, n, e, maps, stagings);
     let next = r.lab;
     let a = r.answer;
     let to = node_answer(next, n, a, at, out);
@@ -141,7 +135,6 @@ fn deliver_line(
     own: &mut [u8],
     maps: &mut [u8],
     stagings: &mut [u8],
-    scratch: &mut [u8],
     out: &mut [u8],
 ) -> Said {
     let m = l.awaited;
@@ -151,19 +144,10 @@ fn deliver_line(
         return Said { lab: l, at: to };
     }
     let number = l.number as u64;
-    let r = deliver::deliver(l, m, maps, stagings, scratch);
+    let r = delivery::deliver(l, m, maps, stagings);
     let next = r.lab;
     let a = r.reply;
-    client_line(
-        next,
-        Event::Answer(number, a),
-        at,
-        own,
-        maps,
-        stagings,
-        scratch,
-        out,
-    )
+    client_line(next, Event::Answer(number, a), at, own, maps, stagings, out)
 }
 
 fn row_line(

@@ -19,7 +19,6 @@ pub fn run_all(
     own: &mut [u8],
     maps: &mut [u8],
     stagings: &mut [u8],
-    scratch: &mut [u8],
     buf: &mut [u8],
     line: &mut [u8],
     out: &mut [u8],
@@ -27,7 +26,7 @@ pub fn run_all(
     let mut s = begin();
     let mut turns = u64::MAX;
     while turns > 0 && s.go {
-        s = turn(s, own, maps, stagings, scratch, buf, line, out);
+        s = turn(s, own, maps, stagings, buf, line, out);
         turns -= 1;
     }
 }
@@ -49,7 +48,6 @@ fn turn(
     own: &mut [u8],
     maps: &mut [u8],
     stagings: &mut [u8],
-    scratch: &mut [u8],
     buf: &mut [u8],
     line: &mut [u8],
     out: &mut [u8],
@@ -57,7 +55,7 @@ fn turn(
     let cur = s.cur;
     let l = s.lab;
     let c = reading::fetch(cur, buf, line);
-    step(l, c, s.at, line, own, maps, stagings, scratch, out)
+    step(l, c, s.at, line, own, maps, stagings, out)
 }
 
 fn step(
@@ -68,12 +66,11 @@ fn step(
     own: &mut [u8],
     maps: &mut [u8],
     stagings: &mut [u8],
-    scratch: &mut [u8],
     out: &mut [u8],
 ) -> Stand {
     let k = c.kind;
     let Got::Part = k else {
-        let d = command_line(l, c.len, at, line, own, maps, stagings, scratch, out);
+        let d = command_line(l, c.len, at, line, own, maps, stagings, out);
         return onward(d, c, out);
     };
     Stand {
@@ -115,12 +112,11 @@ fn command_line(
     own: &mut [u8],
     maps: &mut [u8],
     stagings: &mut [u8],
-    scratch: &mut [u8],
     out: &mut [u8],
 ) -> asking::Said {
     let to = room(at, out);
     let c = reading::to_command(n, line);
-    asking::obey(l, c, to, own, maps, stagings, scratch, out)
+    asking::obey(l, c, to, own, maps, stagings, out)
 }
 
 // Writes what stands in out up to at.

@@ -21,8 +21,8 @@ use Rattle.roster.specs.declared.Kind.{Kind}
 use Rattle.roster.specs.Roster.{sessionAt, misplaced, unsynced, odd, idsOf}
 use Rattle.run.specs.declared.Next.{Next}
 use Rattle.recovery.specs.Cases.{caseOf, begun}
-use Rattle.kept.specs.Ids.{none-ids}
-use Rattle.kept.specs.Rosters.{Ok}
+use Rattle.keeps.specs.Ids.{none-ids}
+use Rattle.keeps.specs.Rosters.{Ok}
 use Rattle.honest.proofs.Course.{at}
 
 -- ---- which run begins
@@ -63,7 +63,7 @@ module _ (ro : Roster) (r : Run) (e : begun ro ≡ Next.On r) where
 
   pub begun-2 : idsOf Kind.Normals ro ≡ 0 → idsOf Kind.Marked ro ≢ 0
       → (has (idsOf Kind.Candidates ro) (lowest (idsOf Kind.Marked ro)) ≡ true)
-      × (at Phase.Enable (lowest (idsOf Kind.Marked ro)) (without (idsOf Kind.Candidates ro) (lowest (idsOf Kind.Marked ro))) 0 ≡ r)
+      × (at (Phase.Enable false) (lowest (idsOf Kind.Marked ro)) (without (idsOf Kind.Candidates ro) (lowest (idsOf Kind.Marked ro))) 0 ≡ r)
   unfolding caseOf
   begun-2 n k =
       let q = rw (eq-eqb (idsOf Kind.Normals ro) 0 n, ne-eqb (idsOf Kind.Marked ro) 0 k) at (begun-parts .1) in

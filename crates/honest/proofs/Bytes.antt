@@ -9,15 +9,15 @@ use lib.ListN.{getD}
 use Rattle.laws.specs.Words.{one, bit}
 use Rattle.laws.specs.Bits.{bits-same, bit-none}
 use Rattle.sets.specs.Sets.{has}
-use Rattle.maps.specs.Map.{kept}
+use Rattle.maps.specs.Map.{rowsKept}
 use Rattle.chunks.proofs.Laws.{dirty-lt}
 use Rattle.maps.proofs.Chunks.{dirty-kept}
 use Rattle.maps.proofs.Sound.{Sound, sound-kept, sound-byte, dirty-at}
 
 module _ (n s : ℕ) (xs : List ℕ) (p : Sound n xs) (k : ℕ) (h : k < 8192) where
-  kept-bit : (j : ℕ) → j < 8 → bit (getD (kept s xs) k 0) j ≡ min (bit (getD xs k 0) j) (one (has s (k / 512)))
+  kept-bit : (j : ℕ) → j < 8 → bit (getD (rowsKept s xs) k 0) j ≡ min (bit (getD xs k 0) j) (one (has s (k / 512)))
   kept-bit j l =
-      sym (dirty-at (kept s xs) k j h l)
+      sym (dirty-at (rowsKept s xs) k j h l)
       ∙ (dirty-kept xs s (k / 512) (8 * (k % 512) + j) (p .len) (omega arith) (omega arith)
       ∙ ap (λ (d : ℕ). min d (one (has s (k / 512)))) (dirty-at xs k j h l))
 
@@ -25,13 +25,13 @@ module _ (n s : ℕ) (xs : List ℕ) (p : Sound n xs) (k : ℕ) (h : k < 8192) w
   bit-small j l = let a = dirty-lt xs (k / 512) (8 * (k % 512) + j) in let e = dirty-at xs k j h l in omega arith
 
   -- a byte of a member's row stays
-  pub kept-in : has s (k / 512) ≡ true → getD (kept s xs) k 0 ≡ getD xs k 0
+  pub kept-in : has s (k / 512) ≡ true → getD (rowsKept s xs) k 0 ≡ getD xs k 0
   kept-in e =
-      bits-same 8 (getD (kept s xs) k 0) (getD xs k 0) (sound-byte n (kept s xs) (sound-kept n s xs p) k) (sound-byte n xs p k)
+      bits-same 8 (getD (rowsKept s xs) k 0) (getD xs k 0) (sound-byte n (rowsKept s xs) (sound-kept n s xs p) k) (sound-byte n xs p k)
       (λ j l. kept-bit j l ∙ rw e (omega (arith, bit-small j l)))
 
   -- a byte of another row is 0
-  pub kept-out : has s (k / 512) ≡ false → getD (kept s xs) k 0 ≡ 0
+  pub kept-out : has s (k / 512) ≡ false → getD (rowsKept s xs) k 0 ≡ 0
   kept-out e =
-      bits-same 8 (getD (kept s xs) k 0) 0 (sound-byte n (kept s xs) (sound-kept n s xs p) k) (lit< tt)
+      bits-same 8 (getD (rowsKept s xs) k 0) 0 (sound-byte n (rowsKept s xs) (sound-kept n s xs p) k) (lit< tt)
       (λ j l. kept-bit j l ∙ (rw e (omega arith) ∙ sym (bit-none j)))

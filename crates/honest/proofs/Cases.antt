@@ -1,15 +1,21 @@
 -- The three cases: which run begins in each, and what it comes to among honest nodes.
 use mathlib.Core.Path.{_≡_, refl, sym, ap, _∙_}
-use mathlib.Core.Bool.{true, false, not, _||_}
+use mathlib.Core.Bool.{Bool, true, false, not, _&&_, _||_}
 use mathlib.Core.Logic.{_≢_}
-use Prim.Native.Nat.{ℕ, _+_, _*_, _-_, _≤_, _<_}
+use mathlib.Core.List.{List}
+use Prim.Native.Nat.{ℕ, _+_, _*_, _-_, _≤_, _<_, min}
 use native.Mathlib.Omega.{arith}
 use lib.Dec.{eqb}
-use borrow.Author.Tests.{eqb-false}
+use borrow.Author.Tests.{eqb-true, eqb-false}
 use Rattle.laws.specs.Tests.{by-cases, clash}
-use Rattle.refusals.specs.Limits.{versionLimit}
+use Rattle.refusals.specs.Limits.{chunkLimit, versionLimit}
 use Rattle.sets.specs.Sets.{has, without, size, lowest}
 use Rattle.sets.proofs.Laws.{has-below, has-without-same, still, without-lt, lowest-in, size-le, size-without, size-some}
+use Rattle.chunks.specs.Chunk.{dirty}
+use Rattle.chunks.proofs.Laws.{dirty-lt}
+use Rattle.maps.specs.Map.{rowsKept}
+use Rattle.maps.proofs.Chunks.{dirty-kept}
+use Rattle.maps.proofs.Sound.{Sound, sound-fact, sound-test, sound-kept, same-chunks}
 use Rattle.state.specs.declared.Step.{Step}
 use Rattle.state.specs.declared.Phase.{Phase}
 use Rattle.state.specs.declared.Run.{Run}
@@ -19,23 +25,25 @@ use Rattle.state.specs.Session.{candidate}
 use Rattle.roster.specs.declared.Kind.{Kind}
 use Rattle.roster.specs.Roster.{sessionAt, idsOf}
 use Rattle.run.specs.declared.Next.{Next}
-use Rattle.kept.specs.Ids.{ids-has, ids-lt}
-use Rattle.kept.specs.Rosters.{Ok}
-use Rattle.kept.specs.Pools as pools
-use Rattle.kept.specs.Runs.{candidate-member, candidate-normal}
+use Rattle.keeps.specs.Ids.{ids-has, ids-lt}
+use Rattle.keeps.specs.Rosters.{Ok}
+use Rattle.keeps.specs.Pools as pools
+use Rattle.keeps.specs.Runs.{candidate-member, candidate-normal}
 use Rattle.world.specs.Station.{Station}
 use Rattle.world.specs.World.{World, upd, exchanges}
-use Rattle.honest.specs.Demand.{Honest, Up, Recovered, AllHonest, Case1, Case2, Case3}
+use Rattle.honest.specs.Demand.{Up, Recovered, any, isDirty, keeps, setAt, lastIoMarks, Recorded, CaseOne, CaseTwo, CaseThree, OneMap, ChosenUnmarked}
 use Rattle.changes.specs.Changes.{entered}
 use Rattle.honest.proofs.Began.{some-lowest, begun-limit, begun-1, begun-2, begun-3, begun-plain, or-none}
-use Rattle.honest.proofs.Ground.{some, upd-same}
+use Rattle.honest.proofs.Ground.{some, not-in, out-still, upd-same, upd-other}
 use Rattle.honest.proofs.Stations.{Fine, fine, enabledTo, fine-enabled}
 use Rattle.honest.proofs.Course.{Course, course, steps, steps-add, at, spreadHead, baseHead, versionsHead, head-some, spread}
 use Rattle.honest.proofs.Spread.{CanSpread, Spreads, spreads}
 use Rattle.honest.proofs.Enable.{Enabled, enable-spread}
 use Rattle.honest.proofs.Sim.{Sim}
 use Rattle.honest.proofs.Exact.{Tied}
-use Rattle.honest.proofs.Phases.{Fines, Passed, middle}
+use Rattle.honest.proofs.LastIos.{any-none}
+use Rattle.honest.proofs.Maps.{Fines, Prepared}
+use Rattle.honest.proofs.Phases.{Passed, middle}
 use Rattle.honest.proofs.Choice.{Chose, choosing}
 use Rattle.honest.proofs.Ends.{sim-begins, nodes-is, recovered, up-of}
 
@@ -57,12 +65,7 @@ module _ (ro : Roster) (v : Ok ro) (sync : ro .sync ≡ false) where
 
 -- ---- case 1
 
--- Case 1: some session is NORMAL. The source is the lowest NORMAL id, the receivers are the R candidates. With honest nodes, after exactly 3R answers the
--- run is over, each receiver is NORMAL on the client and on its node, and its map is the source's for every member and zero elsewhere. All else at the
--- nodes is as it was.
-pub case-1 : (p : Pool) (w : World) → idsOf Kind.Normals (p .roster) ≢ 0
-    → Honest p (lowest (idsOf Kind.Normals (p .roster))) (idsOf Kind.Candidates (p .roster)) w
-    → Case1 p (lowest (idsOf Kind.Normals (p .roster))) (idsOf Kind.Candidates (p .roster)) (3 * size (idsOf Kind.Candidates (p .roster))) w
+pub case-1 : CaseOne
 case-1 p w normals h =
     record {
       recovered = recovered p w c₀ sim src l 0 (3 * size l) ro (w .nodes) (rw (← run) refl) refl (omega (arith, size-some l (lowest l) (lowest-in l low))) (omega arith) apart (can .source .map) ends;
@@ -124,22 +127,24 @@ case-1 p w normals h =
 
 -- ---- the end of cases 2 and 3, from a course that came to its enabling
 
--- all but the last conclusion of case 2
-record EnabledAll (p : Pool) (source receivers n : ℕ) (w : World) : Type 0 where
+-- what cases 2 and 3 share: the receivers, the source, and the nodes of other ids
+record EnabledAll (p : Pool) (source receivers n : ℕ) (before : ℕ → Station) (w : World) : Type 0 where
   others : Recovered p source receivers n w
   source-is-up : Up p source (exchanges n w)
+  untouched : (j : ℕ) → j ≢ source → has receivers j ≡ false → exchanges n w .nodes j ≡ before j
 
 enabled-all : (p : Pool) (w : World) (c₀ : Course) (src l t n : ℕ) (ro : Roster) (f : ℕ → Station)
     → Sim (p .roster .members) (p .roster .version) w c₀ → Tied c₀ → c₀ .taken ≡ 0 → t + (3 * size l + 1) ≡ n
     → p .roster .version ≤ versionLimit → p .roster .members < 65536 → has (p .roster .members) src ≡ true → CanSpread (p .roster .members) (p .chunks) src l f
     → Enabled (p .roster .members) (p .roster .version) (p .chunks) src l t ro f (steps (p .roster .members) (p .roster .version) n c₀)
-    → EnabledAll p src l n w
+    → EnabledAll p src l n f w
 enabled-all p w c₀ src l t n ro f s tied none all hv hm own can e =
     record {
       others = recovered p w c₀ s src l (t + 1) n (entered ro src) g tied none (omega arith) (omega arith) (can .apart)
           (let q : Fine (p .chunks) src (g src) = rw (upd-same f src a) (fine-enabled (p .chunks) src (p .roster .version) (p .roster .members) (f src) (can .source) hv hm own) in q .map)
           (e .spread);
       source-is-up = up-of p w c₀ s n src (f src .map) (e .source-entered) (e .source-served);
+      untouched = λ j d q. ap (λ (h : ℕ → Station). h j) (nodes-is p w c₀ s n) ∙ (e .spread .same-node j q ∙ upd-other f src j a d);
     }
   where
     a : Station
@@ -150,18 +155,13 @@ enabled-all p w c₀ src l t n ro f s tied none all hv hm own can e =
 
 -- ---- case 2
 
--- Case 2: no session is NORMAL, and one is marked last authoritative. It is the source, the other R candidates receive. With honest nodes, after exactly
--- 3R + 1 answers the run is over, source and receivers are NORMAL on both sides, and each receiver's map is the source's for every member and zero elsewhere.
--- The source's own map is as it was, with the rows outside the members zeroed.
-pub case-2 : (p : Pool) (w : World) → idsOf Kind.Normals (p .roster) ≡ 0 → idsOf Kind.Marked (p .roster) ≢ 0
-    → Honest p (lowest (idsOf Kind.Marked (p .roster))) (without (idsOf Kind.Candidates (p .roster)) (lowest (idsOf Kind.Marked (p .roster)))) w
-    → Case2 p (lowest (idsOf Kind.Marked (p .roster))) (without (idsOf Kind.Candidates (p .roster)) (lowest (idsOf Kind.Marked (p .roster))))
-    (3 * size (without (idsOf Kind.Candidates (p .roster)) (lowest (idsOf Kind.Marked (p .roster)))) + 1) w
+pub case-2 : CaseTwo
 case-2 p w normals marked h =
     record {
       recovered = all .others;
       source-up = all .source-is-up;
       source-map = ap (λ (g : ℕ → Station). g src .map) (nodes-is p w c₀ sim (3 * size l + 1)) ∙ ends .source-served .map;
+      others = all .untouched;
     }
   where
     ro : Roster
@@ -179,7 +179,7 @@ case-2 p w normals marked h =
     plain : p .roster .sync ≡ false
     plain = begun-plain (p .roster) (h .begins .run) (h .begins .began) (v .ok)
 
-    b : (has (idsOf Kind.Candidates (p .roster)) src ≡ true) × (at Phase.Enable src l 0 ≡ h .begins .run)
+    b : (has (idsOf Kind.Candidates (p .roster)) src ≡ true) × (at (Phase.Enable false) src l 0 ≡ h .begins .run)
     b = begun-2 (p .roster) (h .begins .run) (h .begins .began) normals marked
 
     hv : p .roster .version ≤ versionLimit
@@ -205,28 +205,75 @@ case-2 p w normals marked h =
     sim : Sim (p .roster .members) (p .roster .version) w c₀
     sim = sim-begins p w (h .begins)
 
-    starts : course ro (Next.On (at Phase.Enable src l 0)) 0 (w .nodes) ≡ c₀
+    starts : course ro (Next.On (at (Phase.Enable false) src l 0)) 0 (w .nodes) ≡ c₀
     starts = ap (λ (r : Run). course ro (Next.On r) 0 (w .nodes)) (b .1)
 
     ends : Enabled (p .roster .members) (p .roster .version) (p .chunks) src l 0 ro (w .nodes) (steps (p .roster .members) (p .roster .version) (3 * size l + 1) c₀)
-    ends = rw starts at (enable-spread (p .roster .members) (p .roster .version) (p .chunks) hv (v .ok .small) src own ro l 0 (w .nodes) (v .ok .long) small (omega (arith, size-le l)) can)
+    ends = rw starts at (enable-spread (p .roster .members) (p .roster .version) (p .chunks) hv (v .ok .small) src own false ro l 0 (w .nodes) (v .ok .long) small (omega (arith, size-le l)) can)
 
-    all : EnabledAll p src l (3 * size l + 1) w
+    all : EnabledAll p src l (3 * size l + 1) (w .nodes) w
     all = enabled-all p w c₀ src l 0 (3 * size l + 1) ro (w .nodes) sim (rw (← b .1) refl) refl (omega arith) hv (v .ok .small) own can ends
+
+-- ---- the chosen's map in case 3
+
+-- the chosen's map before ENABLE, and so after it, when the rows outside the members are zeroed
+recorded : (p : Pool) (src : ℕ) (f g : ℕ → Station) (xs : List ℕ) → Sound (p .chunks) (g src .map) → p .chunks ≤ chunkLimit
+    → Prepared (p .roster .members) src f g → xs ≡ rowsKept (p .roster .members) (g src .map) → Recorded p src f xs
+recorded p src f g xs s most before e =
+    rw e (record {
+      bytes = sound-test (p .chunks) (rowsKept (p .roster .members) (g src .map)) (sound-kept (p .chunks) (p .roster .members) (g src .map) s);
+      chunk = λ m c a b.
+          let c-in : c < 4096 = omega arith in
+          ap (λ (d : ℕ). eqb d 1) (dirty-kept (g src .map) (p .roster .members) m c (s .len) a c-in)
+          ∙ by-cases (has (p .roster .members) m)
+          (λ q. rw q ((let n : min (dirty (g src .map) m c) 1 ≡ dirty (g src .map) m c = omega (arith, dirty-lt (g src .map) m c) in ap (λ (d : ℕ). eqb d 1) n) ∙ before .chunk m c q c-in))
+          (λ q. rw q (let n : min (dirty (g src .map) m c) 0 ≡ 0 = omega arith in ap (λ (d : ℕ). eqb d 1) n));
+    })
+
+pub one-map : OneMap
+one-map p chosen nodes xs ys a b =
+    same-chunks (p .chunks) xs ys (sound-fact (p .chunks) xs (a .bytes)) (sound-fact (p .chunks) ys (b .bytes))
+    (λ m c h l _. same (dirty xs m c) (dirty ys m c) (dirty-lt xs m c) (dirty-lt ys m c) (a .chunk m c h l ∙ sym (b .chunk m c h l)))
+  where
+    same : (d e : ℕ) → d < 2 → e < 2 → eqb d 1 ≡ eqb e 1 → d ≡ e
+    same d e k l q = by-cases (eqb e 1)
+        (λ r. eqb-true d 1 (q ∙ r) ∙ sym (eqb-true e 1 r))
+        (λ r. let x : d ≢ 1 = eqb-false d 1 (q ∙ r) in let y : e ≢ 1 = eqb-false e 1 r in omega arith)
+
+pub chosen-unmarked : ChosenUnmarked
+chosen-unmarked p n w r c l =
+    r .source-map .chunk chosen c (has-below (p .roster .members) chosen (r .chosen .member)) l
+    ∙ rw (r .chosen .member, none) (held (isDirty (w .nodes chosen .map) chosen c))
+  where
+    chosen : ℕ
+    chosen = r .source
+
+    held : (b : Bool) → (b || false) ≡ b
+    held true = refl
+    held false = refl
+
+    never : (a b d : Bool) → (a && (b && (d && false))) ≡ false
+    never true true true = refl
+    never true true false = refl
+    never true false d = refl
+    never false b d = refl
+
+    none : any 16 (λ j. has (p .roster .members) j && lastIoMarks (p .roster .members) chosen (w .nodes) j chosen c) ≡ false
+    none =
+        any-none 16 (λ j. has (p .roster .members) j && lastIoMarks (p .roster .members) chosen (w .nodes) j chosen c)
+        (λ j h. rw (has-without-same (setAt (p .roster .members) chosen (w .nodes) j) chosen) (never (has (p .roster .members) j) (keeps (w .nodes j .node) c) (not (isDirty (w .nodes chosen .map) chosen c))))
 
 -- ---- case 3
 
--- Case 3: no session is NORMAL and none is marked. With honest nodes of all K members, none with a version above the pool's, the chosen has the highest
--- version (ties to the lowest id); after exactly 11K - 8 answers the run is over, all members are NORMAL on both sides, and each other member's map is the
--- chosen's for every member and zero elsewhere.
-pub case-3 : (p : Pool) (w : World) → idsOf Kind.Normals (p .roster) ≡ 0 → idsOf Kind.Marked (p .roster) ≡ 0 → AllHonest p w
-    → Case3 p (11 * size (p .roster .members) - 8) w
+pub case-3 : CaseThree
 case-3 p w normals marked h =
     record {
       source = src;
       chosen = choice .chosen;
       recovered = all .others;
       source-up = all .source-is-up;
+      source-map = recorded p src (w .nodes) (mid .nodes) (exchanges (11 * k - 8) w .nodes src .map) (mid .fines src own .map) (v .most) (mid .left) (ap (λ (g : ℕ → Station). g src .map) (nodes-is p w c₀ (sim-begins p w (h .begins)) (11 * k - 8)) ∙ ends .source-served .map);
+      others = λ j q. all .untouched j (not-in m src j own q) (out-still m src j q) ∙ mid .left .others j q;
     }
   where
     ro : Roster
@@ -283,7 +330,7 @@ case-3 p w normals marked h =
     n₂ : ℕ
     n₂ = 3 * size o + (k + 3 * size o)
 
-    mid : Passed (p .roster .members) (p .roster .version) (p .chunks) ro (λ q. Next.On (at Phase.Enable src o q)) n₂ (0 + k) (course ro (baseHead m src o (0 + k)) (0 + k) (w .nodes))
+    mid : Passed (p .roster .members) (p .roster .version) (p .chunks) ro (λ q. Next.On (at (Phase.Enable true) src o q)) n₂ (0 + k) (course ro (baseHead m src o (0 + k)) (0 + k) (w .nodes)) (Prepared (p .roster .members) src (w .nodes))
     mid = middle m (p .roster .version) (p .chunks) hv hm src own ro (0 + k) (w .nodes) (omega (arith, size-le m, fewer)) fs
 
     can : CanSpread (p .roster .members) (p .chunks) src o (mid .nodes)
@@ -298,7 +345,7 @@ case-3 p w normals marked h =
     total = omega (arith, fewer)
 
     reach : steps (p .roster .members) (p .roster .version) (11 * k - 8) c₀
-        ≡ steps (p .roster .members) (p .roster .version) (3 * size o + 1) (course ro (Next.On (at Phase.Enable src o (0 + k + n₂))) (0 + k + n₂) (mid .nodes))
+        ≡ steps (p .roster .members) (p .roster .version) (3 * size o + 1) (course ro (Next.On (at (Phase.Enable true) src o (0 + k + n₂))) (0 + k + n₂) (mid .nodes))
     reach =
         ap (steps m (p .roster .version) (11 * k - 8)) (sym starts)
         ∙ (ap (λ (q : ℕ). steps m (p .roster .version) q (course ro (versionsHead m 0 (lowest m) m 0) 0 (w .nodes))) split
@@ -311,7 +358,7 @@ case-3 p w normals marked h =
         split = omega (arith, fewer)
 
     ends : Enabled (p .roster .members) (p .roster .version) (p .chunks) src o (0 + k + n₂) ro (mid .nodes) (steps (p .roster .members) (p .roster .version) (11 * k - 8) c₀)
-    ends = rw (sym reach) at (enable-spread m (p .roster .version) (p .chunks) hv hm src own ro o (0 + k + n₂) (mid .nodes) (v .ok .long) (without-lt m src hm) (omega (arith, size-le m, fewer)) can)
+    ends = rw (sym reach) at (enable-spread m (p .roster .version) (p .chunks) hv hm src own true ro o (0 + k + n₂) (mid .nodes) (v .ok .long) (without-lt m src hm) (omega (arith, size-le m, fewer)) can)
 
-    all : EnabledAll p src o (11 * k - 8) w
+    all : EnabledAll p src o (11 * k - 8) (mid .nodes) w
     all = enabled-all p w c₀ src o (0 + k + n₂) (11 * k - 8) ro (mid .nodes) (sim-begins p w (h .begins)) (rw (← b .1) refl) refl total hv hm own can ends

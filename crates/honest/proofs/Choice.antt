@@ -21,7 +21,7 @@ use Rattle.honest.proofs.Ground.{upd-back, some, by-left, one-fewer}
 use Rattle.honest.proofs.Stations.{asked-law}
 use Rattle.run.proofs.Bound.{counted-one}
 use Rattle.honest.proofs.Course.{Course, course, step, steps, steps-one, at, baseHead, versionsHead}
-use Rattle.honest.proofs.Phases.{Fines}
+use Rattle.honest.proofs.Maps.{Fines}
 
 -- l are still to be asked; of the others src has the version best
 record Inv (m : ℕ) (ver : ℕ → ℕ) (l best src : ℕ) : Type 0 where

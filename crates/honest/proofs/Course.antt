@@ -75,7 +75,7 @@ abbrev pub spreadHead : ℕ → ℕ → ℕ → Next
 spreadHead src l t = pick (eqb l 0) Next.Over (Next.On (at (Phase.Spread Step.Ready) src l t))
 
 abbrev pub gatherHead : ℕ → ℕ → ℕ → ℕ → Next
-gatherHead m src l t = pick (eqb l 0) (Next.On (at Phase.Enable src (without m src) t)) (Next.On (at (Phase.Gather Step.Ready) src l t))
+gatherHead m src l t = pick (eqb l 0) (Next.On (at (Phase.Enable true) src (without m src) t)) (Next.On (at (Phase.Gather Step.Ready) src l t))
 
 abbrev pub lastHead : ℕ → ℕ → ℕ → ℕ → Next
 lastHead m src l t = pick (eqb l 0) (gatherHead m src (without m src) t) (Next.On (at Phase.LastIo src l t))
@@ -160,7 +160,7 @@ module _ (m v c : ℕ) where
 
   module _ (hv : v ≤ versionLimit) (hm : m < 65536) where
     finish : (k : Kind) (ro : Roster) (src l t u : ℕ) (f : ℕ → Station) → t < answerLimit → Fine c (to k src (lowest l)) (f (to k src (lowest l)))
-        → Rattle.nodestate.specs.States.isTaken (f (to k src (lowest l)) .node .transfer) ≡ true → has m (to k src (lowest l)) ≡ true
+        → Rattle.nodestate.specs.States.isMapTaken (f (to k src (lowest l)) .node .transfer) ≡ true → has m (to k src (lowest l)) ≡ true
         → step m v (course ro (Next.On (at (phaseOf k Step.Done) src l t)) u f)
         ≡ course (ups k ro (lowest l)) (headOf k m src (without l (lowest l)) (t + 1)) (t + 1) (upd f (to k src (lowest l)) (doneTo (on k) v m (f (to k src (lowest l)))))
     unfolding step awaitedIn good

@@ -1,6 +1,6 @@
 -- ENABLE_POOL to the source and the enabling spread after it: the end of cases 2 and 3.
 use mathlib.Core.Path.{_≡_, refl, ap, _∙_}
-use mathlib.Core.Bool.{true}
+use mathlib.Core.Bool.{Bool, true}
 use mathlib.Core.Logic.{_≢_}
 use Prim.Native.Nat.{ℕ, _+_, _*_, _≤_, _<_}
 use native.Mathlib.Omega.{arith}
@@ -15,7 +15,7 @@ use Rattle.roster.specs.Roster.{sessionAt}
 use Rattle.changes.specs.Changes.{entered}
 use Rattle.run.specs.declared.Next.{Next}
 use Rattle.run.specs.Run.{awaitedIn, good}
-use Rattle.kept.specs.Ids.{Long}
+use Rattle.keeps.specs.Ids.{Long}
 use Rattle.nodeenables.specs.Enable.{enabled}
 use Rattle.world.specs.Station.{Station}
 use Rattle.world.specs.World.{upd}
@@ -32,13 +32,13 @@ pub record Enabled (m v c src l t : ℕ) (ro : Roster) (f : ℕ → Station) (e 
   pub source-served : Served m v (f src .map) (e .nodes src)
 
 module _ (m v c : ℕ) (hv : v ≤ versionLimit) (hm : m < 65536) (src : ℕ) (own : has m src ≡ true) where
-  enable-step : (ro : Roster) (l t u : ℕ) (f : ℕ → Station) → t < answerLimit → Fine c src (f src)
-      → step m v (course ro (Next.On (at Phase.Enable src l t)) u f) ≡ course (entered ro src) (spreadHead src l (t + 1)) (t + 1) (upd f src (enabledTo v m (f src)))
+  enable-step : (every : Bool) (ro : Roster) (l t u : ℕ) (f : ℕ → Station) → t < answerLimit → Fine c src (f src)
+      → step m v (course ro (Next.On (at (Phase.Enable every) src l t)) u f) ≡ course (entered ro src) (spreadHead src l (t + 1)) (t + 1) (upd f src (enabledTo v m (f src)))
   unfolding step awaitedIn good
-  enable-step ro l t u f h a = rw (enables-law c src v m (f src) a hv hm own, counted-one t h)
+  enable-step every ro l t u f h a = rw (enables-law c src v m (f src) a hv hm own, counted-one t h)
 
   enabled-served : (s : Station) → Served m v (s .map) (enabledTo v m s)
-  unfolding enabled change.instructed change.storedVersion change.takenOver change.endedTransfer change.transferred change.moved
+  unfolding enabled change.instructed change.storedVersion change.takenOver change.endedTransfer change.transferred change.wentTo
   enabled-served s = record { normal = refl; version = refl; members = refl; map = refl }
 
   can-after : (l : ℕ) (f : ℕ → Station) → CanSpread m c src l f → CanSpread m c src l (upd f src (enabledTo v m (f src)))
@@ -52,10 +52,10 @@ module _ (m v c : ℕ) (hv : v ≤ versionLimit) (hm : m < 65536) (src : ℕ) (o
       apart : (j : ℕ) → has l j ≡ true → j ≢ src
       apart j q p = clash q (ap (λ (k : ℕ). has l k) p ∙ can .apart)
 
-  pub enable-spread : (ro : Roster) (l t : ℕ) (f : ℕ → Station) → Long ro → l < 65536 → t + (3 * size l + 1) ≤ answerLimit → CanSpread m c src l f
-      → Enabled m v c src l t ro f (steps m v (3 * size l + 1) (course ro (Next.On (at Phase.Enable src l t)) t f))
-  enable-spread ro l t f long small few can =
-      rw (steps-one m v (3 * size l) (course ro (Next.On (at Phase.Enable src l t)) t f), enable-step ro l t t f (omega arith) (can .source))
+  pub enable-spread : (every : Bool) (ro : Roster) (l t : ℕ) (f : ℕ → Station) → Long ro → l < 65536 → t + (3 * size l + 1) ≤ answerLimit → CanSpread m c src l f
+      → Enabled m v c src l t ro f (steps m v (3 * size l + 1) (course ro (Next.On (at (Phase.Enable every) src l t)) t f))
+  enable-spread every ro l t f long small few can =
+      rw (steps-one m v (3 * size l) (course ro (Next.On (at (Phase.Enable every) src l t)) t f), enable-step every ro l t t f (omega arith) (can .source))
       (ends _ (spreads m v c hv hm src l small (entered ro src) (t + 1) (upd f src (enabledTo v m (f src))) (entered-long ro src long) (omega arith) (can-after l f can)))
     where
       ends : (e : Course) → Spreads m v c src l (t + 1) (entered ro src) (upd f src (enabledTo v m (f src))) e → Enabled m v c src l t ro f e

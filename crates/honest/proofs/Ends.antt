@@ -6,7 +6,7 @@ use Prim.Native.Nat.{ℕ, zero, _+_, _*_, _<_}
 use native.Mathlib.Omega.{arith}
 use lib.ListN.{length, getD}
 use Rattle.sets.specs.Sets.{has, size}
-use Rattle.maps.specs.Map.{kept}
+use Rattle.maps.specs.Map.{rowsKept}
 use Rattle.maps.proofs.Sound.{Sound, sound-kept}
 use Rattle.state.specs.declared.State.{State}
 use Rattle.state.specs.declared.Run.{Run}
@@ -24,8 +24,8 @@ use Rattle.recovery.specs.Recovery.{nextNumber, posted, tried}
 use Rattle.exits.specs.Exit.{numberOf}
 use Rattle.answers.specs.Answers.{answer}
 use Rattle.answers.proofs.Kept.{answer-keeps}
-use Rattle.kept.specs.Pools as pools
-use Rattle.kept.specs.Tried.{tried-keeps}
+use Rattle.keeps.specs.Pools as pools
+use Rattle.keeps.specs.Tried.{tried-keeps}
 use Rattle.nodestate.specs.declared.State as node
 use Rattle.world.specs.Station.{Station}
 use Rattle.world.specs.World.{World, exchanges}
@@ -148,7 +148,7 @@ module _ (p : Pool) (w : World) (c₀ : Course) (s : Sim (p .roster .members) (p
 
       copied : (j : ℕ) → Served (p .roster .members) (p .roster .version) (f src .map) (steps (p .roster .members) (p .roster .version) n c₀ .nodes j) → Copied p src j (exchanges n w)
       copied j b =
-          let q : exchanges n w .nodes j .map ≡ kept (p .roster .members) (f src .map) = ap (λ (g : ℕ → Station). g j .map) (nodes-is n) ∙ b .map in
+          let q : exchanges n w .nodes j .map ≡ rowsKept (p .roster .members) (f src .map) = ap (λ (g : ℕ → Station). g j .map) (nodes-is n) ∙ b .map in
           record {
             bytes = ap length q ∙ sound-kept (p .chunks) (p .roster .members) (f src .map) snd .len;
             equal = λ k h i. ap (λ (xs : List ℕ). getD xs k 0) q ∙ (kept-in (p .chunks) (p .roster .members) (f src .map) snd k h i ∙ sym (ap (λ (xs : List ℕ). getD xs k 0) source-is));

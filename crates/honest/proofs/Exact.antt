@@ -14,7 +14,7 @@ use Rattle.state.specs.declared.Brought.{Brought}
 use Rattle.state.specs.declared.Reply.{Reply}
 use Rattle.run.specs.declared.Next.{Next}
 use Rattle.run.specs.declared.Move.{Move}
-use Rattle.run.specs.Run.{hand, rest, counted, toSpread, toGather, toLast, toBase, toVersions, wentOn, failedAt, failed, versionBrought, goodAt, good, takes, awaitedIn}
+use Rattle.run.specs.Run.{hand, rest, counted, toSpread, toGather, toLast, toBase, toVersions, wentOn, failedAt, failedAnswer, versionBrought, goodAt, good, takes, awaitedIn}
 use Rattle.run.proofs.Bound.{counted-most, Carries}
 use Rattle.world.specs.Station.{Station}
 use Rattle.world.specs.World.{deliver}
@@ -52,15 +52,15 @@ failed-raised (Phase.Versions best) m r = record { count = refl; carries = tt }
 failed-raised (Phase.Base s) m r = record { count = refl; carries = tt }
 failed-raised Phase.LastIo m r = record { count = refl; carries = tt }
 failed-raised (Phase.Gather s) m r = record { count = refl; carries = tt }
-failed-raised Phase.Enable m r = record { count = refl; carries = tt }
+failed-raised (Phase.Enable every) m r = record { count = refl; carries = tt }
 failed-raised (Phase.Spread s) m r = record { count = refl; carries = spread-carries m r (rest r) }
 
 brought-raised : (m v best : ℕ) (r : Run) (b : Brought) → Raised r (versionBrought m v best r b)
-unfolding failed
+unfolding failedAnswer
 brought-raised m v best r Brought.Nothing = failed-raised (r .phase) m r
 brought-raised m v best r (Brought.Version x) = at (ltb v x)
   where
-    at : (b : Bool) → Raised r (pick b (failed r) (wentOn r (toVersions m r (pick (ltb best x) x best) (pick (ltb best x) (hand r) (r .source)) (rest r))))
+    at : (b : Bool) → Raised r (pick b (failedAnswer r) (wentOn r (toVersions m r (pick (ltb best x) x best) (pick (ltb best x) (hand r) (r .source)) (rest r))))
     at true = failed-raised (r .phase) m r
     at false = record { count = refl; carries = versions-carries m r (pick (ltb best x) x best) (pick (ltb best x) (hand r) (r .source)) (rest r) }
 
@@ -73,13 +73,13 @@ good-raised Phase.LastIo m v r b = record { count = refl; carries = last-carries
 good-raised (Phase.Gather Step.Ready) m v r b = record { count = refl; carries = refl }
 good-raised (Phase.Gather Step.Send) m v r b = record { count = refl; carries = refl }
 good-raised (Phase.Gather Step.Done) m v r b = record { count = refl; carries = gather-carries m r (r .source) (rest r) }
-good-raised Phase.Enable m v r b = record { count = refl; carries = spread-carries m r (r .left) }
+good-raised (Phase.Enable every) m v r b = record { count = refl; carries = spread-carries m r (r .left) }
 good-raised (Phase.Spread Step.Ready) m v r b = record { count = refl; carries = refl }
 good-raised (Phase.Spread Step.Send) m v r b = record { count = refl; carries = refl }
 good-raised (Phase.Spread Step.Done) m v r b = record { count = refl; carries = spread-carries m r (rest r) }
 
 takes-raised : (m v : ℕ) (r : Run) (a : Reply) → Raised r (takes m v r a)
-unfolding failed good
+unfolding failedAnswer good
 takes-raised m v r Reply.Failed = failed-raised (r .phase) m r
 takes-raised m v r (Reply.Good b) = good-raised (r .phase) m v r b
 

@@ -1,5 +1,6 @@
 pub mod Ground
 pub mod Stations
+pub mod LastIos
 pub mod Course
 pub mod Spread
 pub mod Sim
@@ -7,6 +8,7 @@ pub mod Exact
 pub mod Bytes
 pub mod Began
 pub mod Enable
+pub mod Maps
 pub mod Phases
 pub mod Choice
 pub mod Ends

@@ -1,18 +1,23 @@
 -- The hypotheses are needed: where one does not hold, an awaited answer is a failed one or is refused, and nobody becomes NORMAL by it.
-use mathlib.Core.Path.{_≡_, refl}
-use mathlib.Core.Bool.{Bool, true, false}
-use Prim.Native.Nat.{ℕ, _<_}
+-- Of the client and of the versions these are facts about the whole run: it is never over, or over at once. Of a node they are facts about one message,
+-- MAP_READY, MAP_SEND or MAP_DONE: not shown is what the rest of the run then comes to.
+use mathlib.Core.Path.{_≡_, refl, ap, _∙_}
+use mathlib.Core.Bool.{Bool, true, false, _&&_}
+use Prim.Native.Nat.{ℕ, zero, suc, _<_}
 use lib.Dec.{ltb}
 use borrow.Author.Tests.{lt-ltb}
+use Rattle.laws.specs.Tests.{by-cases}
 use Rattle.sets.specs.Sets.{has}
+use Rattle.maps.specs.Map.{sound}
 use Rattle.state.specs.declared.Phase.{Phase}
 use Rattle.state.specs.declared.Run.{Run}
 use Rattle.state.specs.declared.Pool.{Pool}
 use Rattle.state.specs.declared.Brought.{Brought}
 use Rattle.state.specs.declared.Reply.{Reply}
+use Rattle.state.specs.declared.Effect.{Effect}
 use Rattle.run.specs.declared.Who.{Who}
 use Rattle.run.specs.declared.Next.{Next}
-use Rattle.run.specs.Run.{failedAt, failed, good, takes}
+use Rattle.run.specs.Run.{failedAt, failedAnswer, good, takes}
 use Rattle.rules.specs.Rules.{validPool}
 use Rattle.exits.specs.Exit as exits
 use Rattle.answers.specs.Answers.{answerRefusal, answer}
@@ -23,7 +28,9 @@ use Rattle.nodestate.specs.Turns.{settled}
 use Rattle.nodeserve.specs.Serve.{serveRefusal, mapReady, give}
 use Rattle.nodehand.specs.Hand.{mapDoneRefusal, mapDone}
 use Rattle.node.specs.Events.{Event}
+use Rattle.client.specs.Client.{carried, answerTurn}
 use Rattle.world.specs.Station.{Station, bothSound, does}
+use Rattle.world.specs.World.{World, deliver, exchange, exchanges}
 
 -- ---- of a node, at its MAP_READY; a source is asked the same at MAP_SEND
 
@@ -59,20 +66,20 @@ failed-nobody (Phase.Versions best) r = refl
 failed-nobody (Phase.Base s) r = refl
 failed-nobody Phase.LastIo r = refl
 failed-nobody (Phase.Gather s) r = refl
-failed-nobody Phase.Enable r = refl
+failed-nobody (Phase.Enable every) r = refl
 failed-nobody (Phase.Spread s) r = refl
 
 pub failed-answer : (m v : ℕ) (r : Run) → takes m v r Reply.Failed .normal ≡ Who.Nobody
-unfolding failed
+unfolding failedAnswer
 failed-answer m v r = failed-nobody (r .phase) r
 
 -- ---- in case 3, no version above the pool's: the run ends
 
 pub needs-version : (m v best x : ℕ) (r : Run) → r .phase ≡ Phase.Versions best → v < x → takes m v r (Reply.Good (Brought.Version x)) .next ≡ Next.Over
-unfolding good failed
+unfolding good failedAnswer
 needs-version m v best x r e h = rw (e, lt-ltb v x h)
 
--- ---- of the client: its state rules, and a sound client map; else the answer is refused
+-- ---- of the client: its state rules, and a sound client map; else the answer is refused, and the run is never over
 
 pub needs-client : (p : Pool) (b : Bool) (n : ℕ) (a : Reply) → validPool p ≡ false → answer p b n a ≡ exits.refused p 1
 unfolding answer answerRefusal
@@ -81,3 +88,23 @@ needs-client p b n a h = rw h
 pub needs-client-map : (p : Pool) (n : ℕ) (a : Reply) → validPool p ≡ true → answer p false n a ≡ exits.refused p 2
 unfolding answer answerRefusal
 needs-client-map p n a h = rw h
+
+refused-turn : (p : Pool) (b : Bool) (n : ℕ) (a : Reply) → (validPool p && b) ≡ false → (answer p b n a .pool ≡ p) × (answer p b n a .effect ≡ Effect.Keep)
+refused-turn p b n a h = by-cases (validPool p)
+    (λ v. let f : b ≡ false = rw v at h in rw (f, needs-client-map p n a v) (refl, refl))
+    (λ v. rw (needs-client p b n a v) (refl, refl))
+
+refused-exchange : (w : World) → (validPool (w .pool) && sound (w .pool .chunks) (w .map)) ≡ false → (exchange w .pool ≡ w .pool) × (exchange w .map ≡ w .map)
+unfolding exchange answerTurn
+refused-exchange w h =
+    let t = refused-turn (w .pool) (sound (w .pool .chunks) (w .map)) (w .sent .number) (deliver (w .sent .awaited) (w .nodes) .reply) h in
+    (t .0, ap (λ (e : Effect). carried e (w .map)) (t .1))
+
+-- no answer is taken: pool and client map stay, however many exchanges follow
+pub needs-both : (n : ℕ) (w : World) → (validPool (w .pool) && sound (w .pool .chunks) (w .map)) ≡ false → (exchanges n w .pool ≡ w .pool) × (exchanges n w .map ≡ w .map)
+unfolding exchanges
+needs-both zero w h = (refl, refl)
+needs-both (suc n) w h =
+    let e = refused-exchange w h in
+    let r = needs-both n (exchange w) (rw (e .0, e .1) h) in
+    (r .0 ∙ e .0, r .1 ∙ e .1)

@@ -1,6 +1,7 @@
--- The phases of case 3 between the choice of the source and its enabling, among honest nodes: each comes to its end, and leaves every member's node honest.
+-- The phases of case 3 between the choice of the source and its enabling, among honest nodes: each comes to its end and leaves every member's node honest,
+-- and they leave the chosen's map as it is to be.
 use mathlib.Core.Path.{_≡_, refl, sym, ap, _∙_}
-use mathlib.Core.Bool.{true, false}
+use mathlib.Core.Bool.{true}
 use mathlib.Core.Logic.{_≢_}
 use Prim.Native.Nat.{ℕ, _+_, _*_, _-_, _≤_, _<_}
 use native.Mathlib.Omega.{arith}
@@ -19,31 +20,29 @@ use Rattle.honest.proofs.Ground.{upd-same, upd-other, out-still, some, 
 use Rattle.honest.proofs.Stations.{Fine, lastTo, marks-law, fine-last, fine-done}
 use Rattle.run.proofs.Bound.{counted-one}
 use Rattle.honest.proofs.Course.{Course, course, step, steps, steps-add, steps-one, steps-three, at, gatherHead, lastHead, baseHead, Kind, base, gather, spread, from, to, keep, on, ups, headOf, head-some, spreadTo, three}
+use Rattle.honest.proofs.Maps.{Round, Fines, Each, each-none, each-more, Gathered, gathered-none, gathered-more, Prepared, prepared}
 
--- every member's node is honest
-abbrev pub Fines : ℕ → ℕ → (ℕ → Station) → Type 0
-Fines m c f = (j : ℕ) → has m j ≡ true → Fine c j (f j)
-
--- n exchanges on from a course that has taken t answers, the sessions as they were: the run is at `next`, the members' nodes are honest
-pub record Passed (m v c : ℕ) (ro : Roster) (next : ℕ → Next) (n t : ℕ) (start : Course) : Type 0 where
+-- n exchanges on from a course that has taken t answers, the sessions as they were: the run is at `next`, the members' nodes are honest and as `Left` says
+pub record Passed (m v c : ℕ) (ro : Roster) (next : ℕ → Next) (n t : ℕ) (start : Course) (Left : (ℕ → Station) → Type 0) : Type 0 where
   pub nodes : ℕ → Station
   pub fines : Fines m c nodes
+  pub left : Left nodes
   pub reach : steps m v n start ≡ course ro (next (t + n)) (t + n) nodes
 
 -- one phase after another
-pub both : (m v c : ℕ) (ro : Roster) (one two : ℕ → Next) (a b t : ℕ) (start : Course) → Passed m v c ro one a t start
-    → ((f : ℕ → Station) → Fines m c f → Passed m v c ro two b (t + a) (course ro (one (t + a)) (t + a) f)) → Passed m v c ro two (a + b) t start
-both m v c ro one two a b t start p q =
-    let r = q (p .nodes) (p .fines) in
+pub both : (m v c : ℕ) (ro : Roster) (one two : ℕ → Next) (a b t : ℕ) (start : Course) (One Two : (ℕ → Station) → Type 0) → Passed m v c ro one a t start One
+    → ((f : ℕ → Station) → Fines m c f → One f → Passed m v c ro two b (t + a) (course ro (one (t + a)) (t + a) f) Two) → Passed m v c ro two (a + b) t start Two
+both m v c ro one two a b t start One Two p q =
+    let r = q (p .nodes) (p .fines) (p .left) in
     let e : t + a + b ≡ t + (a + b) = omega arith in
-    record { nodes = r .nodes; fines = r .fines; reach = steps-add m v a b start ∙ (ap (steps m v b) (p .reach) ∙ (r .reach ∙ ap (λ (k : ℕ). course ro (two k) k (r .nodes)) e)) }
+    record { nodes = r .nodes; fines = r .fines; left = r .left; reach = steps-add m v a b start ∙ (ap (steps m v b) (p .reach) ∙ (r .reach ∙ ap (λ (k : ℕ). course ro (two k) k (r .nodes)) e)) }
 
 -- no exchange
-pub at-once : (m v c : ℕ) (ro : Roster) (next : ℕ → Next) (t : ℕ) (f : ℕ → Station) (start : Course) → Fines m c f → start ≡ course ro (next t) t f → Passed m v c ro next 0 t start
+pub at-once : (m v c : ℕ) (ro : Roster) (next : ℕ → Next) (t : ℕ) (f : ℕ → Station) (start : Course) (Left : (ℕ → Station) → Type 0) → Fines m c f → Left f → start ≡ course ro (next t) t f → Passed m v c ro next 0 t start Left
 unfolding steps
-at-once m v c ro next t f start h e =
+at-once m v c ro next t f start Left h l e =
     let z : t + 0 ≡ t = omega arith in
-    record { nodes = f; fines = h; reach = rw z e }
+    record { nodes = f; fines = h; left = l; reach = rw z e }
 
 -- one node changed
 pub upd-fines : (m c : ℕ) (f : ℕ → Station) (k : ℕ) (s : Station) → Fines m c f → (has m k ≡ true → Fine c k s) → Fines m c (upd f k s)
@@ -56,7 +55,7 @@ upd-fines m c f k s h a j q = go (ℕ-discrete j k)
 -- what comes after a spread
 abbrev pub nextOf : Kind → ℕ → ℕ → ℕ → Next
 nextOf base m src t = lastHead m src m t
-nextOf gather m src t = Next.On (at Phase.Enable src (without m src) t)
+nextOf gather m src t = Next.On (at (Phase.Enable true) src (without m src) t)
 nextOf spread m src t = Next.Over
 
 to-in : (k : Kind) (m src x : ℕ) → has m src ≡ true → has m x ≡ true → has m (to k src x) ≡ true
@@ -74,22 +73,21 @@ two-ends base src x h = h
 two-ends gather src x h = λ e. h (sym e)
 two-ends spread src x h = h
 
--- those left are members, and not the source
-pub record Round (m src l : ℕ) : Type 0 where
-  pub inside : (j : ℕ) → has l j ≡ true → has m j ≡ true
-  pub apart : has l src ≡ false
-
 -- ---- a spread that enables nobody
 module _ (m v c : ℕ) (hv : v ≤ versionLimit) (hm : m < 65536) (src : ℕ) (own : has m src ≡ true) (ro : Roster) where
-  module _ (k : Kind) (quiet : (x : ℕ) → ups k ro x ≡ ro) (last : (t : ℕ) → headOf k m src 0 t ≡ nextOf k m src t) where
+  -- Left l f g: a spread to those in l makes g of f
+  module _ (k : Kind) (quiet : (x : ℕ) → ups k ro x ≡ ro) (last : (t : ℕ) → headOf k m src 0 t ≡ nextOf k m src t) (Left : ℕ → (ℕ → Station) → (ℕ → Station) → Type 0)
+      (left-none : (f : ℕ → Station) → Left 0 f f)
+      (left-more : (l : ℕ) (f g : ℕ → Station) → lowest l < 16 → Round m src l → Fines m c f
+      → Left (without l (lowest l)) (upd f (to k src (lowest l)) (spreadTo k m v (f (from k src (lowest l))) (f (to k src (lowest l))))) g → Left l f g) where
     abbrev pub Looping : ℕ → Type 0
     Looping l = (t : ℕ) (f : ℕ → Station) → t + 3 * size l ≤ answerLimit → Round m src l → Fines m c f
-        → Passed m v c ro (nextOf k m src) (3 * size l) t (course ro (headOf k m src l t) t f)
+        → Passed m v c ro (nextOf k m src) (3 * size l) t (course ro (headOf k m src l t) t f) (Left l f)
 
     loop-none : Looping 0
     loop-none t f few r h =
         let z : 3 * size 0 ≡ 0 = omega (arith, size-zero) in
-        rw z (at-once m v c ro (nextOf k m src) t f (course ro (headOf k m src 0 t) t f) h (ap (λ (n : Next). course ro n t f) (last t)))
+        rw z (at-once m v c ro (nextOf k m src) t f (course ro (headOf k m src 0 t) t f) (Left 0 f) h (left-none f) (ap (λ (n : Next). course ro n t f) (last t)))
 
     loop-more : (l : ℕ) → l < 65536 → lowest l < 16 → Looping (without l (lowest l)) → Looping l
     loop-more l b h rec t f few r fs =
@@ -99,6 +97,7 @@ module _ (m v c : ℕ) (hv : v ≤ versionLimit) (hm : m < 65536) (src : ℕ) (o
         record {
           nodes = i .nodes;
           fines = i .fines;
+          left = left-more l f (i .nodes) h r fs (i .left);
           reach =
               ap (λ (q : ℕ). steps m v q (course ro (headOf k m src l t) t f)) e₃
               ∙ (steps-three m v (size (without l (lowest l))) (course ro (headOf k m src l t) t f)
@@ -145,10 +144,10 @@ module _ (m v c : ℕ) (hv : v ≤ versionLimit) (hm : m < 65536) (src : ℕ) (o
 
   abbrev pub Marking : ℕ → Type 0
   Marking l = (t : ℕ) (f : ℕ → Station) → t + size l ≤ answerLimit → ((j : ℕ) → has l j ≡ true → has m j ≡ true) → Fines m c f
-      → Passed m v c ro (gatherHead m src (without m src)) (size l) t (course ro (lastHead m src l t) t f)
+      → Passed m v c ro (gatherHead m src (without m src)) (size l) t (course ro (lastHead m src l t) t f) (Each l (λ j. lastTo src (f j)) f)
 
   mark-none : Marking 0
-  mark-none t f few r h = rw size-zero (at-once m v c ro (gatherHead m src (without m src)) t f (course ro (lastHead m src 0 t) t f) h refl)
+  mark-none t f few r h = rw size-zero (at-once m v c ro (gatherHead m src (without m src)) t f (course ro (lastHead m src 0 t) t f) (Each 0 (λ j. lastTo src (f j)) f) h (each-none (λ j. lastTo src (f j)) f) refl)
 
   mark-more : (l : ℕ) → l < 65536 → lowest l < 16 → Marking (without l (lowest l)) → Marking l
   mark-more l b h rec t f few r fs =
@@ -156,6 +155,7 @@ module _ (m v c : ℕ) (hv : v ≤ versionLimit) (hm : m < 65536) (src : ℕ) (o
       record {
         nodes = i .nodes;
         fines = i .fines;
+        left = each-more l (λ j. lastTo src (f j)) (λ j. lastTo src (g j)) f (i .nodes) h (λ j q. ap (lastTo src) (upd-other f (lowest l) j (lastTo src (f (lowest l))) (still l (lowest l) j q .1))) (i .left);
         reach =
             ap (λ (q : ℕ). steps m v q (course ro (lastHead m src l t) t f)) (one-fewer l h)
             ∙ (steps-one m v (size (without l (lowest l))) (course ro (lastHead m src l t) t f)
@@ -178,14 +178,36 @@ module _ (m v c : ℕ) (hv : v ≤ versionLimit) (hm : m < 65536) (src : ℕ) (o
   marking = by-left Marking mark-none mark-more
 
   -- ---- the three phases: from the choice of the source to its enabling
+
+  -- the spread without enable, among those in l
+  abbrev Given : ℕ → (ℕ → Station) → (ℕ → Station) → Type 0
+  Given l f g = Each l (λ j. spreadTo base m v (f src) (f j)) f g
+
+  given-none : (f : ℕ → Station) → Given 0 f f
+  given-none f = each-none (λ j. spreadTo base m v (f src) (f j)) f
+
+  given-more : (l : ℕ) (f g : ℕ → Station) → lowest l < 16 → Round m src l → Fines m c f
+      → Given (without l (lowest l)) (upd f (lowest l) (spreadTo base m v (f src) (f (lowest l)))) g → Given l f g
+  given-more l f g h r fs i = each-more l (λ j. spreadTo base m v (f src) (f j)) (λ j. spreadTo base m v (f₁ src) (f₁ j)) f g h same i
+    where
+      f₁ : ℕ → Station
+      f₁ = upd f (lowest l) (spreadTo base m v (f src) (f (lowest l)))
+
+      apart : src ≢ lowest l
+      apart e = clash (lowest-in l h) (ap (λ (q : ℕ). has l q) (sym e) ∙ r .apart)
+
+      same : (j : ℕ) → has (without l (lowest l)) j ≡ true → spreadTo base m v (f₁ src) (f₁ j) ≡ spreadTo base m v (f src) (f j)
+      same j q = rw (upd-other f (lowest l) src (spreadTo base m v (f src) (f (lowest l))) apart, upd-other f (lowest l) j (spreadTo base m v (f src) (f (lowest l))) (still l (lowest l) j q .1))
+
   pub middle : (t : ℕ) (f : ℕ → Station) → t + (3 * size (without m src) + (size m + 3 * size (without m src))) ≤ answerLimit → Fines m c f
-      → Passed m v c ro (λ q. Next.On (at Phase.Enable src (without m src) q)) (3 * size (without m src) + (size m + 3 * size (without m src))) t (course ro (baseHead m src (without m src) t) t f)
+      → Passed m v c ro (λ q. Next.On (at (Phase.Enable true) src (without m src) q)) (3 * size (without m src) + (size m + 3 * size (without m src))) t (course ro (baseHead m src (without m src) t) t f) (Prepared m src f)
   middle t f few fs =
-      both m v c ro (λ q. lastHead m src m q) (λ q. Next.On (at Phase.Enable src (without m src) q)) (3 * size o) (size m + 3 * size o) t (course ro (baseHead m src o t) t f)
-      (loop base (λ x. refl) (λ q. refl) o small t f (omega arith) round fs)
-      (λ f₁ fs₁. both m v c ro (gatherHead m src o) (λ q. Next.On (at Phase.Enable src (without m src) q)) (size m) (3 * size o) (t + 3 * size o) (course ro (lastHead m src m (t + 3 * size o)) (t + 3 * size o) f₁)
+      both m v c ro (λ q. lastHead m src m q) (λ q. Next.On (at (Phase.Enable true) src (without m src) q)) (3 * size o) (size m + 3 * size o) t (course ro (baseHead m src o t) t f) (Given o f) (Prepared m src f)
+      (loop base (λ x. refl) (λ q. refl) Given given-none given-more o small t f (omega arith) round fs)
+      (λ f₁ fs₁ given. both m v c ro (gatherHead m src o) (λ q. Next.On (at (Phase.Enable true) src (without m src) q)) (size m) (3 * size o) (t + 3 * size o) (course ro (lastHead m src m (t + 3 * size o)) (t + 3 * size o) f₁)
+      (Each m (λ j. lastTo src (f₁ j)) f₁) (Prepared m src f)
       (marking m hm (t + 3 * size o) f₁ (omega arith) (λ j q. q) fs₁)
-      (λ f₂ fs₂. loop gather (λ x. refl) (λ q. refl) o small (t + 3 * size o + size m) f₂ (omega arith) round fs₂))
+      (λ f₂ fs₂ marked. seen f₁ fs₁ given f₂ marked _ _ _ _ (loop gather (λ x. refl) (λ q. refl) (Gathered m src) (gathered-none m src) (λ l f g h r fs i. gathered-more c m v src l f g h own r fs i) o small (t + 3 * size o + size m) f₂ (omega arith) round fs₂)))
     where
       o : ℕ
       o = without m src
@@ -195,3 +217,8 @@ module _ (m v c : ℕ) (hv : v ≤ versionLimit) (hm : m < 65536) (src : ℕ) (o
 
       round : Round m src o
       round = record { inside = λ j q. still m src j q .0; apart = has-without-same m src }
+
+      seen : (f₁ : ℕ → Station) → Fines m c f₁ → Given o f f₁ → (f₂ : ℕ → Station) → Each m (λ j. lastTo src (f₁ j)) f₁ f₂ → (next : ℕ → Next) (n t : ℕ) (start : Course)
+          → Passed m v c ro next n t start (Gathered m src o f₂) → Passed m v c ro next n t start (Prepared m src f)
+      seen f₁ fs₁ given f₂ marked next n t start p =
+          record { nodes = p .nodes; fines = p .fines; left = prepared m v c src own f f₁ f₂ (p .nodes) fs fs₁ given marked (p .left); reach = p .reach }

@@ -30,7 +30,7 @@ use Rattle.exits.specs.Exit.{numberOf}
 use Rattle.recovery.specs.Recovery.{nextNumber, posted, disabling}
 use Rattle.answers.specs.Answers as answers
 use Rattle.client.specs.Client.{answerTurn}
-use Rattle.kept.specs.Ids.{Long}
+use Rattle.keeps.specs.Ids.{Long}
 use Rattle.world.specs.Station.{Station}
 use Rattle.world.specs.World.{World, Delivered, deliver, tell, heard, exchange, exchanges}
 use Rattle.honest.proofs.Course.{Course, course, step, steps}
@@ -71,7 +71,7 @@ at-numbered Phase.LastIo m v r n = refl
 at-numbered (Phase.Gather Step.Ready) m v r n = refl
 at-numbered (Phase.Gather Step.Send) m v r n = refl
 at-numbered (Phase.Gather Step.Done) m v r n = refl
-at-numbered Phase.Enable m v r n = refl
+at-numbered (Phase.Enable every) m v r n = refl
 at-numbered (Phase.Spread Step.Ready) m v r n = refl
 at-numbered (Phase.Spread Step.Send) m v r n = refl
 at-numbered (Phase.Spread Step.Done) m v r n = refl
@@ -88,7 +88,7 @@ numAfter (Next.On r) n = nextNumber n
 moves : (num chunks : ℕ) (map : List ℕ) (ro : Roster) (j : Job) (f : ℕ → Station) (w : World) (n : Next) (t : ℕ) (a b : Who) → w .map ≡ map
     → heard w f (answers.reported (record { roster = ro; job = j; number = num; chunks = chunks }) (record { next = n; taken = t; normal = a; disable = b }))
     ≡ worldOf (numAfter n num) chunks map (Outcome.Taken t) (disabling b) (answers.enteredBy a ro) n (tell (disabling b) f)
-unfolding answers.moved posted
+unfolding answers.movedOn posted
 moves num chunks map ro j f w Next.Over t a b e = rw e
 moves num chunks map ro j f w (Next.On r) t a b e = rw e
 

@@ -11,7 +11,7 @@ use Rattle.laws.specs.Tests.{clash}
 use Rattle.refusals.specs.Limits.{answerLimit, versionLimit}
 use Rattle.sets.specs.Sets.{has, without, size, lowest}
 use Rattle.sets.proofs.Laws.{has-none, has-without-same, has-without-other, still, lowest-in, size-zero}
-use Rattle.maps.specs.Map.{kept}
+use Rattle.maps.specs.Map.{rowsKept}
 use Rattle.state.specs.declared.State.{State}
 use Rattle.state.specs.declared.Session.{Session}
 use Rattle.state.specs.declared.Roster.{Roster}
@@ -21,8 +21,8 @@ use Rattle.nodestate.specs.Change as change
 use Rattle.roster.specs.Roster.{sessionAt, stored}
 use Rattle.changes.specs.Changes.{allUnmarked, numbered, more, entered}
 use Rattle.run.specs.declared.Next.{Next}
-use Rattle.kept.specs.Ids.{Long, stored-long, stored-same, stored-other, unmarked-long, unmarked-at}
-use Rattle.nodehand.specs.Hand.{taken, committed}
+use Rattle.keeps.specs.Ids.{Long, stored-long, stored-same, stored-other, unmarked-long, unmarked-at}
+use Rattle.nodehand.specs.Hand.{mapTaken, committed}
 use Rattle.world.specs.Station.{Station}
 use Rattle.world.specs.World.{upd}
 use Rattle.honest.proofs.Ground.{upd-same, upd-other, not-in, out-still, by-left, one-fewer}
@@ -78,7 +78,7 @@ pub record Served (m v : ℕ) (zs : List ℕ) (s : Station) : Type 0 where
   pub normal : s .node .state ≡ node.State.Normal
   pub version : s .node .version ≡ v
   pub members : s .node .members ≡ m
-  pub map : s .map ≡ kept m zs
+  pub map : s .map ≡ rowsKept m zs
 
 pub record Spreads (m v c src l t : ℕ) (ro : Roster) (f : ℕ → Station) (e : Course) : Type 0 where
   pub over : e .next ≡ Next.Over
@@ -89,7 +89,7 @@ pub record Spreads (m v c src l t : ℕ) (ro : Roster) (f : ℕ → Station) (e 
   pub same-node : (j : ℕ) → has l j ≡ false → e .nodes j ≡ f j
 
 serve-law : (m v c x : ℕ) (a b : Station) (src : ℕ) → Fine c src a → Fine c x b → Served m v (a .map) (spreadTo spread m v a b)
-unfolding committed change.instructed change.storedVersion change.takenOver change.endedTransfer change.transferred change.moved
+unfolding committed change.instructed change.storedVersion change.takenOver change.endedTransfer change.transferred change.wentTo
 serve-law m v c x a b src ha hb = record { normal = refl; version = refl; members = refl; map = copy-law c x true v m (a .map) b hb (ha .map) }
 
 module _ (m v c : ℕ) (hv : v ≤ versionLimit) (hm : m < 65536) (src : ℕ) where

@@ -13,21 +13,21 @@ use Rattle.laws.specs.Tests.{clash, and-left, and-right, and-both}
 use Rattle.refusals.specs.Limits.{versionLimit, versionTop}
 use Rattle.sets.specs.Sets.{has, without}
 use Rattle.chunks.specs.Chunk.{markedFor, dirty}
-use Rattle.maps.specs.Map.{sound, copied, kept, zeroed, orIn}
+use Rattle.maps.specs.Map.{sound, copied, rowsKept, zeroed, orIn}
 use Rattle.maps.proofs.Sound.{Sound, sound-fact, sound-test, sound-or, sound-copied, sound-zeroed, sound-kept, sound-markedFor}
 use Rattle.maps.proofs.Rows.{copied-all, or-into-zero}
 use Rattle.nodestate.specs.declared.State.{State}
 use Rattle.nodestate.specs.declared.Transfer.{Transfer}
 use Rattle.nodestate.specs.declared.Answer.{Answer}
 use Rattle.nodestate.specs.declared.Node.{Node}
-use Rattle.nodestate.specs.States.{isJoined, isServing, inHand, isTaken}
-use Rattle.nodestate.specs.Change.{moved, transferred, endedTransfer, instructed, storedVersion, takenOver}
+use Rattle.nodestate.specs.States.{isJoined, isServing, inHand, isMapTaken}
+use Rattle.nodestate.specs.Change.{wentTo, transferred, endedTransfer, instructed, storedVersion, takenOver}
 use Rattle.nodestate.specs.StateRules.{standing, valid, keptOk, isKept}
 use Rattle.nodestate.specs.Turns.{settled}
 use Rattle.nodestate.proofs.Valid.{valid-facts, valid-of, kept-below}
 use Rattle.nodemaps.specs.Carry.{mapAfter, stagingAfter, takenIn, lastIos, lastIoAt, lastIo}
 use Rattle.nodeserve.specs.Serve.{serveRefusal, readied, mapReady, give, mapGetVer, lastIoRefusal, lastIoToMap}
-use Rattle.nodehand.specs.Hand.{handRefusal, taken, take, mapDoneRefusal, committed, mapDone}
+use Rattle.nodehand.specs.Hand.{handRefusal, mapTaken, take, mapDoneRefusal, committed, mapDone}
 use Rattle.nodeenables.specs.Enable.{enable1Refusal, enabled, enable1}
 use Rattle.node.specs.Events.{Event}
 use Rattle.node.specs.Face.{mapBy, stagingBy}
@@ -117,15 +117,15 @@ readyTo keep s = record { node = readied (s .node); map = s .map; staging = fill
 
 -- the map zs taken
 abbrev pub tookIn : List ℕ → Station → Station
-tookIn zs s = record { node = taken (s .node); map = s .map; staging = orIn (s .staging) zs }
+tookIn zs s = record { node = mapTaken (s .node); map = s .map; staging = orIn (s .staging) zs }
 
 -- MAP_DONE
 abbrev pub doneTo : Bool → ℕ → ℕ → Station → Station
-doneTo on v m s = record { node = committed (s .node) on v m; map = kept m (copied (s .map) (s .staging)); staging = zeroed (s .staging) }
+doneTo on v m s = record { node = committed (s .node) on v m; map = rowsKept m (copied (s .map) (s .staging)); staging = zeroed (s .staging) }
 
 -- ENABLE_POOL
 abbrev pub enabledTo : ℕ → ℕ → Station → Station
-enabledTo v m s = record { node = enabled (s .node) v m; map = kept m (s .map); staging = zeroed (s .staging) }
+enabledTo v m s = record { node = enabled (s .node) v m; map = rowsKept m (s .map); staging = zeroed (s .staging) }
 
 -- LAST_IO_TO_MAP
 abbrev pub lastTo : ℕ → Station → Station
@@ -138,11 +138,11 @@ valid-core : (c j : ℕ) (n : Node) → Core c j n → standing (n .state) (n .s
 valid-core c j n k s = valid-of n (record { some = k .some; few = k .few; stand = s; ids = k .ids; top = k .top; keeps = k .keeps })
 
 core-ready : (c j : ℕ) (n : Node) → Core c j n → Core c j (readied n)
-unfolding readied transferred moved keptOk
+unfolding readied transferred wentTo keptOk
 core-ready c j n k = record { id = k .id; below = k .below; chunks = k .chunks; some = k .some; few = k .few; own = k .own; plain = k .plain; store = k .store; joined = refl; ids = k .ids; top = k .top; keeps = k .keeps }
 
-core-taken : (c j : ℕ) (n : Node) → Core c j n → Core c j (taken n)
-unfolding taken transferred keptOk
+core-taken : (c j : ℕ) (n : Node) → Core c j n → Core c j (mapTaken n)
+unfolding mapTaken transferred keptOk
 core-taken c j n k = record { id = k .id; below = k .below; chunks = k .chunks; some = k .some; few = k .few; own = k .own; plain = k .plain; store = k .store; joined = k .joined; ids = k .ids; top = k .top; keeps = k .keeps }
 
 stand-in-hand : (store create own : Bool) (t : Transfer) → own ≡ true → create ≡ false → store ≡ true → standing State.NoIo store create t own ≡ true
@@ -151,16 +151,16 @@ stand-in-hand store create own Transfer.Ready o p s = rw (o, p, s) refl
 stand-in-hand store create own Transfer.Taken o p s = rw (o, p, s) refl
 
 valid-ready : (c j : ℕ) (n : Node) → Core c j n → valid (readied n) ≡ true
-unfolding readied transferred moved
+unfolding readied transferred wentTo
 valid-ready c j n k =
     let r = core-ready c j n k in
     valid-core c j (readied n) r (stand-in-hand (n .store) (n .create) (has (n .members) (n .id)) Transfer.Ready (k .own) (k .plain) (k .store))
 
-valid-taken : (c j : ℕ) (n : Node) → Core c j n → valid (taken (readied n)) ≡ true
-unfolding readied taken transferred moved
+valid-taken : (c j : ℕ) (n : Node) → Core c j n → valid (mapTaken (readied n)) ≡ true
+unfolding readied mapTaken transferred wentTo
 valid-taken c j n k =
     let r = core-taken c j (readied n) (core-ready c j n k) in
-    valid-core c j (taken (readied n)) r (stand-in-hand (n .store) (n .create) (has (n .members) (n .id)) Transfer.Taken (k .own) (k .plain) (k .store))
+    valid-core c j (mapTaken (readied n)) r (stand-in-hand (n .store) (n .create) (has (n .members) (n .id)) Transfer.Taken (k .own) (k .plain) (k .store))
 
 stand-done : (on store create own : Bool) → own ≡ true → create ≡ false → store ≡ true → standing (Rattle.nodehand.specs.Hand.doneTo on State.NoIo) store create Transfer.Nothing own ≡ true
 stand-done true store create own o p s = rw (o, p, s) refl
@@ -170,22 +170,22 @@ joined-done : (on : Bool) → isJoined (Rattle.nodehand.specs.Hand.doneTo on St
 joined-done true = refl
 joined-done false = refl
 
-core-done : (c j : ℕ) (n : Node) (on : Bool) (v m : ℕ) → Core c j n → v ≤ versionLimit → m < 65536 → has m j ≡ true → Core c j (committed (taken (readied n)) on v m)
-unfolding committed instructed storedVersion takenOver endedTransfer taken readied transferred moved keptOk
+core-done : (c j : ℕ) (n : Node) (on : Bool) (v m : ℕ) → Core c j n → v ≤ versionLimit → m < 65536 → has m j ≡ true → Core c j (committed (mapTaken (readied n)) on v m)
+unfolding committed instructed storedVersion takenOver endedTransfer mapTaken readied transferred wentTo keptOk
 core-done c j n on v m k hv hm own = record { id = k .id; below = k .below; chunks = k .chunks; some = k .some; few = k .few; own = rw (k .id) own; plain = k .plain; store = k .store; joined = joined-done on; ids = hm; top = omega arith; keeps = k .keeps }
 
-valid-done : (c j : ℕ) (n : Node) (on : Bool) (v m : ℕ) → Core c j n → v ≤ versionLimit → m < 65536 → has m j ≡ true → valid (committed (taken (readied n)) on v m) ≡ true
-unfolding committed instructed storedVersion takenOver endedTransfer taken readied transferred moved
+valid-done : (c j : ℕ) (n : Node) (on : Bool) (v m : ℕ) → Core c j n → v ≤ versionLimit → m < 65536 → has m j ≡ true → valid (committed (mapTaken (readied n)) on v m) ≡ true
+unfolding committed instructed storedVersion takenOver endedTransfer mapTaken readied transferred wentTo
 valid-done c j n on v m k hv hm own =
-    valid-core c j (committed (taken (readied n)) on v m) (core-done c j n on v m k hv hm own)
+    valid-core c j (committed (mapTaken (readied n)) on v m) (core-done c j n on v m k hv hm own)
     (stand-done on (n .store) (n .create) (has m (n .id)) (rw (k .id) own) (k .plain) (k .store))
 
 core-enabled : (c j : ℕ) (n : Node) (v m : ℕ) → Core c j n → v ≤ versionLimit → m < 65536 → has m j ≡ true → Core c j (enabled n v m)
-unfolding enabled instructed storedVersion takenOver endedTransfer transferred moved keptOk
+unfolding enabled instructed storedVersion takenOver endedTransfer transferred wentTo keptOk
 core-enabled c j n v m k hv hm own = record { id = k .id; below = k .below; chunks = k .chunks; some = k .some; few = k .few; own = rw (k .id) own; plain = k .plain; store = k .store; joined = refl; ids = hm; top = omega arith; keeps = k .keeps }
 
 valid-enabled : (c j : ℕ) (n : Node) (v m : ℕ) → Core c j n → v ≤ versionLimit → m < 65536 → has m j ≡ true → valid (enabled n v m) ≡ true
-unfolding enabled instructed storedVersion takenOver endedTransfer transferred moved
+unfolding enabled instructed storedVersion takenOver endedTransfer transferred wentTo
 valid-enabled c j n v m k hv hm own =
     valid-core c j (enabled n v m) (core-enabled c j n v m k hv hm own)
     (stand-done true (n .store) (n .create) (has m (n .id)) (rw (k .id) own) (k .plain) (k .store))
@@ -211,7 +211,7 @@ sound-one c members chosen chunk xs h p =
     either (Sound c) (eqb (dirty xs chosen chunk) 1) xs (markedFor xs (without members chosen) chunk)
     (λ e. p) (λ e. sound-markedFor c (without members chosen) chunk xs p h)
 
-sound-place : (c j chosen : ℕ) (n : Node) (i : ℕ) (xs : List ℕ) → Core c j n → i < 16 → Sound c xs → Sound c (lastIoAt n chosen i xs)
+pub sound-place : (c j chosen : ℕ) (n : Node) (i : ℕ) (xs : List ℕ) → Core c j n → i < 16 → Sound c xs → Sound c (lastIoAt n chosen i xs)
 unfolding lastIoAt
 sound-place c j chosen n i xs k h p =
     either (Sound c) (isKept n i) (lastIo (n .members) chosen (getD (n .kept) i 0) xs) xs
@@ -262,7 +262,7 @@ unfolding does mapBy stagingBy take handRefusal settled mapAfter stagingAfter ta
 takes-law c j zs s f h z =
     rw (f .rules, both c j s f, (let e : sound (s .node .chunks) zs ≡ true = rw (f .core .chunks) (sound-test c zs z) in e), own-id c j (s .node) (f .core), h)
 
-pub commits-law : (c j : ℕ) (on : Bool) (v m : ℕ) (s : Station) → Fine c j s → isTaken (s .node .transfer) ≡ true → v ≤ versionLimit → m < 65536 → has m j ≡ true
+pub commits-law : (c j : ℕ) (on : Bool) (v m : ℕ) (s : Station) → Fine c j s → isMapTaken (s .node .transfer) ≡ true → v ≤ versionLimit → m < 65536 → has m j ≡ true
     → does s (Event.mapDone on v m) ≡ did (doneTo on v m s)
 unfolding does mapBy stagingBy mapDone mapDoneRefusal settled mapAfter stagingAfter
 commits-law c j on v m s f h hv hm own =
@@ -291,8 +291,8 @@ fine-took c j keep zs s f z =
       staging = sound-or c (filled keep s) zs (sound-filled c keep s (f .map) (f .staging)) z;
     }
 
-pub was-taken : (zs : List ℕ) (s : Station) → isTaken (tookIn zs s .node .transfer) ≡ true
-unfolding taken transferred
+pub was-taken : (zs : List ℕ) (s : Station) → isMapTaken (tookIn zs s .node .transfer) ≡ true
+unfolding mapTaken transferred
 was-taken zs s = refl
 
 pub fine-done : (c j : ℕ) (keep on : Bool) (v m : ℕ) (zs : List ℕ) (s : Station) → Fine c j s → Sound c zs → v ≤ versionLimit → m < 65536 → has m j ≡ true
@@ -319,6 +319,12 @@ pub fine-last : (c j chosen : ℕ) (s : Station) → Fine c j s → Fine c j (la
 fine-last c j chosen s f = record { core = f .core; rules = f .rules; map = sound-last c j chosen (s .node) (s .map) (f .core) (f .map); staging = f .staging }
 
 -- A spread that starts empty leaves the receiver with the source's map, the rows outside the set zeroed.
-pub copy-law : (c j : ℕ) (on : Bool) (v m : ℕ) (zs : List ℕ) (s : Station) → Fine c j s → Sound c zs → doneTo on v m (tookIn zs (readyTo false s)) .map ≡ kept m zs
+pub copy-law : (c j : ℕ) (on : Bool) (v m : ℕ) (zs : List ℕ) (s : Station) → Fine c j s → Sound c zs → doneTo on v m (tookIn zs (readyTo false s)) .map ≡ rowsKept m zs
 copy-law c j on v m zs s f z =
     rw (or-into-zero (s .staging) zs (f .staging .len ∙ sym (z .len)), copied-all (s .map) zs (f .map .len ∙ sym (z .len)))
+
+-- A spread that starts from what the receiver holds leaves it with that and the source's map, ORed, the rows outside the set zeroed.
+pub join-law : (c j : ℕ) (on : Bool) (v m : ℕ) (zs : List ℕ) (s : Station) → Fine c j s → Sound c zs → doneTo on v m (tookIn zs (readyTo true s)) .map ≡ rowsKept m (orIn (s .map) zs)
+join-law c j on v m zs s f z =
+    let o : Sound c (orIn (s .map) zs) = sound-or c (s .map) zs (f .map) z in
+    rw (copied-all (s .staging) (s .map) (f .staging .len ∙ sym (f .map .len)), copied-all (s .map) (orIn (s .map) zs) (f .map .len ∙ sym (o .len)))

@@ -1,16 +1,15 @@
--- Joins, accepted or refused: the state rules are kept; a session's state changes only by the table, and the version never falls; the other sessions' records
--- stay.
+-- Joins, accepted or refused, keep the state rules; and what they leave of the sessions.
 use mathlib.Core.Path.{_≡_, refl, sym, ap, _∙_}
 use mathlib.Core.Bool.{Bool, true, false, not, _&&_, _||_}
 use mathlib.Core.Logic.{_≢_}
-use Prim.Native.Nat.{ℕ, _≤_, _<_}
+use Prim.Native.Nat.{ℕ, _≤_, _<_, max}
 use native.Mathlib.Omega.{arith}
 use lib.Dec.{eqb, ltb}
 use borrow.Author.Tests.{eqb-true, ltb-false, not-false}
 use Rattle.laws.specs.Words.{pick}
 use Rattle.laws.specs.Tests.{clash, passed}
 use Rattle.refusals.specs.Limits.{versionLimit}
-use Rattle.sets.specs.Sets.{has}
+use Rattle.sets.specs.Sets.{has, with}
 use Rattle.sets.proofs.Laws.{has-with-same}
 use Rattle.state.specs.declared.State.{State}
 use Rattle.state.specs.declared.Session.{Session}
@@ -18,18 +17,18 @@ use Rattle.state.specs.declared.Roster.{Roster}
 use Rattle.state.specs.declared.Pool.{Pool}
 use Rattle.state.specs.Session.{isFree, newSession, moved}
 use Rattle.roster.specs.Roster.{sessionAt}
-use Rattle.changes.specs.Changes.{begun, went, memberEntered, takenOver}
+use Rattle.changes.specs.Changes.{enrolled, went, memberEntered, takenOver}
 use Rattle.recovery.specs.Recovery.{withRoster}
 use Rattle.exits.proofs.Laws.{turned}
 use Rattle.rules.specs.Rules.{validPool}
 use Rattle.rules.specs.Jobs.{isIdle}
-use Rattle.kept.specs.Ids.{Long, stored-same, stored-other, stored-long}
-use Rattle.kept.specs.Rosters.{Ok}
-use Rattle.kept.specs.Pools.{Valid}
-use Rattle.kept.specs.Links.{reconnects-keeps}
-use Rattle.kept.specs.Joins.{entered-keeps, taken-keeps, begun-keeps, sync-begun}
-use Rattle.kept.specs.Tried.{idle-valid, tried-keeps, tried-roster}
-use Rattle.kept.specs.Legal.{Moves, begins, moves-none, moves-one}
+use Rattle.keeps.specs.Ids.{Long, stored-same, stored-other, stored-long}
+use Rattle.keeps.specs.Rosters.{Ok}
+use Rattle.keeps.specs.Pools.{Valid}
+use Rattle.keeps.specs.Links.{reconnects-keeps}
+use Rattle.keeps.specs.Joins.{entered-keeps, taken-keeps, begun-keeps, sync-begun}
+use Rattle.keeps.specs.Tried.{idle-valid, tried-keeps}
+use Rattle.keeps.specs.Records.{Numbers}
 use Rattle.joins.specs.Joins.{createRefusal, created, createDone, joinCreate, setBars, assembleRefusal, assembled, assembleDone, joinAssemble}
 
 -- one roster or the other
@@ -56,7 +55,7 @@ create-passed p id e =
 created-keeps : (p : Pool) (id : ℕ) → Valid p → Creates p id → Ok (created (p .roster) id)
 unfolding created
 created-keeps p id v h =
-    chosen Ok (p .roster .sync) (begun (p .roster) id State.Normal) (memberEntered (begun (p .roster) id State.Created) id)
+    chosen Ok (p .roster .sync) (enrolled (p .roster) id State.Normal) (memberEntered (enrolled (p .roster) id State.Created) id)
     (λ e. sync-begun (p .roster) id (v .ok) (h .below) e)
     (λ e. begun-keeps (memberEntered (p .roster) id) id State.Created (entered-keeps (p .roster) id (v .ok) e (h .below)) (h .below) e (h .none) refl (has-with-same (p .roster .members) id (h .below)))
 
@@ -66,31 +65,28 @@ create-keeps p id v =
     turned Valid (createRefusal p id) (createDone p id) p v
     (λ e. let h = create-passed p id e in idle-valid p (created (p .roster) id) v (h .idle) (created-keeps p id v h))
 
-created-other : (ro : Roster) (id j : ℕ) → j ≢ id → sessionAt (created ro id) j ≡ sessionAt ro j
+-- What join create leaves of the sessions: a new one, CREATED or in a sync pool NORMAL, and the others as they were.
+pub created-at : (ro : Roster) (id : ℕ) → Long ro → id < 16 → sessionAt (created ro id) id ≡ newSession (pick (ro .sync) State.Normal State.Created)
+unfolding created
+created-at ro id l h =
+    chosen (λ x. sessionAt x id ≡ newSession (pick (ro .sync) State.Normal State.Created)) (ro .sync) (enrolled ro id State.Normal) (memberEntered (enrolled ro id State.Created) id)
+    (λ e. rw e (stored-same ro id (newSession State.Normal) l h))
+    (λ e. rw e (stored-same ro id (newSession State.Created) l h))
+
+pub created-other : (ro : Roster) (id j : ℕ) → j ≢ id → sessionAt (created ro id) j ≡ sessionAt ro j
 unfolding created
 created-other ro id j ne =
-    chosen (λ x. sessionAt x j ≡ sessionAt ro j) (ro .sync) (begun ro id State.Normal) (memberEntered (begun ro id State.Created) id)
+    chosen (λ x. sessionAt x j ≡ sessionAt ro j) (ro .sync) (enrolled ro id State.Normal) (memberEntered (enrolled ro id State.Created) id)
     (λ e. stored-other ro id (newSession State.Normal) j ne)
     (λ e. stored-other ro id (newSession State.Created) j ne)
 
-created-moves : (p : Pool) (id : ℕ) → Long (p .roster) → Creates p id → Moves (p .roster) (created (p .roster) id)
+pub created-numbers : (ro : Roster) (id : ℕ) → Numbers ro (created ro id) (ro .count) (ro .version) (pick (ro .sync) (ro .members) (with (ro .members) id))
 unfolding created
-created-moves p id l h =
-    chosen (Moves (p .roster)) (p .roster .sync) (begun (p .roster) id State.Normal) (memberEntered (begun (p .roster) id State.Created) id)
-    (λ e. moves-one (p .roster) (begun (p .roster) id State.Normal) id (λ j ne. ap (λ (x : Session). x .state) (stored-other (p .roster) id (newSession State.Normal) j ne))
-    (rw (stored-same (p .roster) id (newSession State.Normal) l (h .below)) (begins (p .roster .sync) (sessionAt (p .roster) id .state) State.Normal (h .none) refl)) (omega arith))
-    (λ e. moves-one (p .roster) (memberEntered (begun (p .roster) id State.Created) id) id (λ j ne. ap (λ (x : Session). x .state) (stored-other (p .roster) id (newSession State.Created) j ne))
-    (rw (stored-same (p .roster) id (newSession State.Created) l (h .below)) (begins (p .roster .sync) (sessionAt (p .roster) id .state) State.Created (h .none) refl)) (omega arith))
-
-pub create-moves : (p : Pool) (id : ℕ) → Long (p .roster) → Moves (p .roster) (joinCreate p id .pool .roster)
-unfolding joinCreate createDone
-create-moves p id l =
-    turned (λ q. Moves (p .roster) (q .roster)) (createRefusal p id) (createDone p id) p (moves-none (p .roster)) (λ e. created-moves p id l (create-passed p id e))
-
-pub create-others : (p : Pool) (id j : ℕ) → j ≢ id → sessionAt (joinCreate p id .pool .roster) j ≡ sessionAt (p .roster) j
-unfolding joinCreate createDone
-create-others p id j ne =
-    turned (λ q. sessionAt (q .roster) j ≡ sessionAt (p .roster) j) (createRefusal p id) (createDone p id) p refl (λ e. created-other (p .roster) id j ne)
+created-numbers ro id =
+    chosen (λ x. Numbers ro x (ro .count) (ro .version) (pick (ro .sync) (ro .members) (with (ro .members) id))) (ro .sync)
+    (enrolled ro id State.Normal) (memberEntered (enrolled ro id State.Created) id)
+    (λ e. record { kind = refl; counted = refl; versioned = refl; held = rw e refl })
+    (λ e. record { kind = refl; counted = refl; versioned = refl; held = rw e refl })
 
 -- ---- join, assemble
 
@@ -144,8 +140,8 @@ unfolding assembled
 assembled-keeps p id set version v h =
     let ro = takenOver (p .roster) set version in
     let ok = taken-keeps (p .roster) set version (v .ok) (h .plain) (h .small) (h .low) in
-    let here : sessionAt (begun (takenOver (p .roster) set version) id State.Created) id ≡ newSession State.Created = stored-same (takenOver (p .roster) set version) id (newSession State.Created) (v .ok .long) (h .below) in
-    reconnects-keeps (begun (takenOver (p .roster) set version) id State.Created) id
+    let here : sessionAt (enrolled (takenOver (p .roster) set version) id State.Created) id ≡ newSession State.Created = stored-same (takenOver (p .roster) set version) id (newSession State.Created) (v .ok .long) (h .below) in
+    reconnects-keeps (enrolled (takenOver (p .roster) set version) id State.Created) id
     (begun-keeps (takenOver (p .roster) set version) id State.Created ok (h .below) (h .plain) (h .none) refl (holds (p .roster .members) set id (h .held)))
     (h .below) (h .plain) (rw here refl) (rw here refl)
 
@@ -162,28 +158,21 @@ assemble-keeps p id set version v =
     (idle-valid p (assembled (p .roster) id set version) v (h .idle) (assembled-keeps p id set version v h))
     (assembled-sync (p .roster) id set version ∙ h .plain))
 
-assembled-other : (ro : Roster) (id set version j : ℕ) → j ≢ id → sessionAt (assembled ro id set version) j ≡ sessionAt ro j
+-- What join assemble leaves of them: a new one, RECONNECTING, the others as they were, and the larger version.
+pub assembled-at : (ro : Roster) (id set version : ℕ) → Long ro → id < 16 → sessionAt (assembled ro id set version) id ≡ newSession State.Reconnecting
+unfolding assembled went
+assembled-at ro id set version l h =
+    stored-same (enrolled (takenOver ro set version) id State.Created) id (moved (sessionAt (enrolled (takenOver ro set version) id State.Created) id) State.Reconnecting)
+    (stored-long (takenOver ro set version) id (newSession State.Created) l) h
+    ∙ ap (λ (s : Session). moved s State.Reconnecting) (stored-same (takenOver ro set version) id (newSession State.Created) l h)
+
+pub assembled-other : (ro : Roster) (id set version j : ℕ) → j ≢ id → sessionAt (assembled ro id set version) j ≡ sessionAt ro j
 unfolding assembled went
 assembled-other ro id set version j ne =
-    stored-other (begun (takenOver ro set version) id State.Created) id (moved (sessionAt (begun (takenOver ro set version) id State.Created) id) State.Reconnecting) j ne
+    stored-other (enrolled (takenOver ro set version) id State.Created) id (moved (sessionAt (enrolled (takenOver ro set version) id State.Created) id) State.Reconnecting) j ne
     ∙ stored-other (takenOver ro set version) id (newSession State.Created) j ne
 
-assembled-moves : (p : Pool) (id set version : ℕ) → Long (p .roster) → Assembles p id set version → Moves (p .roster) (assembled (p .roster) id set version)
+pub assembled-numbers : (ro : Roster) (id set version : ℕ)
+    → Numbers ro (assembled ro id set version) (ro .count) (max (ro .version) version) (pick (eqb (ro .members) 0) set (ro .members))
 unfolding assembled went
-assembled-moves p id set version l h =
-    moves-one (p .roster) (assembled (p .roster) id set version) id (λ j ne. ap (λ (x : Session). x .state) (assembled-other (p .roster) id set version j ne))
-    (rw (stored-same (begun (takenOver (p .roster) set version) id State.Created) id (moved (sessionAt (begun (takenOver (p .roster) set version) id State.Created) id) State.Reconnecting) (stored-long (takenOver (p .roster) set version) id (newSession State.Created) l) (h .below), h .plain)
-    (begins false (sessionAt (p .roster) id .state) State.Reconnecting (h .none) refl))
-    (omega arith)
-
-pub assemble-moves : (p : Pool) (id set version : ℕ) → Long (p .roster) → Moves (p .roster) (joinAssemble p id set version .pool .roster)
-unfolding joinAssemble assembleDone
-assemble-moves p id set version l =
-    turned (λ q. Moves (p .roster) (q .roster)) (assembleRefusal p id set version) (assembleDone p id set version) p (moves-none (p .roster))
-    (λ e. rw (tried-roster (withRoster p (assembled (p .roster) id set version))) (assembled-moves p id set version l (assemble-passed p id set version e)))
-
-pub assemble-others : (p : Pool) (id set version j : ℕ) → j ≢ id → sessionAt (joinAssemble p id set version .pool .roster) j ≡ sessionAt (p .roster) j
-unfolding joinAssemble assembleDone
-assemble-others p id set version j ne =
-    turned (λ q. sessionAt (q .roster) j ≡ sessionAt (p .roster) j) (assembleRefusal p id set version) (assembleDone p id set version) p refl
-    (λ e. rw (tried-roster (withRoster p (assembled (p .roster) id set version))) (assembled-other (p .roster) id set version j ne))
+assembled-numbers ro id set version = record { kind = refl; counted = refl; versioned = refl; held = refl }

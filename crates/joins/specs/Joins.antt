@@ -17,7 +17,7 @@ use Rattle.state.specs.declared.Turn.{Turn}
 use Rattle.state.specs.Session.{isFree}
 use Rattle.roster.specs.declared.Kind.{Kind}
 use Rattle.roster.specs.Roster.{sessionAt, idsOf}
-use Rattle.changes.specs.Changes.{begun, went, memberEntered, takenOver}
+use Rattle.changes.specs.Changes.{enrolled, went, memberEntered, takenOver}
 use Rattle.recovery.specs.Recovery.{withRoster}
 use Rattle.exits.specs.Exit.{refused, changed, triedAfter}
 use Rattle.rules.specs.Rules.{validPool}
@@ -43,7 +43,7 @@ createRefusal p id = refusal (createTests p id)
 
 -- A new session CREATED, the member entered. In a sync pool it is NORMAL, and nobody is a member.
 unfoldable pub created : Roster → ℕ → Roster
-created ro id = pick (ro .sync) (begun ro id State.Normal) (memberEntered (begun ro id State.Created) id)
+created ro id = pick (ro .sync) (enrolled ro id State.Normal) (memberEntered (enrolled ro id State.Created) id)
 
 unfoldable pub createDone : Pool → ℕ → Turn
 createDone p id = changed p (created (p .roster) id) (joinTold (p .roster) Op.AddCreate id)
@@ -73,7 +73,7 @@ assembleRefusal p id set version = refusal (assembleTests p id set version)
 
 -- An empty membership takes the set over, the larger version stands, and the session is CREATED, then RECONNECTING.
 unfoldable pub assembled : Roster → ℕ → ℕ → ℕ → Roster
-assembled ro id set version = went (begun (takenOver ro set version) id State.Created) id State.Reconnecting
+assembled ro id set version = went (enrolled (takenOver ro set version) id State.Created) id State.Reconnecting
 
 -- Then recovery is tried.
 unfoldable pub assembleDone : Pool → ℕ → ℕ → ℕ → Turn

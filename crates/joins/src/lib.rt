@@ -49,9 +49,9 @@ fn create(ro: Roster, id: u64) -> Roster
     ensures { λ r. ⌜ r ≡ created ro id ⌝ }
 {
     if ro.sync {
-        return changes::begin(ro, id, State::Normal);
+        return changes::enroll(ro, id, State::Normal);
     }
-    let with_session = changes::begin(ro, id, State::Created);
+    let with_session = changes::enroll(ro, id, State::Created);
     changes::enter_member(with_session, id)
 }
 
@@ -108,7 +108,7 @@ fn assemble(ro: Roster, id: u64, set: u64, version: u64) -> Roster
     ensures { λ r. ⌜ r ≡ assembled ro id set version ⌝ }
 {
     let taken = changes::take_over(ro, set, version);
-    let with_session = changes::begin(taken, id, State::Created);
+    let with_session = changes::enroll(taken, id, State::Created);
     changes::go(with_session, id, State::Reconnecting)
 }
 

@@ -1,82 +1,33 @@
-// A client's event, its maps lent as far as the lab lends them. lent says how many bytes of each map are lent: the nodes' maps, then their staging maps, then
-// the client's.
+// A client's event, its map and the node's map that it reads lent as far as the lab lends them.
+ghost use mathlib.Core.Path.{_≡_};
+ghost use Rattle.lendclient.specs.Lend.{lender, clientHands, ownAfter};
 use client::Client;
+use client::Out;
 use forms::Event;
+use lending::Lent;
 
-// The end of the lent part of a map of 8,192 bytes.
-fn cut(lent: u64) -> usize {
-    if 8192 < lent {
-        return 8192;
-    }
-    lent as usize
+// Whose map is read; 16, no node's, where none is.
+fn read_from(e: Event) -> u64
+    ensures { λ r. ⌜ r ≡ lender e ⌝ }
+{
+    let Event::Synced(member, chunk, n) = e else {
+        return 16;
+    };
+    n
 }
 
-// How much of map k is lent.
-pub fn lent_of(l: [u64; 33], k: u64) -> usize {
-    if 32 < k {
-        return 0;
-    }
-    let i = k as usize;
-    cut(l[i])
-}
-
-// A client event. own is the client's map, maps are those of the nodes.
-pub fn client_event(
-    c: Client,
-    lent: [u64; 33],
-    e: Event,
-    own: &mut [u8],
-    maps: &[u8],
-) -> client::Out {
-    match e {
-        Event::JoinCreate(id) => c.join_create(id),
-        Event::JoinAssemble(id, set, version) => c.join_assemble(id, set, version),
-        Event::Enable(id) => c.enable(id),
-        Event::Maintenance(id) => c.maintenance(id),
-        Event::LinkDown(id) => c.link_down(id),
-        Event::StoreCheck(id) => c.store_check(id),
-        Event::Try => c.try_run(),
-        Event::Remove(id, mode) => {
-            let z = 0;
-            let e = lent_of(lent, 32);
-            if own.len() < e {
-                return c.remove(own, id, mode);
-            }
-            c.remove(&mut own[z..e], id, mode)
-        }
-        Event::Write(chunk, reached) => {
-            let z = 0;
-            let e = lent_of(lent, 32);
-            if own.len() < e {
-                return c.write(own, chunk, reached);
-            }
-            c.write(&mut own[z..e], chunk, reached)
-        }
-        Event::Synced(member, chunk, n) => synced(c, lent, maps, member, chunk, n),
-        Event::Answer(number, a) => {
-            let z = 0;
-            let e = lent_of(lent, 32);
-            if own.len() < e {
-                return c.answer(own, number, a);
-            }
-            c.answer(&mut own[z..e], number, a)
-        }
-    }
-}
-
-// Synced, with node n's map lent.
-fn synced(c: Client, lent: [u64; 33], maps: &[u8], member: u64, chunk: u64, n: u64) -> client::Out {
-    if maps.len() < 131072 {
-        return c.synced(maps, member, chunk);
-    }
-    if 15 < n {
-        return c.synced(maps, member, chunk);
-    }
-    let size = lent_of(lent, n);
-    if 8192 < size {
-        return c.synced(maps, member, chunk);
-    }
-    let x = (n as usize) * 8192;
-    let e = x + size;
-    c.synced(&maps[x..e], member, chunk)
+// The event; own is the client's map, maps are those of the nodes.
+pub fn client_event(c: Client, lent: Lent, e: Event, own: &mut [u8], maps: &[u8]) -> Out
+    ensures { λ r. ⌜ r ≡ clientHands c lent e (now (own .entry)) (now (maps .entry)) ⌝ }
+    ensures { λ _. ⌜ now (own .exit) ≡ ownAfter c lent e (now (own .entry)) ⌝ }
+{
+    let n = read_from(e);
+    let sizes = lent.maps;
+    let s = lending::find(own.len(), 0, lending::cut(lent.own));
+    let t = lending::find(maps.len(), n, lending::size(sizes, n));
+    let a = s.from;
+    let b = s.to;
+    let x = t.from;
+    let y = t.to;
+    anyclient::call(c, e, &mut own[a..b], &maps[x..y])
 }

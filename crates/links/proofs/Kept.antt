@@ -1,38 +1,35 @@
--- Link down, store check and try, accepted or refused: the state rules are kept; a session's state changes only by the table, and the version
--- never falls; the other sessions' records stay.
-use mathlib.Core.Path.{_≡_, refl, sym, _∙_}
+-- Link down, store check and try, accepted or refused, keep the state rules; and what they leave of the sessions.
+use mathlib.Core.Path.{_≡_, refl, sym, ap, _∙_}
 use mathlib.Core.Bool.{Bool, true, false, not, _&&_, _||_}
 use mathlib.Core.Logic.{_≢_}
-use Prim.Native.Nat.{ℕ, _<_}
+use Prim.Native.Nat.{ℕ, _-_, _<_}
 use native.Mathlib.Decide.{ℕ-discrete}
 use native.Mathlib.Omega.{arith}
 use lib.Dec.{eqb, ltb}
 use borrow.Author.Tests.{eqb-true, ltb-false, not-false}
-use Rattle.laws.specs.Tests.{by-cases, clash, passed, all-at}
+use Rattle.laws.specs.Words.{pick}
+use Rattle.laws.specs.Tests.{by-cases, clash, passed, and-left, and-right, all-at}
 use Rattle.state.specs.declared.State.{State}
 use Rattle.state.specs.declared.Roster.{Roster}
 use Rattle.state.specs.declared.Run.{Run}
 use Rattle.state.specs.declared.Job.{Job}
 use Rattle.state.specs.declared.Pool.{Pool}
-use Rattle.state.specs.Session.{isFree, isCreated, isNormal, isFailed, isReconnecting, isRemoving, moved}
-use Rattle.state.specs.Table.{legal}
+use Rattle.state.specs.Session.{isFree, isCreated, isNormal, isFailed, isReconnecting, isRemoving, moved, marked}
 use Rattle.changes.specs.declared.Cause.{Cause}
 use Rattle.roster.specs.Roster.{sessionAt}
-use Rattle.changes.specs.Changes.{unmarked, entered, left, failed, went}
-use Rattle.recovery.specs.Recovery.{withRoster, over}
+use Rattle.changes.specs.Changes.{more, entered, went}
+use Rattle.recovery.specs.Recovery.{withRoster, jobEnded}
 use Rattle.exits.specs.Exit.{haltedIf}
 use Rattle.exits.proofs.Laws.{picked, turned, halts}
 use Rattle.rules.specs.Rules.{validPool, runRules, runOk}
-use Rattle.rules.specs.Jobs.{isIdle, isPeer, isLeaving}
-use Rattle.kept.specs.Ids.{Long, stored-other}
-use Rattle.kept.specs.Rosters.{Ok}
-use Rattle.kept.specs.Pools.{Valid}
-use Rattle.kept.specs.Links.{isLive, failed-keeps, reconnects-keeps, sync-enters}
-use Rattle.kept.specs.Tried.{idle-valid, tried-keeps, tried-roster}
-use Rattle.kept.specs.Legal.{Moves, goes, moves-none, moves-went, moves-entered, moves-failed, entered-other, failed-other}
+use Rattle.rules.specs.Jobs.{isIdle, isPeer}
+use Rattle.keeps.specs.Ids.{Long, stored-same, stored-other}
+use Rattle.keeps.specs.Rosters.{Ok}
+use Rattle.keeps.specs.Pools.{Valid, removal-stays}
+use Rattle.keeps.specs.Links.{isLive, failed-keeps, reconnects-keeps, sync-enters}
+use Rattle.keeps.specs.Tried.{idle-valid, tried-keeps, tried-roster}
+use Rattle.keeps.specs.Records.{Numbers, isLast, entered-at, sync-entered-other, entered-numbers, failed-at, failed-other, normal-failed, other-failed}
 use Rattle.links.specs.Links.{drops, downRefusal, dropped, downAt, downDone, linkDown, checks, checkRefusal, checkDone, storeCheck, tryRefusal, tryRun}
-
--- ---- the states that the events ask for, and the legal changes
 
 checks-are : (st : State) (sync : Bool) → (isFailed st || (isCreated st && not sync)) ≡ true → (isNormal st ≡ false) × (isLive st ≡ true)
 checks-are State.Free sync e = clash refl (sym e)
@@ -41,35 +38,6 @@ checks-are State.Normal sync e = clash refl (sym e)
 checks-are State.Failed sync e = (refl, refl)
 checks-are State.Reconnecting sync e = clash refl (sym e)
 checks-are (State.Removing m owed) sync e = clash refl (sym e)
-
-to-failed : (sync : Bool) (st : State) → (isCreated st || (isNormal st || isReconnecting st)) ≡ true → legal sync st State.Failed ≡ true
-to-failed sync State.Free e = e
-to-failed sync State.Created e = at sync
-  where
-    at : (b : Bool) → legal b State.Created State.Failed ≡ true
-    at true = refl
-    at false = refl
-to-failed sync State.Normal e = refl
-to-failed sync State.Failed e = clash refl (sym e)
-to-failed true State.Reconnecting e = refl
-to-failed false State.Reconnecting e = refl
-to-failed sync (State.Removing m owed) e = e
-
-to-reconnecting : (st : State) → (isFailed st || (isCreated st && not false)) ≡ true → legal false st State.Reconnecting ≡ true
-to-reconnecting State.Free e = e
-to-reconnecting State.Created e = refl
-to-reconnecting State.Normal e = clash refl (sym e)
-to-reconnecting State.Failed e = refl
-to-reconnecting State.Reconnecting e = clash refl (sym e)
-to-reconnecting (State.Removing m owed) e = e
-
-sync-back : (st : State) → (isFailed st || (isCreated st && not true)) ≡ true → legal true st State.Normal ≡ true
-sync-back State.Free e = e
-sync-back State.Created e = refl
-sync-back State.Normal e = clash refl (sym e)
-sync-back State.Failed e = refl
-sync-back State.Reconnecting e = clash refl (sym e)
-sync-back (State.Removing m owed) e = e
 
 -- ---- link down
 
@@ -97,7 +65,19 @@ and-less a b e = rw e refl
 -- a session that is not REMOVING and may drop
 falls : (j : Job) (st : State) (id : ℕ) → drops j st id ≡ true → isRemoving st ≡ false → (isCreated st || (isNormal st || isReconnecting st)) ≡ true
 unfolding drops
-falls j st id e f = or-false (isCreated st || (isNormal st || isReconnecting st)) (isRemoving st && isLeaving j id) e (and-less (isRemoving st) (isLeaving j id) f)
+falls j st id e f = or-false (isCreated st || (isNormal st || isReconnecting st)) (isRemoving st && isPeer j id) e (and-less (isRemoving st) (isPeer j id) f)
+
+normal-lives : (st : State) → isNormal st ≡ true → isRemoving st ≡ false
+normal-lives State.Free e = refl
+normal-lives State.Created e = refl
+normal-lives State.Normal e = refl
+normal-lives State.Failed e = refl
+normal-lives State.Reconnecting e = refl
+normal-lives (State.Removing m owed) e = clash e refl
+
+not-true : (b : Bool) → not b ≡ true → b ≡ false
+not-true true e = sym e
+not-true false e = refl
 
 live-of : (a b : Bool) → a ≡ false → b ≡ false → not (a || b) ≡ true
 live-of a b e f = rw (e, f) refl
@@ -109,26 +89,37 @@ dropped-keeps p id v h =
     (λ e. rw e (v .ok))
     (λ e. rw e (failed-keeps (p .roster) id Cause.Link (v .ok) (h .below) (live-of (isFree (sessionAt (p .roster) id .state)) (isRemoving (sessionAt (p .roster) id .state)) (h .some) e)))
 
-dropped-moves : (p : Pool) (id : ℕ) → Long (p .roster) → Drops p id → Moves (p .roster) (dropped (p .roster) id)
+-- What link down leaves of the sessions: it is FAILED, with its flag, and with its mark unless it was NORMAL; a REMOVING one stays, and so do the others.
+pub dropped-at : (ro : Roster) (id : ℕ) → Long ro → id < 16
+    → sessionAt (dropped ro id) id
+    ≡ pick (isRemoving (sessionAt ro id .state)) (sessionAt ro id) (marked (moved (sessionAt ro id) State.Failed) (pick (isNormal (sessionAt ro id .state)) (isLast ro) (sessionAt ro id .mark)))
 unfolding dropped
-dropped-moves p id l h =
-    by-cases (isRemoving (sessionAt (p .roster) id .state))
-    (λ e. rw e (moves-none (p .roster)))
-    (λ e. rw e (moves-failed (p .roster) id Cause.Link l (h .below) (goes (p .roster .sync) (sessionAt (p .roster) id .state) State.Failed (to-failed (p .roster .sync) (sessionAt (p .roster) id .state) (falls (p .job) (sessionAt (p .roster) id .state) id (h .may) e)))))
+dropped-at ro id l h = by-cases (isRemoving (sessionAt ro id .state)) (λ e. rw e refl) (λ e. rw e (failed-at ro id Cause.Link l h))
 
-dropped-other : (ro : Roster) (id j : ℕ) → j ≢ id → sessionAt (dropped ro id) j ≡ sessionAt ro j
+pub dropped-other : (ro : Roster) (id j : ℕ) → j ≢ id → sessionAt (dropped ro id) j ≡ sessionAt ro j
 unfolding dropped
 dropped-other ro id j ne =
     by-cases (isRemoving (sessionAt ro id .state))
     (λ e. rw e refl)
     (λ e. rw e (failed-other ro id Cause.Link j ne))
 
-dropped-sync : (ro : Roster) (id : ℕ) → dropped ro id .sync ≡ ro .sync
-unfolding dropped failed left
-dropped-sync ro id =
+-- one that was NORMAL raises the version, in a pool that counts; no other does
+pub normal-dropped : (ro : Roster) (id : ℕ) → ro .sync ≡ false → isNormal (sessionAt ro id .state) ≡ true → Numbers ro (dropped ro id) (ro .count - 1) (more (ro .version)) (ro .members)
+unfolding dropped
+normal-dropped ro id plain was = rw (normal-lives (sessionAt ro id .state) was) (normal-failed ro id Cause.Link plain was)
+
+pub other-dropped : (ro : Roster) (id : ℕ) → (not (ro .sync) && isNormal (sessionAt ro id .state)) ≡ false → Numbers ro (dropped ro id) (ro .count) (ro .version) (ro .members)
+unfolding dropped
+other-dropped ro id e =
     by-cases (isRemoving (sessionAt ro id .state))
-    (λ e. rw e refl)
-    (λ e. rw e (by-cases (isNormal (sessionAt ro id .state)) (λ f. rw f (by-cases (ro .sync) (λ g. rw g refl) (λ g. rw g refl))) (λ f. rw f refl)))
+    (λ z. rw z (record { kind = refl; counted = refl; versioned = refl; held = refl }))
+    (λ z. rw z (other-failed ro id Cause.Link e))
+
+pub dropped-sync : (ro : Roster) (id : ℕ) → dropped ro id .sync ≡ ro .sync
+dropped-sync ro id =
+    by-cases (not (ro .sync) && isNormal (sessionAt ro id .state))
+    (λ e. normal-dropped ro id (not-true (ro .sync) (and-left (not (ro .sync)) (isNormal (sessionAt ro id .state)) e)) (and-right (not (ro .sync)) (isNormal (sessionAt ro id .state)) e) .kind)
+    (λ e. other-dropped ro id e .kind)
 
 -- a REMOVING session stays so
 removing-stays : (ro : Roster) (id j : ℕ) → isRemoving (sessionAt ro j .state) ≡ true → isRemoving (sessionAt (dropped ro id) j .state) ≡ true
@@ -139,13 +130,9 @@ removing-stays ro id j e = elim (ℕ-discrete j id) [
 
 run-plain : (ro : Roster) (r : Run) → runOk ro r ≡ true → ro .sync ≡ false
 unfolding runOk
-run-plain ro r e = let h : not (ro .sync) ≡ true = all-at (runRules ro r) 0 e in at (ro .sync) h
-  where
-    at : (b : Bool) → not b ≡ true → b ≡ false
-    at true e = sym e
-    at false e = refl
+run-plain ro r e = not-true (ro .sync) (all-at (runRules ro r) 0 e)
 
-over-valid : (p : Pool) (ro : Roster) → Valid p → Ok ro → Valid (over (withRoster p ro))
+over-valid : (p : Pool) (ro : Roster) → Valid p → Ok ro → Valid (jobEnded (withRoster p ro))
 over-valid p ro v ok = record { some = v .some; most = v .most; ok = ok; job = refl }
 
 halted-valid : (b : Bool) (p : Pool) → Valid p → Valid (haltedIf b p)
@@ -155,10 +142,10 @@ down-does : (j : Job) (p : Pool) (id : ℕ) → p .job ≡ j → Valid p → Dro
 down-does Job.Idle p id e v h = record { some = v .some; most = v .most; ok = dropped-keeps p id v h; job = rw e refl }
 down-does (Job.Running r) p id e v h =
     let s = run-plain (p .roster) r (rw e at (v .job)) in
-    tried-keeps (over (withRoster p (dropped (p .roster) id))) (over-valid p (dropped (p .roster) id) v (dropped-keeps p id v h)) (dropped-sync (p .roster) id ∙ s)
+    tried-keeps (jobEnded (withRoster p (dropped (p .roster) id))) (over-valid p (dropped (p .roster) id) v (dropped-keeps p id v h)) (dropped-sync (p .roster) id ∙ s)
 down-does (Job.Removing m) p id e v h =
     halted-valid (isPeer (Job.Removing m) id) (withRoster p (dropped (p .roster) id))
-    (record { some = v .some; most = v .most; ok = dropped-keeps p id v h; job = rw e (removing-stays (p .roster) id (m .id) (rw e at (v .job))) })
+    (record { some = v .some; most = v .most; ok = dropped-keeps p id v h; job = rw e (removal-stays (p .roster) (dropped (p .roster) id) m (v .ok .long) (removing-stays (p .roster) id (m .id)) (rw e at (v .job))) })
 
 pub down-keeps : (p : Pool) (id : ℕ) → Valid p → Valid (linkDown p id .pool)
 unfolding linkDown downDone
@@ -167,22 +154,10 @@ down-keeps p id v = turned Valid (downRefusal p id) (downDone p id) p v (λ e. d
 halted-roster : (b : Bool) (p : Pool) → haltedIf b p .roster ≡ p .roster
 halted-roster b p = halts (λ q. q .roster ≡ p .roster) b p refl refl
 
-down-roster : (j : Job) (p : Pool) (id : ℕ) → downAt j p id .pool .roster ≡ dropped (p .roster) id
+pub down-roster : (j : Job) (p : Pool) (id : ℕ) → downAt j p id .pool .roster ≡ dropped (p .roster) id
 down-roster Job.Idle p id = refl
-down-roster (Job.Running r) p id = tried-roster (over (withRoster p (dropped (p .roster) id)))
+down-roster (Job.Running r) p id = tried-roster (jobEnded (withRoster p (dropped (p .roster) id)))
 down-roster (Job.Removing m) p id = halted-roster (isPeer (Job.Removing m) id) (withRoster p (dropped (p .roster) id))
-
-pub down-moves : (p : Pool) (id : ℕ) → Long (p .roster) → Moves (p .roster) (linkDown p id .pool .roster)
-unfolding linkDown downDone
-down-moves p id l =
-    turned (λ q. Moves (p .roster) (q .roster)) (downRefusal p id) (downDone p id) p (moves-none (p .roster))
-    (λ e. rw (down-roster (p .job) p id) (dropped-moves p id l (down-passed p id e)))
-
-pub down-others : (p : Pool) (id j : ℕ) → j ≢ id → sessionAt (linkDown p id .pool .roster) j ≡ sessionAt (p .roster) j
-unfolding linkDown downDone
-down-others p id j ne =
-    turned (λ q. sessionAt (q .roster) j ≡ sessionAt (p .roster) j) (downRefusal p id) (downDone p id) p refl
-    (λ e. rw (down-roster (p .job) p id) (dropped-other (p .roster) id j ne))
 
 -- ---- store check good
 
@@ -219,33 +194,31 @@ pub check-keeps : (p : Pool) (id : ℕ) → Valid p → Valid (storeCheck p id .
 unfolding storeCheck
 check-keeps p id v = turned Valid (checkRefusal p id) (checkDone p id) p v (λ e. check-does p id v (check-passed p id e))
 
-check-turns : (p : Pool) (id : ℕ) → Long (p .roster) → Checks p id → Moves (p .roster) (checkDone p id .pool .roster)
-unfolding checkDone checks
-check-turns p id l h =
-    picked (λ q. Moves (p .roster) (q .roster)) (p .roster .sync) _ _
-    (λ e. let m : (isFailed (sessionAt (p .roster) id .state) || (isCreated (sessionAt (p .roster) id .state) && not true)) ≡ true = rw e at (h .may) in
-    moves-entered (p .roster) id l (h .below) (rw e (goes true (sessionAt (p .roster) id .state) State.Normal (sync-back (sessionAt (p .roster) id .state) m))))
-    (λ e. let m : (isFailed (sessionAt (p .roster) id .state) || (isCreated (sessionAt (p .roster) id .state) && not false)) ≡ true = rw e at (h .may) in
-    rw (tried-roster (withRoster p (went (p .roster) id State.Reconnecting)))
-    (moves-went (p .roster) id State.Reconnecting l (h .below) (rw e (goes false (sessionAt (p .roster) id .state) State.Reconnecting (to-reconnecting (sessionAt (p .roster) id .state) m)))))
-
-pub check-moves : (p : Pool) (id : ℕ) → Long (p .roster) → Moves (p .roster) (storeCheck p id .pool .roster)
-unfolding storeCheck
-check-moves p id l =
-    turned (λ q. Moves (p .roster) (q .roster)) (checkRefusal p id) (checkDone p id) p (moves-none (p .roster)) (λ e. check-turns p id l (check-passed p id e))
-
-check-spares : (p : Pool) (id j : ℕ) → j ≢ id → unmarked (sessionAt (checkDone p id .pool .roster) j) ≡ unmarked (sessionAt (p .roster) j)
+-- What a good store check leaves of the sessions: it is RECONNECTING, never NORMAL, save in a sync pool; the others stay.
+pub checked-at : (p : Pool) (id : ℕ) → Long (p .roster) → id < 16
+    → sessionAt (checkDone p id .pool .roster) id ≡ moved (sessionAt (p .roster) id) (pick (p .roster .sync) State.Normal State.Reconnecting)
 unfolding checkDone went
-check-spares p id j ne =
-    picked (λ q. unmarked (sessionAt (q .roster) j) ≡ unmarked (sessionAt (p .roster) j)) (p .roster .sync) _ _
-    (λ e. entered-other (p .roster) id j ne)
-    (λ e. rw (tried-roster (withRoster p (went (p .roster) id State.Reconnecting)), stored-other (p .roster) id (moved (sessionAt (p .roster) id) State.Reconnecting) j ne) refl)
+checked-at p id l h =
+    picked (λ q. sessionAt (q .roster) id ≡ moved (sessionAt (p .roster) id) (pick (p .roster .sync) State.Normal State.Reconnecting)) (p .roster .sync) _ _
+    (λ e. entered-at (p .roster) id l h ∙ to true e)
+    (λ e. rw (tried-roster (withRoster p (went (p .roster) id State.Reconnecting))) (stored-same (p .roster) id (moved (sessionAt (p .roster) id) State.Reconnecting) l h ∙ to false e))
+  where
+    to : (b : Bool) → p .roster .sync ≡ b → moved (sessionAt (p .roster) id) (pick b State.Normal State.Reconnecting) ≡ moved (sessionAt (p .roster) id) (pick (p .roster .sync) State.Normal State.Reconnecting)
+    to b e = ap (λ (k : Bool). moved (sessionAt (p .roster) id) (pick k State.Normal State.Reconnecting)) (sym e)
 
--- the other sessions stay, save that in a sync pool, which has no mark, a mark would go
-pub check-others : (p : Pool) (id j : ℕ) → j ≢ id → unmarked (sessionAt (storeCheck p id .pool .roster) j) ≡ unmarked (sessionAt (p .roster) j)
-unfolding storeCheck
-check-others p id j ne =
-    turned (λ q. unmarked (sessionAt (q .roster) j) ≡ unmarked (sessionAt (p .roster) j)) (checkRefusal p id) (checkDone p id) p refl (λ e. check-spares p id j ne)
+pub checked-other : (p : Pool) (id j : ℕ) → j ≢ id → sessionAt (checkDone p id .pool .roster) j ≡ sessionAt (p .roster) j
+unfolding checkDone went
+checked-other p id j ne =
+    picked (λ q. sessionAt (q .roster) j ≡ sessionAt (p .roster) j) (p .roster .sync) _ _
+    (λ e. sync-entered-other (p .roster) id j e ne)
+    (λ e. rw (tried-roster (withRoster p (went (p .roster) id State.Reconnecting))) (stored-other (p .roster) id (moved (sessionAt (p .roster) id) State.Reconnecting) j ne))
+
+pub checked-numbers : (p : Pool) (id : ℕ) → Numbers (p .roster) (checkDone p id .pool .roster) (p .roster .count) (p .roster .version) (p .roster .members)
+unfolding checkDone went
+checked-numbers p id =
+    picked (λ q. Numbers (p .roster) (q .roster) (p .roster .count) (p .roster .version) (p .roster .members)) (p .roster .sync) _ _
+    (λ e. entered-numbers (p .roster) id true e)
+    (λ e. rw (tried-roster (withRoster p (went (p .roster) id State.Reconnecting))) (record { kind = refl; counted = refl; versioned = refl; held = refl }))
 
 -- ---- try
 
@@ -258,10 +231,3 @@ try-keeps p v =
     let b = passed (p .roster .sync) 5 _ (λ h. omega arith) (a .1) in
     rw z (tried-keeps p v (b .0)))
     (λ z. rw z v)
-
-pub try-moves : (p : Pool) → Moves (p .roster) (tryRun p .pool .roster)
-unfolding tryRun
-try-moves p =
-    by-cases (eqb (tryRefusal p) 0)
-    (λ z. rw (z, tried-roster p) (moves-none (p .roster)))
-    (λ z. rw z (moves-none (p .roster)))

@@ -17,7 +17,7 @@ fn may_drop(j: Job, st: State, id: u64) -> bool
     ensures { λ r. ⌜ r ≡ drops j st id ⌝ }
 {
     (state::is_created(st) | (state::is_normal(st) | state::is_reconnecting(st)))
-        | (state::is_removing(st) & rules::jobs::is_leaving(j, id))
+        | (state::is_removing(st) & rules::jobs::is_peer(j, id))
 }
 
 fn down_refusal(p: Pool, id: u64) -> u64
@@ -60,7 +60,7 @@ fn down_at(j: Job, p: Pool, id: u64) -> Turn
             Effect::Keep,
         ),
         Job::Running(r) => {
-            let ended = recovery::end(after);
+            let ended = recovery::end_job(after);
             let told = recovery::disable_but(id, run::receiver(r));
             exits::try_after(p, ended, Outcome::Taken(r.taken), told)
         }

@@ -16,8 +16,8 @@ use lib.Seq.{getD-set-same, getD-set-other}
 use Rattle.laws.specs.Words.{pick, one, bit}
 use Rattle.laws.specs.Bits.{bit-or, bit-and, bit-none}
 use Rattle.sets.specs.Sets.{has}
-use Rattle.chunks.specs.Chunk.{place, dirty, marked, cleared, markedFor, each}
-use Rattle.maps.specs.Map.{within, over, zeroFrom, zeroRow, zeroed, orFrom, orIn, kept}
+use Rattle.chunks.specs.Chunk.{byteOf, dirty, chunkMarked, cleared, markedFor, each}
+use Rattle.maps.specs.Map.{within, replaced, zeroFrom, zeroRow, zeroed, orFrom, orIn, rowsKept}
 use Rattle.chunks.proofs.Bytes.{bit-pow, bit-mask}
 use Rattle.maps.proofs.Over.{getD-over, in-yes, in-low, in-high}
 use Rattle.chunks.proofs.Laws.{there-yes, dirty-there, dirty-lt, length-marked}
@@ -54,61 +54,61 @@ hit-no m c m′ c′ d = elim (ℕ-discrete m m′) [
 ]
 
 -- in a map of 8,192 bytes every member's every chunk has its place
-pub placed : (xs : List ℕ) (m c : ℕ) → length xs ≡ 8192 → m < 16 → c < 4096 → place m c < length xs
-unfolding place
+pub placed : (xs : List ℕ) (m c : ℕ) → length xs ≡ 8192 → m < 16 → c < 4096 → byteOf m c < length xs
+unfolding byteOf
 placed xs m c e h l = omega arith
 
 -- ---- one chunk marked or cleared
 -- a byte stored where member m's chunk c is, read at member m′'s chunk c′
-dirty-set : (xs : List ℕ) (m c v m′ c′ x : ℕ) → place m c < length xs → m′ < 16 → c′ < 4096 → (place m′ c′ ≡ place m c → bit v (c′ % 8) ≡ x) → (place m′ c′ ≢ place m c → dirty xs m′ c′ ≡ x) → dirty (set xs (place m c) v) m′ c′ ≡ x
+dirty-set : (xs : List ℕ) (m c v m′ c′ x : ℕ) → byteOf m c < length xs → m′ < 16 → c′ < 4096 → (byteOf m′ c′ ≡ byteOf m c → bit v (c′ % 8) ≡ x) → (byteOf m′ c′ ≢ byteOf m c → dirty xs m′ c′ ≡ x) → dirty (set xs (byteOf m c) v) m′ c′ ≡ x
 dirty-set xs m c v m′ c′ x l hm hc here there =
-    dirty-there (set xs (place m c) v) m′ c′ hm hc ∙
-    (elim (ℕ-discrete (place m′ c′) (place m c)) [
-      | yes e ↦ rw (e, getD-set-same xs (place m c) v 0 l) (here e)
-      | no d ↦ rw (getD-set-other xs (place m c) (place m′ c′) v 0 d) (sym (dirty-there xs m′ c′ hm hc) ∙ there d)
+    dirty-there (set xs (byteOf m c) v) m′ c′ hm hc ∙
+    (elim (ℕ-discrete (byteOf m′ c′) (byteOf m c)) [
+      | yes e ↦ rw (e, getD-set-same xs (byteOf m c) v 0 l) (here e)
+      | no d ↦ rw (getD-set-other xs (byteOf m c) (byteOf m′ c′) v 0 d) (sym (dirty-there xs m′ c′ hm hc) ∙ there d)
     ])
 
 -- in one byte two chunks are the same where their bits are
-hit-bit : (m c m′ c′ : ℕ) → c < 4096 → c′ < 4096 → place m′ c′ ≡ place m c → pick (eqb (c % 8) (c′ % 8)) 1 0 ≡ hit m c m′ c′
-unfolding place
+hit-bit : (m c m′ c′ : ℕ) → c < 4096 → c′ < 4096 → byteOf m′ c′ ≡ byteOf m c → pick (eqb (c % 8) (c′ % 8)) 1 0 ≡ hit m c m′ c′
+unfolding byteOf
 hit-bit m c m′ c′ l l′ e = elim (ℕ-discrete (c % 8) (c′ % 8)) [
   | yes q ↦ rw (eq-eqb (c % 8) (c′ % 8) q, hit-yes m c m′ c′ (omega arith) (omega arith))
   | no d ↦ rw (ne-eqb (c % 8) (c′ % 8) d, hit-no m c m′ c′ (λ p q. d (ap (λ (n : ℕ). n % 8) q)))
 ]
 
-hit-apart : (m c m′ c′ : ℕ) → place m′ c′ ≢ place m c → hit m c m′ c′ ≡ 0
+hit-apart : (m c m′ c′ : ℕ) → byteOf m′ c′ ≢ byteOf m c → hit m c m′ c′ ≡ 0
 hit-apart m c m′ c′ d = hit-no m c m′ c′ (λ p q. d (rw (p, q)))
 
-pub dirty-marked : (xs : List ℕ) (m c m′ c′ : ℕ) → length xs ≡ 8192 → m < 16 → c < 4096 → m′ < 16 → c′ < 4096 → dirty (marked xs m c) m′ c′ ≡ max (dirty xs m′ c′) (hit m c m′ c′)
-unfolding marked
+pub dirty-marked : (xs : List ℕ) (m c m′ c′ : ℕ) → length xs ≡ 8192 → m < 16 → c < 4096 → m′ < 16 → c′ < 4096 → dirty (chunkMarked xs m c) m′ c′ ≡ max (dirty xs m′ c′) (hit m c m′ c′)
+unfolding chunkMarked
 dirty-marked xs m c m′ c′ len hm hc hm′ hc′ =
-    rw (there-yes m c hm hc) (dirty-set xs m c (bitOr (getD xs (place m c) 0) (2 ^ (c % 8))) m′ c′ (max (dirty xs m′ c′) (hit m c m′ c′)) (placed xs m c len hm hc) hm′ hc′
+    rw (there-yes m c hm hc) (dirty-set xs m c (bitOr (getD xs (byteOf m c) 0) (2 ^ (c % 8))) m′ c′ (max (dirty xs m′ c′) (hit m c m′ c′)) (placed xs m c len hm hc) hm′ hc′
     (λ e. rw (bit-or, bit-pow (c % 8) (c′ % 8) (omega arith) (omega arith), hit-bit m c m′ c′ hc hc′ e, dirty-there xs m′ c′ hm′ hc′, e))
     (λ d. let z : hit m c m′ c′ ≡ 0 = hit-apart m c m′ c′ d in omega arith))
 
 pub dirty-cleared : (xs : List ℕ) (m c m′ c′ : ℕ) → length xs ≡ 8192 → m < 16 → c < 4096 → m′ < 16 → c′ < 4096 → dirty (cleared xs m c) m′ c′ ≡ min (dirty xs m′ c′) (1 - hit m c m′ c′)
 unfolding cleared
 dirty-cleared xs m c m′ c′ len hm hc hm′ hc′ =
-    rw (there-yes m c hm hc) (dirty-set xs m c (bitAnd (getD xs (place m c) 0) (255 - 2 ^ (c % 8))) m′ c′ (min (dirty xs m′ c′) (1 - hit m c m′ c′)) (placed xs m c len hm hc) hm′ hc′
+    rw (there-yes m c hm hc) (dirty-set xs m c (bitAnd (getD xs (byteOf m c) 0) (255 - 2 ^ (c % 8))) m′ c′ (min (dirty xs m′ c′) (1 - hit m c m′ c′)) (placed xs m c len hm hc) hm′ hc′
     (λ e. rw (bit-and, bit-mask (c % 8) (c′ % 8) (omega arith) (omega arith), ← hit-bit m c m′ c′ hc hc′ e, dirty-there xs m′ c′ hm′ hc′, e) (flip (eqb (c % 8) (c′ % 8))))
     (λ d. let z : hit m c m′ c′ ≡ 0 = hit-apart m c m′ c′ d in omega (arith, dirty-lt xs m′ c′)))
   where
-    flip : (t : Bool) → min (bit (getD xs (place m c) 0) (c′ % 8)) (pick t 0 1) ≡ min (bit (getD xs (place m c) 0) (c′ % 8)) (1 - pick t 1 0)
+    flip : (t : Bool) → min (bit (getD xs (byteOf m c) 0) (c′ % 8)) (pick t 0 1) ≡ min (bit (getD xs (byteOf m c) 0) (c′ % 8)) (1 - pick t 1 0)
     flip true = refl
     flip false = refl
 
 -- ---- bytes rewritten in a range
 -- read at a chunk: inside the range and outside
-dirty-over : (a e : ℕ) (f : ℕ → ℕ → ℕ) (xs : List ℕ) (m c : ℕ) → length xs ≡ 8192 → m < 16 → c < 4096 → dirty (over a e f xs) m c ≡ pick (within a e (place m c)) (bit (f (place m c) (getD xs (place m c) 0)) (c % 8)) (dirty xs m c)
+dirty-over : (a e : ℕ) (f : ℕ → ℕ → ℕ) (xs : List ℕ) (m c : ℕ) → length xs ≡ 8192 → m < 16 → c < 4096 → dirty (replaced a e f xs) m c ≡ pick (within a e (byteOf m c)) (bit (f (byteOf m c) (getD xs (byteOf m c) 0)) (c % 8)) (dirty xs m c)
 dirty-over a e f xs m c len hm hc =
-    dirty-there (over a e f xs) m c hm hc ∙ (rw (getD-over a e f xs (place m c) (placed xs m c len hm hc), dirty-there xs m c hm hc) (picks (within a e (place m c))))
+    dirty-there (replaced a e f xs) m c hm hc ∙ (rw (getD-over a e f xs (byteOf m c) (placed xs m c len hm hc), dirty-there xs m c hm hc) (picks (within a e (byteOf m c))))
   where
-    picks : (t : Bool) → bit (pick t (f (place m c) (getD xs (place m c) 0)) (getD xs (place m c) 0)) (c % 8) ≡ pick t (bit (f (place m c) (getD xs (place m c) 0)) (c % 8)) (bit (getD xs (place m c) 0) (c % 8))
+    picks : (t : Bool) → bit (pick t (f (byteOf m c) (getD xs (byteOf m c) 0)) (getD xs (byteOf m c) 0)) (c % 8) ≡ pick t (bit (f (byteOf m c) (getD xs (byteOf m c) 0)) (c % 8)) (bit (getD xs (byteOf m c) 0) (c % 8))
     picks true = refl
     picks false = refl
 
 pub dirty-zeroRow : (xs : List ℕ) (m m′ c : ℕ) → length xs ≡ 8192 → m < 16 → m′ < 16 → c < 4096 → dirty (zeroRow m xs) m′ c ≡ min (dirty xs m′ c) (1 - same m m′)
-unfolding zeroRow zeroFrom place
+unfolding zeroRow zeroFrom byteOf
 dirty-zeroRow xs m m′ c len hm hm′ hc =
     rw (lt-ltb m 16 hm) (dirty-over (512 * m) (512 * m + 512) (λ k x. 0) xs m′ c len hm′ hc ∙
     (elim (ℕ-discrete m m′) [
@@ -121,7 +121,7 @@ dirty-zeroRow xs m m′ c len hm hm′ hc =
 
 pub dirty-zeroed : (xs : List ℕ) (m c : ℕ) → length xs ≡ 8192 → m < 16 → c < 4096 → dirty (zeroed xs) m c ≡ 0
 unfolding zeroed zeroFrom
-dirty-zeroed xs m c len hm hc = dirty-over 0 (length xs) (λ k x. 0) xs m c len hm hc ∙ rw (in-yes 0 (length xs) (place m c) (omega arith) (placed xs m c len hm hc)) (bit-none (c % 8))
+dirty-zeroed xs m c len hm hc = dirty-over 0 (length xs) (λ k x. 0) xs m c len hm hc ∙ rw (in-yes 0 (length xs) (byteOf m c) (omega arith) (placed xs m c len hm hc)) (bit-none (c % 8))
 
 -- a bit of an OR is set where it is in either
 pub dirty-or : (xs ys : List ℕ) (m c : ℕ) → length xs ≡ 8192 → length ys ≡ 8192 → m < 16 → c < 4096 → dirty (orIn xs ys) m c ≡ max (dirty xs m c) (dirty ys m c)
@@ -129,7 +129,7 @@ unfolding orIn orFrom
 dirty-or xs ys m c len len′ hm hc =
     let n : min (length xs) (length ys) ≡ 8192 = omega arith in
     rw n (dirty-over 0 8192 (λ k x. bitOr x (getD ys k 0)) xs m c len hm hc ∙
-    (rw (in-yes 0 8192 (place m c) (omega arith) (omega (arith, placed xs m c len hm hc)), bit-or, dirty-there xs m c hm hc, dirty-there ys m c hm hc) refl))
+    (rw (in-yes 0 8192 (byteOf m c) (omega arith) (omega (arith, placed xs m c len hm hc)), bit-or, dirty-there xs m c hm hc, dirty-there ys m c hm hc) refl))
 
 -- ---- a fold over a set, seen at one member: the members before and after it do not matter
 module _ (view : List ℕ → ℕ) (g : ℕ → ℕ) (P : List ℕ → Type 0) (f : ℕ → List ℕ → List ℕ) (m : ℕ)
@@ -174,7 +174,7 @@ module _ (view : List ℕ → ℕ) (g : ℕ → ℕ) (P : List ℕ → Type 0) (
 pub dirty-markedFor : (xs : List ℕ) (s c m c′ : ℕ) → length xs ≡ 8192 → m < 16 → c < 4096 → c′ < 4096 → dirty (markedFor xs s c) m c′ ≡ max (dirty xs m c′) (min (one (has s m)) (same c c′))
 unfolding markedFor
 dirty-markedFor xs s c m c′ e h l l′ =
-    each-at (λ ys. dirty ys m c′) (λ v. max v (same c c′)) (λ ys. length ys ≡ 8192) (λ k ys. marked ys k c) m
+    each-at (λ ys. dirty ys m c′) (λ v. max v (same c c′)) (λ ys. length ys ≡ 8192) (λ k ys. chunkMarked ys k c) m
     (λ k ys p. length-marked ys k c ∙ p)
     (λ k ys b p d. let z : hit k c m c′ ≡ 0 = hit-no k c m c′ (λ q _. d q) in omega (arith, dirty-marked ys k c m c′ p b l h l′))
     (λ ys p. unfold hit in dirty-marked ys m c m c′ p h l h l′ ∙ rw (same-yes m m refl) (ap (max (dirty ys m c′)) (omega (arith, same-lt c c′))))
@@ -185,8 +185,8 @@ dirty-markedFor xs s c m c′ e h l l′ =
     picks true = omega (arith, same-lt c c′)
     picks false = omega arith
 
-pub dirty-kept : (xs : List ℕ) (s m c : ℕ) → length xs ≡ 8192 → m < 16 → c < 4096 → dirty (kept s xs) m c ≡ min (dirty xs m c) (one (has s m))
-unfolding kept
+pub dirty-kept : (xs : List ℕ) (s m c : ℕ) → length xs ≡ 8192 → m < 16 → c < 4096 → dirty (rowsKept s xs) m c ≡ min (dirty xs m c) (one (has s m))
+unfolding rowsKept
 dirty-kept xs s m c e h l =
     each-at (λ ys. dirty ys m c) (λ v. 0) (λ ys. length ys ≡ 8192) zeroRow m
     (λ k ys p. length-zeroRow k ys ∙ p)

@@ -8,8 +8,8 @@ use borrow.Author.Tests.{eq-eqb, lt-ltb}
 use lib.Bits.{bitOr, or-zero-l}
 use lib.ListN.{length, getD, take, drop, replicate, length-replicate, getD-replicate}
 use lib.Seq.{getD-take, getD-drop, ext-getD}
-use Rattle.chunks.specs.Chunk.{place, dirty, marked, countTo, count}
-use Rattle.maps.specs.Map.{rowOf, over, zeroFrom, zeroed, orFrom, orIn, copied}
+use Rattle.chunks.specs.Chunk.{byteOf, dirty, chunkMarked, countTo, count}
+use Rattle.maps.specs.Map.{rowOf, replaced, zeroFrom, zeroed, orFrom, orIn, copied}
 use Rattle.maps.proofs.Over.{length-over, over-in}
 use Rattle.chunks.proofs.Laws.{dirty-there}
 
@@ -19,7 +19,7 @@ unfolding rowOf
 row-bytes xs m e h = rw (eq-eqb (length xs) 8192 e, lt-ltb m 16 h)
 
 pub dirty-row : (xs : List ℕ) (m c : ℕ) → length xs ≡ 8192 → m < 16 → c < 4096 → dirty (rowOf xs m) 0 c ≡ dirty xs m c
-unfolding place
+unfolding byteOf
 dirty-row xs m c e h l =
     let q : 512 * 0 + c / 8 ≡ c / 8 = omega arith in
     dirty-there (rowOf xs m) 0 c (omega arith) l ∙ (rw (q, row-bytes xs m e h, getD-take 512 (drop (512 * m) xs) (c / 8) 0 (omega arith), getD-drop) (sym (dirty-there xs m c h l)))
@@ -35,9 +35,9 @@ count-row xs m e h = countTo-row xs m 4096 e h (omega arith)
 
 -- ---- whole maps
 -- a byte-wise operation on the whole list that gives the bytes of another list of that length
-over-all : (f : ℕ → ℕ → ℕ) (xs ys : List ℕ) (n : ℕ) → n ≡ length xs → length xs ≡ length ys → ((k : ℕ) → k < length xs → f k (getD xs k 0) ≡ getD ys k 0) → over 0 n f xs ≡ ys
+over-all : (f : ℕ → ℕ → ℕ) (xs ys : List ℕ) (n : ℕ) → n ≡ length xs → length xs ≡ length ys → ((k : ℕ) → k < length xs → f k (getD xs k 0) ≡ getD ys k 0) → replaced 0 n f xs ≡ ys
 over-all f xs ys n q e h =
-    rw q (ext-getD 0 (over 0 (length xs) f xs) ys (length-over 0 (length xs) f xs ∙ e) (λ k b.
+    rw q (ext-getD 0 (replaced 0 (length xs) f xs) ys (length-over 0 (length xs) f xs ∙ e) (λ k b.
     let l : k < length xs = rw length-over at b in
     over-in 0 (length xs) f xs k l (omega arith) l ∙ h k l))
 
@@ -63,6 +63,6 @@ or-into-zero xs ys e =
     rw q (or-zero-l (getD ys k 0)))
 
 -- ---- the tester's row: member 3, chunk 4,095 is the top bit of byte 2,047
-pub byte-2047 : getD (marked (replicate 8192 0) 3 4095) 2047 0 ≡ 128
-unfolding marked place
+pub byte-2047 : getD (chunkMarked (replicate 8192 0) 3 4095) 2047 0 ≡ 128
+unfolding chunkMarked byteOf
 byte-2047 = refl

@@ -17,8 +17,8 @@ use Rattle.laws.specs.Words.{pick, bit}
 use Rattle.laws.specs.Tests.{and-right}
 use Rattle.laws.specs.Bits.{bits-same, bit-none}
 use Rattle.sets.specs.Sets.{has}
-use Rattle.chunks.specs.Chunk.{there, place, dirty, marked, cleared, markedFor}
-use Rattle.maps.specs.Map.{within, over, zeroFrom, zeroRow, zeroed, orFrom, orIn, copied, kept, room, spare, sound}
+use Rattle.chunks.specs.Chunk.{there, byteOf, dirty, chunkMarked, cleared, markedFor}
+use Rattle.maps.specs.Map.{within, replaced, zeroFrom, zeroRow, zeroed, orFrom, orIn, copied, rowsKept, room, spare, sound}
 use Rattle.maps.proofs.Over.{length-over, getD-over}
 use Rattle.chunks.proofs.Laws.{each-keeps, dirty-there}
 use Rattle.maps.proofs.Laws.{sound-yes, sound-length, sound-clean, spare-none}
@@ -49,8 +49,8 @@ spare-pow : (n k j : ℕ) → j < room n (k % 512) → spare n k (2 ^ j) ≡ 0
 unfolding spare
 spare-pow n k j h = div-eq-of-lt (pow-lt h)
 
-in-room : (n m c : ℕ) → c < n → c < 4096 → c % 8 < room n (place m c % 512)
-unfolding room place
+in-room : (n m c : ℕ) → c < n → c < 4096 → c % 8 < room n (byteOf m c % 512)
+unfolding room byteOf
 in-room n m c h l = omega arith
 
 -- ---- what keeps soundness
@@ -66,28 +66,28 @@ sound-set n xs i v s h = record {
   ];
 }
 
-pub sound-marked : (n : ℕ) (xs : List ℕ) (m c : ℕ) → Sound n xs → c < n → Sound n (marked xs m c)
-unfolding marked
+pub sound-marked : (n : ℕ) (xs : List ℕ) (m c : ℕ) → Sound n xs → c < n → Sound n (chunkMarked xs m c)
+unfolding chunkMarked
 sound-marked n xs m c s h = go (there m c) refl
   where
-    go : (t : Bool) → there m c ≡ t → Sound n (pick t (set xs (place m c) (bitOr (getD xs (place m c) 0) (2 ^ (c % 8)))) xs)
-    go true e = sound-set n xs (place m c) _ s (spare-or n (place m c) _ _ (s .clean (place m c)) (spare-pow n (place m c) (c % 8) (in-room n m c h (ltb-true c 4096 (and-right (ltb m 16) (ltb c 4096) e)))))
+    go : (t : Bool) → there m c ≡ t → Sound n (pick t (set xs (byteOf m c) (bitOr (getD xs (byteOf m c) 0) (2 ^ (c % 8)))) xs)
+    go true e = sound-set n xs (byteOf m c) _ s (spare-or n (byteOf m c) _ _ (s .clean (byteOf m c)) (spare-pow n (byteOf m c) (c % 8) (in-room n m c h (ltb-true c 4096 (and-right (ltb m 16) (ltb c 4096) e)))))
     go false e = s
 
 pub sound-cleared : (n : ℕ) (xs : List ℕ) (m c : ℕ) → Sound n xs → Sound n (cleared xs m c)
 unfolding cleared
 sound-cleared n xs m c s = go (there m c)
   where
-    go : (t : Bool) → Sound n (pick t (set xs (place m c) (bitAnd (getD xs (place m c) 0) (255 - 2 ^ (c % 8)))) xs)
-    go true = sound-set n xs (place m c) _ s (spare-and n (place m c) _ _ (s .clean (place m c)))
+    go : (t : Bool) → Sound n (pick t (set xs (byteOf m c) (bitAnd (getD xs (byteOf m c) 0) (255 - 2 ^ (c % 8)))) xs)
+    go true = sound-set n xs (byteOf m c) _ s (spare-and n (byteOf m c) _ _ (s .clean (byteOf m c)))
     go false = s
 
-sound-over : (n a e : ℕ) (f : ℕ → ℕ → ℕ) (xs : List ℕ) → ((k x : ℕ) → spare n k x ≡ 0 → spare n k (f k x) ≡ 0) → Sound n xs → Sound n (over a e f xs)
+sound-over : (n a e : ℕ) (f : ℕ → ℕ → ℕ) (xs : List ℕ) → ((k x : ℕ) → spare n k x ≡ 0 → spare n k (f k x) ≡ 0) → Sound n xs → Sound n (replaced a e f xs)
 sound-over n a e f xs h s = record {
   len = length-over a e f xs ∙ s .len;
   clean = λ k. elim (decLt k (length xs)) [
     | yes l ↦ rw (getD-over a e f xs k l) (picks k (within a e k))
-    | no g ↦ rw (List·getD-eq-default (over a e f xs) 0 {n = k} (rw length-over (omega arith))) (spare-none n k)
+    | no g ↦ rw (List·getD-eq-default (replaced a e f xs) 0 {n = k} (rw length-over (omega arith))) (spare-none n k)
   ];
 }
   where
@@ -119,13 +119,13 @@ pub sound-zeroed : (n : ℕ) (xs : List ℕ) → Sound n xs → Sound n (zeroed 
 unfolding zeroed
 sound-zeroed n xs s = sound-zeroFrom n 0 (length xs) xs s
 
-pub sound-kept : (n s : ℕ) (xs : List ℕ) → Sound n xs → Sound n (kept s xs)
-unfolding kept
+pub sound-kept : (n s : ℕ) (xs : List ℕ) → Sound n xs → Sound n (rowsKept s xs)
+unfolding rowsKept
 sound-kept n s xs p = each-keeps (Sound n) _ zeroRow 16 xs (λ k ys q. sound-zeroRow n k ys q) p
 
 pub sound-markedFor : (n s c : ℕ) (xs : List ℕ) → Sound n xs → c < n → Sound n (markedFor xs s c)
 unfolding markedFor
-sound-markedFor n s c xs p h = each-keeps (Sound n) (has s) (λ m ys. marked ys m c) 16 xs (λ k ys q. sound-marked n ys k c q h) p
+sound-markedFor n s c xs p h = each-keeps (Sound n) (has s) (λ m ys. chunkMarked ys m c) 16 xs (λ k ys q. sound-marked n ys k c q h) p
 
 -- ---- a sound map's bytes and chunks
 spare-lt : (n k x : ℕ) → spare n k x ≡ 0 → x < 2 ^ room n (k % 512)
@@ -139,8 +139,8 @@ room-le n j = omega arith
 pub sound-byte : (n : ℕ) (xs : List ℕ) → Sound n xs → (k : ℕ) → getD xs k 0 < 2 ^ 8
 sound-byte n xs s k = lt-of-lt-of-le (spare-lt n k (getD xs k 0) (s .clean k)) (pow-mono (room-le n (k % 512)))
 
-out-of-room : (n m c : ℕ) → n ≤ c → c < 4096 → room n (place m c % 512) ≤ c % 8
-unfolding room place
+out-of-room : (n m c : ℕ) → n ≤ c → c < 4096 → room n (byteOf m c % 512) ≤ c % 8
+unfolding room byteOf
 out-of-room n m c h l = omega arith
 
 -- no chunk past the count is dirty
@@ -149,11 +149,11 @@ unfolding bit
 bit-past x r k h l = rw (div-eq-of-lt (lt-of-lt-of-le h (pow-mono l)))
 
 pub sound-past : (n : ℕ) (xs : List ℕ) → Sound n xs → (m c : ℕ) → m < 16 → n ≤ c → c < 4096 → dirty xs m c ≡ 0
-sound-past n xs s m c hm h l = dirty-there xs m c hm l ∙ bit-past _ (room n (place m c % 512)) (c % 8) (spare-lt n (place m c) _ (s .clean (place m c))) (out-of-room n m c h l)
+sound-past n xs s m c hm h l = dirty-there xs m c hm l ∙ bit-past _ (room n (byteOf m c % 512)) (c % 8) (spare-lt n (byteOf m c) _ (s .clean (byteOf m c))) (out-of-room n m c h l)
 
 -- ---- two sound maps with the same chunks are the same
 pub dirty-at : (xs : List ℕ) (i k : ℕ) → i < 8192 → k < 8 → dirty xs (i / 512) (8 * (i % 512) + k) ≡ bit (getD xs i 0) k
-unfolding place
+unfolding byteOf
 dirty-at xs i k l h =
     let p : 512 * (i / 512) + (8 * (i % 512) + k) / 8 ≡ i = omega arith in
     let q : (8 * (i % 512) + k) % 8 ≡ k = omega arith in
@@ -169,20 +169,20 @@ same-chunks n xs ys s r h =
     at m c a b = elim (decLt c n) [ yes l ↦ h m c a l b | no g ↦ sound-past n xs s m c a (omega arith) b ∙ sym (sound-past n ys r m c a (omega arith) b) ]
 
 -- ---- marks: twice is once, and the order does not matter
-sees : {n : ℕ} {xs : List ℕ} → Sound n xs → (m c m′ c′ : ℕ) → m < 16 → c < 4096 → m′ < 16 → c′ < 4096 → dirty (marked xs m c) m′ c′ ≡ max (dirty xs m′ c′) (hit m c m′ c′)
+sees : {n : ℕ} {xs : List ℕ} → Sound n xs → (m c m′ c′ : ℕ) → m < 16 → c < 4096 → m′ < 16 → c′ < 4096 → dirty (chunkMarked xs m c) m′ c′ ≡ max (dirty xs m′ c′) (hit m c m′ c′)
 sees {n} {xs} s m c m′ c′ a l a′ l′ = dirty-marked xs m c m′ c′ (s .len) a l a′ l′
 
-pub mark-twice : (n : ℕ) (xs : List ℕ) (m c : ℕ) → Sound n xs → m < 16 → c < n → c < 4096 → marked (marked xs m c) m c ≡ marked xs m c
+pub mark-twice : (n : ℕ) (xs : List ℕ) (m c : ℕ) → Sound n xs → m < 16 → c < n → c < 4096 → chunkMarked (chunkMarked xs m c) m c ≡ chunkMarked xs m c
 mark-twice n xs m c s a h l =
-    let s₁ : Sound n (marked xs m c) = sound-marked n xs m c s h in
-    same-chunks n (marked (marked xs m c) m c) (marked xs m c) (sound-marked n (marked xs m c) m c s₁ h) s₁ (λ m′ c′ a′ h′ l′.
+    let s₁ : Sound n (chunkMarked xs m c) = sound-marked n xs m c s h in
+    same-chunks n (chunkMarked (chunkMarked xs m c) m c) (chunkMarked xs m c) (sound-marked n (chunkMarked xs m c) m c s₁ h) s₁ (λ m′ c′ a′ h′ l′.
     omega (arith, sees s₁ m c m′ c′ a l a′ l′, sees s m c m′ c′ a l a′ l′))
 
-pub mark-swap : (n : ℕ) (xs : List ℕ) (m c m₁ c₁ : ℕ) → Sound n xs → m < 16 → m₁ < 16 → c < n → c < 4096 → c₁ < n → c₁ < 4096 → marked (marked xs m c) m₁ c₁ ≡ marked (marked xs m₁ c₁) m c
+pub mark-swap : (n : ℕ) (xs : List ℕ) (m c m₁ c₁ : ℕ) → Sound n xs → m < 16 → m₁ < 16 → c < n → c < 4096 → c₁ < n → c₁ < 4096 → chunkMarked (chunkMarked xs m c) m₁ c₁ ≡ chunkMarked (chunkMarked xs m₁ c₁) m c
 mark-swap n xs m c m₁ c₁ s a a₁ h l h₁ l₁ =
-    let s₀ : Sound n (marked xs m c) = sound-marked n xs m c s h in
-    let s₁ : Sound n (marked xs m₁ c₁) = sound-marked n xs m₁ c₁ s h₁ in
-    same-chunks n (marked (marked xs m c) m₁ c₁) (marked (marked xs m₁ c₁) m c) (sound-marked n (marked xs m c) m₁ c₁ s₀ h₁) (sound-marked n (marked xs m₁ c₁) m c s₁ h) (λ m′ c′ a′ h′ l′.
+    let s₀ : Sound n (chunkMarked xs m c) = sound-marked n xs m c s h in
+    let s₁ : Sound n (chunkMarked xs m₁ c₁) = sound-marked n xs m₁ c₁ s h₁ in
+    same-chunks n (chunkMarked (chunkMarked xs m c) m₁ c₁) (chunkMarked (chunkMarked xs m₁ c₁) m c) (sound-marked n (chunkMarked xs m c) m₁ c₁ s₀ h₁) (sound-marked n (chunkMarked xs m₁ c₁) m c s₁ h) (λ m′ c′ a′ h′ l′.
     omega (arith, sees s₀ m₁ c₁ m′ c′ a₁ l₁ a′ l′, sees s m c m′ c′ a l a′ l′, sees s₁ m c m′ c′ a l a′ l′, sees s m₁ c₁ m′ c′ a₁ l₁ a′ l′))
 
 -- ---- soundness is what the document says: 8192 bytes, and no chunk past the count dirty

@@ -15,16 +15,16 @@ unfoldable pub within : ℕ → ℕ → ℕ → Bool
 within a e k = leb a k && ltb k e
 
 -- xs with each byte at a place k from a up to e replaced by f k of it; i is the place of the list's first byte
-unfoldable pub overFrom : ℕ → ℕ → ℕ → (ℕ → ℕ → ℕ) → List ℕ → List ℕ
-overFrom i a e f [] = []
-overFrom i a e f (x ∷ xs) = pick (within a e i) (f i x) x ∷ overFrom (suc i) a e f xs
+unfoldable pub replacedFrom : ℕ → ℕ → ℕ → (ℕ → ℕ → ℕ) → List ℕ → List ℕ
+replacedFrom i a e f [] = []
+replacedFrom i a e f (x ∷ xs) = pick (within a e i) (f i x) x ∷ replacedFrom (suc i) a e f xs
 
-unfoldable pub over : ℕ → ℕ → (ℕ → ℕ → ℕ) → List ℕ → List ℕ
-over a e f xs = overFrom 0 a e f xs
+unfoldable pub replaced : ℕ → ℕ → (ℕ → ℕ → ℕ) → List ℕ → List ℕ
+replaced a e f xs = replacedFrom 0 a e f xs
 
 -- the bytes from a up to e set to 0
 unfoldable pub zeroFrom : ℕ → ℕ → List ℕ → List ℕ
-zeroFrom a e xs = over a e (λ k x. 0) xs
+zeroFrom a e xs = replaced a e (λ k x. 0) xs
 
 -- member m's row set to 0
 unfoldable pub zeroRow : ℕ → List ℕ → List ℕ
@@ -35,12 +35,12 @@ unfoldable pub zeroed : List ℕ → List ℕ
 zeroed xs = zeroFrom 0 (length xs) xs
 
 -- the rows of members outside the set s set to 0
-unfoldable pub kept : ℕ → List ℕ → List ℕ
-kept s xs = each (λ m. not (has s m)) zeroRow 16 xs
+unfoldable pub rowsKept : ℕ → List ℕ → List ℕ
+rowsKept s xs = each (λ m. not (has s m)) zeroRow 16 xs
 
 -- the bytes from a up to e ORed with those of a second map at the same places
 unfoldable pub orFrom : ℕ → ℕ → List ℕ → List ℕ → List ℕ
-orFrom a e xs ys = over a e (λ k x. bitOr x (getD ys k 0)) xs
+orFrom a e xs ys = replaced a e (λ k x. bitOr x (getD ys k 0)) xs
 
 -- a second map ORed in
 unfoldable pub orIn : List ℕ → List ℕ → List ℕ
@@ -48,7 +48,7 @@ orIn xs ys = orFrom 0 (min (length xs) (length ys)) xs ys
 
 -- a second map copied over the first, as far as both go
 unfoldable pub copied : List ℕ → List ℕ → List ℕ
-copied xs ys = over 0 (min (length xs) (length ys)) (λ k x. getD ys k 0) xs
+copied xs ys = replaced 0 (min (length xs) (length ys)) (λ k x. getD ys k 0) xs
 
 -- of a row's byte j, how many bits stand for chunks below the chunk count n
 unfoldable pub room : ℕ → ℕ → ℕ

@@ -3,7 +3,7 @@
 ghost use mathlib.Core.Path.{_≡_};
 ghost use Prim.Native.Nat.{_-_, _<_, _≤_, min};
 ghost use lib.ListN.{set, length};
-ghost use Rattle.maps.specs.Map.{zeroFrom, zeroRow, zeroed, kept, orIn, copied, sound, rowOf};
+ghost use Rattle.maps.specs.Map.{zeroFrom, zeroRow, zeroed, rowsKept, orIn, copied, sound, rowOf};
 ghost use Rattle.maps.specs.Scan.{orTo, rowSpare};
 
 // Zeroes the bytes from a up to e, as far as the map goes.
@@ -37,7 +37,7 @@ pub fn zero_row(map: &mut [u8], m: u64)
 
 // Zeroes every row outside the set.
 pub fn keep_rows(map: &mut [u8], set: u64)
-    ensures { λ _. ⌜ now (map .exit) ≡ kept set (now (map .entry)) ⌝ }
+    ensures { λ _. ⌜ now (map .exit) ≡ rowsKept set (now (map .entry)) ⌝ }
 {
     let mut m: u64 = 0;
     while m < 16 {

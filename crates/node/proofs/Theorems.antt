@@ -7,7 +7,7 @@ use Prim.Native.Nat.{ℕ, _≤_}
 use native.Mathlib.Omega.{arith}
 use lib.Dec.{eqb}
 use lib.ListN.{length}
-use borrow.Author.Tests.{eqb-true}
+use borrow.Author.Tests.{eqb-true, eq-eqb}
 use Rattle.laws.specs.Words.{pick}
 use Rattle.laws.specs.Tests.{by-cases, clash, and-left, and-both}
 use Rattle.maps.specs.Map.{sound}
@@ -21,7 +21,7 @@ use Rattle.nodestate.specs.Change.{fresh, storedVersion, keptChunk}
 use Rattle.nodestate.specs.StateRules.{valid, keptOk}
 use Rattle.nodestate.specs.Table.{Kind}
 use Rattle.nodestate.specs.Turns.{refused, settled}
-use Rattle.nodestate.proofs.Valid.{valid-of}
+use Rattle.nodestate.proofs.Valid.{Valid, valid-of}
 use Rattle.nodestate.proofs.Passed.{Keeps, Later}
 use Rattle.nodemaps.specs.Carry.{mapAfter, stagingAfter, takenIn}
 use Rattle.nodemaps.proofs.Sound.{fits, sound-map, sound-staging, sound-taken}
@@ -41,6 +41,7 @@ use Rattle.nodehand.proofs.Keeps as hand
 use Rattle.node.specs.declared.StorageNode.{StorageNode}
 use Rattle.node.specs.Events.{Event, Third, kindOf, third, turnOf}
 use Rattle.node.specs.Face.{freshNode, soundThird, lentTo, turnAt, mapBy, stagingWith, stagingBy, answers, mapLeft, stagingLeft}
+use Rattle.node.specs.Held.{Held, next, after}
 
 -- the answer is a refusal
 abbrev pub isRefused : Answer → Bool
@@ -51,51 +52,52 @@ isRefused (Answer.Version v) = false
 -- ---- the shape of every turn
 
 -- a turn of the kind k at the node n: refused by why, or done; and what is known where it is done
-record Shape (k : Kind) (n : Node) (lent : Bool) (t : Turn) : Type 0 where
-  why : ℕ
-  done : Turn
-  same : t ≡ settled why n done
-  plain : isRefused (done .answer) ≡ false
-  sure : why ≡ 0 → lent ≡ true
-  later : valid n ≡ true → lent ≡ true → Later why
-  keeps : length (n .kept) ≡ 16 → why ≡ 0 → Keeps k n (done .node)
-  fit : why ≡ 0 → fits (done .effect .map) (done .node) ≡ true
+pub record Shape (k : Kind) (n : Node) (lent : Bool) (t : Turn) : Type 0 where
+  pub why : ℕ
+  pub done : Turn
+  pub same : t ≡ settled why n done
+  pub plain : isRefused (done .answer) ≡ false
+  pub rules : why ≡ 0 → Valid n
+  pub sure : why ≡ 0 → lent ≡ true
+  pub later : valid n ≡ true → lent ≡ true → Later why
+  pub keeps : length (n .kept) ≡ 16 → why ≡ 0 → Keeps k n (done .node)
+  pub fit : why ≡ 0 → fits (done .effect .map) (done .node) ≡ true
 
-fits-wipes : (delete : Bool) (n : Node) → fits (Register.wipes delete) n ≡ true
+pub fits-wipes : (delete : Bool) (n : Node) → fits (Register.wipes delete) n ≡ true
 fits-wipes true n = refl
 fits-wipes false n = refl
 
-fits-leaves : (delete : Bool) (m n : Node) → fits (Join.leaves delete m) n ≡ true
+pub fits-leaves : (delete : Bool) (m n : Node) → fits (Join.leaves delete m) n ≡ true
 fits-leaves true m n = refl
 fits-leaves false m n = refl
 
-fits-informs : (op : Op) (member : ℕ) (n : Node) → fits (Info.informs op member) n ≡ true
+pub fits-informs : (op : Op) (member : ℕ) (n : Node) → fits (Info.informs op member) n ≡ true
 fits-informs Op.AddCreate member n = refl
 fits-informs Op.AddAssemble member n = refl
 fits-informs Op.RemoveDelete member n = refl
 fits-informs Op.RemoveDisassemble member n = refl
 
-shape : (e : Event) (n : Node) (lent : Bool) → Shape (kindOf e) n lent (turnOf e n lent)
+unfoldable pub shape : (e : Event) (n : Node) (lent : Bool) → Shape (kindOf e) n lent (turnOf e n lent)
 unfolding Register.registerCreate Register.registerAdd Register.unregister Join.joinCreate Join.assemble Join.leave Enable.enable1 Enable.enable0 Enable.fault Write.write Write.synced Info.poolInfo Serve.mapReady Serve.give Hand.take Hand.mapDone Hand.mapDisable Serve.mapGetVer Serve.lastIoToMap Write.written storedVersion keptChunk
-shape Event.registerCreate n lent = record { why = _; done = _; same = refl; plain = refl; sure = λ e. register.registerCreate-passed n lent e .sure; later = register.registerCreate-later n lent; keeps = λ h e. register.registerCreate-keeps n lent h e; fit = λ e. refl }
-shape (Event.registerAdd set version) n lent = record { why = _; done = _; same = refl; plain = refl; sure = λ e. register.registerAdd-passed n lent set version e .0 .sure; later = register.registerAdd-later n lent set version; keeps = λ h e. register.registerAdd-keeps n lent set version e; fit = λ e. refl }
-shape (Event.unregister delete) n lent = record { why = _; done = _; same = refl; plain = refl; sure = λ e. register.unregister-passed n lent delete e .sure; later = register.unregister-later n lent delete; keeps = λ h e. register.unregister-keeps n lent delete e; fit = λ e. fits-wipes delete _ }
-shape (Event.joinCreate set) n lent = record { why = _; done = _; same = refl; plain = refl; sure = λ e. joins.joinCreate-passed n lent set e .sure; later = joins.joinCreate-later n lent set; keeps = λ h e. joins.joinCreate-keeps n lent set e; fit = λ e. refl }
-shape Event.assemble n lent = record { why = _; done = _; same = refl; plain = refl; sure = λ e. joins.assemble-passed n lent e .sure; later = joins.assemble-later n lent; keeps = λ h e. joins.assemble-keeps n lent e; fit = λ e. refl }
-shape (Event.leave delete) n lent = record { why = _; done = _; same = refl; plain = refl; sure = λ e. joins.leave-passed n lent e .sure; later = joins.leave-later n lent; keeps = λ h e. joins.leave-keeps n lent e; fit = λ e. fits-leaves delete n _ }
-shape (Event.enable1 version set) n lent = record { why = _; done = _; same = refl; plain = refl; sure = λ e. enable.enable1-passed n lent version set e .0 .sure; later = enable.enable1-later n lent version set; keeps = λ h e. enable.enable1-keeps n lent version set e; fit = λ e. refl }
-shape Event.enable0 n lent = record { why = _; done = _; same = refl; plain = refl; sure = λ e. enable.stop-passed n lent e .sure; later = enable.stop-later n lent; keeps = λ h e. enable.enable0-keeps n lent e; fit = λ e. refl }
-shape Event.fault n lent = record { why = _; done = _; same = refl; plain = refl; sure = λ e. enable.stop-passed n lent e .sure; later = enable.stop-later n lent; keeps = λ h e. enable.fault-keeps n lent e; fit = λ e. refl }
-shape (Event.write chunk set version) n lent = record { why = _; done = _; same = refl; plain = refl; sure = λ e. writes.write-passed n lent chunk set version e .sure; later = writes.write-later n lent chunk set version; keeps = λ h e. writes.write-keeps n lent chunk set version h e; fit = λ e. writes.write-chunk n lent chunk set version e }
-shape (Event.synced member chunk) n lent = record { why = _; done = _; same = refl; plain = refl; sure = λ e. writes.synced-passed n lent member chunk e .sure; later = writes.synced-later n lent member chunk; keeps = λ h e. writes.synced-keeps n lent member chunk e; fit = λ e. refl }
-shape (Event.poolInfo op member) n lent = record { why = _; done = _; same = refl; plain = refl; sure = λ e. writes.poolInfo-passed n lent op member e .sure; later = writes.poolInfo-later n lent op member; keeps = λ h e. writes.poolInfo-keeps n lent op member e; fit = λ e. fits-informs op member _ }
-shape (Event.mapReady keep) n lent = record { why = _; done = _; same = refl; plain = refl; sure = λ e. serve.serve-passed n lent e .sure; later = serve.serve-later n lent; keeps = λ h e. serve.mapReady-keeps n lent e; fit = λ e. refl }
-shape Event.give n lent = record { why = _; done = _; same = refl; plain = refl; sure = λ e. serve.serve-passed n lent e .sure; later = serve.serve-later n lent; keeps = λ h e. serve.give-keeps n lent e; fit = λ e. refl }
-shape (Event.take zs) n lent = record { why = _; done = _; same = refl; plain = refl; sure = λ e. hand.hand-passed n lent e .sure; later = hand.hand-later n lent; keeps = λ h e. hand.take-keeps n lent e; fit = λ e. refl }
-shape (Event.mapDone enabling version set) n lent = record { why = _; done = _; same = refl; plain = refl; sure = λ e. hand.mapDone-passed n lent version set e .0 .sure; later = hand.mapDone-later n lent version set; keeps = λ h e. hand.mapDone-keeps n lent enabling version set e; fit = λ e. refl }
-shape Event.mapDisable n lent = record { why = _; done = _; same = refl; plain = refl; sure = λ e. hand.hand-passed n lent e .sure; later = hand.hand-later n lent; keeps = λ h e. hand.mapDisable-keeps n lent e; fit = λ e. refl }
-shape Event.mapGetVer n lent = record { why = _; done = _; same = refl; plain = refl; sure = λ e. serve.serve-passed n lent e .sure; later = serve.serve-later n lent; keeps = λ h e. serve.mapGetVer-keeps n lent e; fit = λ e. refl }
-shape (Event.lastIoToMap chosen) n lent = record { why = _; done = _; same = refl; plain = refl; sure = λ e. serve.lastIo-passed n lent chosen e .sure; later = serve.lastIo-later n lent chosen; keeps = λ h e. serve.lastIo-keeps n lent chosen e; fit = λ e. serve.lastIo-passed n lent chosen e .rules .keeps }
+shape Event.registerCreate n lent = record { why = _; done = _; same = refl; plain = refl; rules = λ e. register.registerCreate-passed n lent e .rules; sure = λ e. register.registerCreate-passed n lent e .sure; later = register.registerCreate-later n lent; keeps = λ h e. register.registerCreate-keeps n lent h e; fit = λ e. refl }
+shape (Event.registerAdd set version) n lent = record { why = _; done = _; same = refl; plain = refl; rules = λ e. register.registerAdd-passed n lent set version e .0 .rules; sure = λ e. register.registerAdd-passed n lent set version e .0 .sure; later = register.registerAdd-later n lent set version; keeps = λ h e. register.registerAdd-keeps n lent set version e; fit = λ e. refl }
+shape (Event.unregister delete) n lent = record { why = _; done = _; same = refl; plain = refl; rules = λ e. register.unregister-passed n lent delete e .rules; sure = λ e. register.unregister-passed n lent delete e .sure; later = register.unregister-later n lent delete; keeps = λ h e. register.unregister-keeps n lent delete e; fit = λ e. fits-wipes delete _ }
+shape (Event.joinCreate set) n lent = record { why = _; done = _; same = refl; plain = refl; rules = λ e. joins.joinCreate-passed n lent set e .rules; sure = λ e. joins.joinCreate-passed n lent set e .sure; later = joins.joinCreate-later n lent set; keeps = λ h e. joins.joinCreate-keeps n lent set e; fit = λ e. refl }
+shape Event.assemble n lent = record { why = _; done = _; same = refl; plain = refl; rules = λ e. joins.assemble-passed n lent e .rules; sure = λ e. joins.assemble-passed n lent e .sure; later = joins.assemble-later n lent; keeps = λ h e. joins.assemble-keeps n lent e; fit = λ e. refl }
+shape (Event.leave delete) n lent = record { why = _; done = _; same = refl; plain = refl; rules = λ e. joins.leave-passed n lent e .rules; sure = λ e. joins.leave-passed n lent e .sure; later = joins.leave-later n lent; keeps = λ h e. joins.leave-keeps n lent e; fit = λ e. fits-leaves delete n _ }
+shape (Event.enable1 version set) n lent = record { why = _; done = _; same = refl; plain = refl; rules = λ e. enable.enable1-passed n lent version set e .0 .rules; sure = λ e. enable.enable1-passed n lent version set e .0 .sure; later = enable.enable1-later n lent version set; keeps = λ h e. enable.enable1-keeps n lent version set e; fit = λ e. refl }
+shape Event.enable0 n lent = record { why = _; done = _; same = refl; plain = refl; rules = λ e. enable.stop-passed n lent e .rules; sure = λ e. enable.stop-passed n lent e .sure; later = enable.stop-later n lent; keeps = λ h e. enable.enable0-keeps n lent e; fit = λ e. refl }
+shape Event.fault n lent = record { why = _; done = _; same = refl; plain = refl; rules = λ e. enable.stop-passed n lent e .rules; sure = λ e. enable.stop-passed n lent e .sure; later = enable.stop-later n lent; keeps = λ h e. enable.fault-keeps n lent e; fit = λ e. refl }
+shape (Event.write chunk set version) n lent = record { why = _; done = _; same = refl; plain = refl; rules = λ e. writes.write-passed n lent chunk set version e .rules; sure = λ e. writes.write-passed n lent chunk set version e .sure; later = writes.write-later n lent chunk set version; keeps = λ h e. writes.write-keeps n lent chunk set version h e; fit = λ e. writes.write-chunk n lent chunk set version e }
+shape (Event.synced member chunk) n lent = record { why = _; done = _; same = refl; plain = refl; rules = λ e. writes.synced-passed n lent member chunk e .rules; sure = λ e. writes.synced-passed n lent member chunk e .sure; later = writes.synced-later n lent member chunk; keeps = λ h e. writes.synced-keeps n lent member chunk e; fit = λ e. refl }
+shape (Event.poolInfo op member) n lent = record { why = _; done = _; same = refl; plain = refl; rules = λ e. writes.poolInfo-passed n lent op member e .rules; sure = λ e. writes.poolInfo-passed n lent op member e .sure; later = writes.poolInfo-later n lent op member; keeps = λ h e. writes.poolInfo-keeps n lent op member e; fit = λ e. fits-informs op member _ }
+shape (Event.mapReady keep) n lent = record { why = _; done = _; same = refl; plain = refl; rules = λ e. serve.serve-passed n lent e .rules; sure = λ e. serve.serve-passed n lent e .sure; later = serve.serve-later n lent; keeps = λ h e. serve.mapReady-keeps n lent e; fit = λ e. refl }
+shape Event.give n lent = record { why = _; done = _; same = refl; plain = refl; rules = λ e. serve.serve-passed n lent e .rules; sure = λ e. serve.serve-passed n lent e .sure; later = serve.serve-later n lent; keeps = λ h e. serve.give-keeps n lent e; fit = λ e. refl }
+shape (Event.take zs) n lent = record { why = _; done = _; same = refl; plain = refl; rules = λ e. hand.hand-passed n lent e .rules; sure = λ e. hand.hand-passed n lent e .sure; later = hand.hand-later n lent; keeps = λ h e. hand.take-keeps n lent e; fit = λ e. refl }
+shape (Event.mapDone enabling version set) n lent = record { why = _; done = _; same = refl; plain = refl; rules = λ e. hand.mapDone-passed n lent version set e .0 .rules; sure = λ e. hand.mapDone-passed n lent version set e .0 .sure; later = hand.mapDone-later n lent version set; keeps = λ h e. hand.mapDone-keeps n lent enabling version set e; fit = λ e. refl }
+shape Event.mapDisable n lent = record { why = _; done = _; same = refl; plain = refl; rules = λ e. hand.hand-passed n lent e .rules; sure = λ e. hand.hand-passed n lent e .sure; later = hand.hand-later n lent; keeps = λ h e. hand.mapDisable-keeps n lent e; fit = λ e. refl }
+shape Event.mapGetVer n lent = record { why = _; done = _; same = refl; plain = refl; rules = λ e. serve.serve-passed n lent e .rules; sure = λ e. serve.serve-passed n lent e .sure; later = serve.serve-later n lent; keeps = λ h e. serve.mapGetVer-keeps n lent e; fit = λ e. refl }
+shape (Event.lastIoToMap chosen) n lent = record { why = _; done = _; same = refl; plain = refl; rules = λ e. serve.lastIo-passed n lent chosen e .rules; sure = λ e. serve.lastIo-passed n lent chosen e .sure; later = serve.lastIo-later n lent chosen; keeps = λ h e. serve.lastIo-keeps n lent chosen e; fit = λ e. serve.lastIo-passed n lent chosen e .rules .keeps }
 
 -- ---- a turn is refused, or done
 
@@ -158,15 +160,34 @@ refusal-changes-nothing e s xs ys why r =
 
 -- ---- an accepted event
 
+-- where no refusal applies it is accepted
+pub accepted-by : (e : Event) (s : StorageNode) (xs ys : List ℕ) → shape e (s .node) (lentTo (third e) (s .node) xs ys) .why ≡ 0 → isRefused (answers e s xs ys .answer) ≡ false
+accepted-by e s xs ys z =
+    let h = shape e (s .node) (lentTo (third e) (s .node) xs ys) in
+    ap (λ (t : Turn). isRefused (t .answer)) (h .same ∙ settled-done (h .why) (s .node) (h .done) (eq-eqb (h .why) 0 z)) ∙ h .plain
+
+-- it is done; the node keeps its rules, and the lent maps are sound
+pub record Accepted (e : Event) (s : StorageNode) (xs ys : List ℕ) : Type 0 where
+  pub none : shape e (s .node) (lentTo (third e) (s .node) xs ys) .why ≡ 0
+  pub turn : turnAt e s xs ys ≡ shape e (s .node) (lentTo (third e) (s .node) xs ys) .done
+  pub rules : Valid (s .node)
+  pub sure : lentTo (third e) (s .node) xs ys ≡ true
+
+pub accepted-done : (e : Event) (s : StorageNode) (xs ys : List ℕ) → isRefused (answers e s xs ys .answer) ≡ false → Accepted e s xs ys
+accepted-done e s xs ys a =
+    let h = shape e (s .node) (lentTo (third e) (s .node) xs ys) in
+    let b = accepted (h .why) (s .node) (h .done) (ap (λ (t : Turn). isRefused (t .answer)) (sym (h .same)) ∙ a) in
+    let z = eqb-true (h .why) 0 b in
+    record { none = z; turn = h .same ∙ settled-done (h .why) (s .node) (h .done) b; rules = h .rules z; sure = h .sure z }
+
 -- the state changes only along the table, and the rules are kept (the sixteen kept places are an array's)
 pub accepted-keeps : (e : Event) (s : StorageNode) (xs ys : List ℕ)
     → length (s .node .kept) ≡ 16
     → isRefused (answers e s xs ys .answer) ≡ false
     → Keeps (kindOf e) (s .node) (answers e s xs ys .node .node)
 accepted-keeps e s xs ys l a =
-    let h = shape e (s .node) (lentTo (third e) (s .node) xs ys) in
-    let b = accepted (h .why) (s .node) (h .done) (ap (λ (t : Turn). isRefused (t .answer)) (sym (h .same)) ∙ a) in
-    subst (λ (t : Turn). Keeps (kindOf e) (s .node) (t .node)) (sym (h .same ∙ settled-done (h .why) (s .node) (h .done) b)) (h .keeps l (eqb-true (h .why) 0 b))
+    let d = accepted-done e s xs ys a in
+    subst (λ (t : Turn). Keeps (kindOf e) (s .node) (t .node)) (sym (d .turn)) (shape e (s .node) (lentTo (third e) (s .node) xs ys) .keeps l (d .none))
 
 -- ---- rules and sound maps, from fresh on
 
@@ -236,20 +257,6 @@ own-never-refused e s xs ys why g t r =
     let h = shape e (s .node) (lentTo (third e) (s .node) xs ys) in
     let q = refused-by (h .why) why (s .node) (h .done) (h .plain) (ap (λ (t : Turn). t .answer) (sym (h .same)) ∙ r) .1 in
     subst Later q (h .later (g .rules) (and-both t (and-both (g .map) (g .staging))))
-
--- a node with its two maps
-pub record Held : Type 0 where
-  pub at : StorageNode
-  pub map : List ℕ
-  pub staging : List ℕ
-
--- after one event, and after a list of them
-abbrev pub next : Event → Held → Held
-next e w = record { at = answers e (w .at) (w .map) (w .staging) .node; map = mapLeft e (w .at) (w .map) (w .staging); staging = stagingLeft e (w .at) (w .map) (w .staging) }
-
-abbrev pub after : List Event → Held → Held
-after [] w = w
-after (e ∷ es) w = after es (next e w)
 
 pub always-good : (es : List Event) (w : Held) → Good (w .at) (w .map) (w .staging) → Good (after es w .at) (after es w .map) (after es w .staging)
 always-good [] w g = g

@@ -9,7 +9,7 @@ use Rattle.nodestate.specs.declared.OnMap.{OnMap}
 use Rattle.nodestate.specs.declared.OnStaging.{OnStaging}
 use Rattle.nodestate.specs.declared.Answer.{Answer}
 use Rattle.nodestate.specs.declared.Node.{Node}
-use Rattle.nodestate.specs.Change.{fresh, moved, equipped, takenOver, storedVersion, keptChunk, forgotten, transferred, endedTransfer, instructed}
+use Rattle.nodestate.specs.Change.{fresh, wentTo, equipped, takenOver, storedVersion, keptChunk, forgotten, transferred, endedTransfer, instructed}
 use Rattle.nodestate.specs.StateRules.{keptOk, valid}
 use Rattle.nodestate.specs.Turns.{does, settled}
 use Rattle.noderegister.specs.Register.{registerCreateRefusal, registeredCreate, registerCreate}
@@ -17,7 +17,7 @@ use Rattle.nodejoins.specs.Join.{joinCreateRefusal, joinedCreate, joinCreate}
 use Rattle.nodeenables.specs.Enable.{enable1Refusal, enabled, enable1}
 use Rattle.nodewrites.specs.Write.{writeRefusal, written, write}
 use Rattle.nodeserve.specs.Serve.{serveRefusal, readied, mapReady, mapGetVer}
-use Rattle.nodehand.specs.Hand.{handRefusal, taken, take, mapDoneRefusal, committed, mapDone}
+use Rattle.nodehand.specs.Hand.{handRefusal, mapTaken, take, mapDoneRefusal, committed, mapDone}
 
 -- node 1 of 4,096 chunks: registered, joined in create mode beside node 0, enabled, and one write that did not reach 0
 abbrev pub created : Node
@@ -59,7 +59,7 @@ unfolding
     mapReady
     mapGetVer
     handRefusal
-    taken
+    mapTaken
     take
     mapDoneRefusal
     committed
@@ -68,7 +68,7 @@ unfolding
     valid
     keptOk
     fresh
-    moved
+    wentTo
     equipped
     takenOver
     storedVersion

@@ -2,12 +2,14 @@
 // the answer. The rules stand in the crates below; here the lent maps are checked, and what is due to them is carried out.
 ghost use mathlib.Core.Path.{_≡_};
 ghost use mathlib.Core.Bool.{_&&_};
+ghost use Rattle.refusals.specs.Limits.{numbers};
 ghost use Rattle.maps.specs.Map.{sound};
 ghost use Rattle.node.specs.Events.{Event};
 ghost use Rattle.node.specs.Face.{freshNode, handed, mapBy, stagingBy, answers, mapLeft, stagingLeft};
 use nodestate::Answer;
 use nodestate::Node;
 use nodestate::Turn;
+use refusals::Numbers;
 use state::Op;
 
 pub struct StorageNode {
@@ -28,9 +30,17 @@ impl StorageNode {
 
     pub const VERSION_LIMIT: u64 = refusals::VERSION_LIMIT;
 
-    pub const VERSION_TOP: u64 = refusals::VERSION_TOP;
-
-    pub const KEPT: u64 = 16;
+    // The numbers of the type as a value: those that the rules speak of.
+    pub fn numbers() -> Numbers
+        ensures { λ r. ⌜ r ≡ numbers ⌝ }
+    {
+        Numbers {
+            members: Self::MEMBERS,
+            chunks: Self::CHUNK_LIMIT,
+            bytes: Self::MAP_BYTES as u64,
+            version: Self::VERSION_LIMIT,
+        }
+    }
 
     // A fresh node: EMPTY, with nothing. Any numbers: what they break is refused by the events.
     pub fn fresh(id: u64, chunks: u64) -> StorageNode

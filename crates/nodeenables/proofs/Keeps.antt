@@ -12,7 +12,7 @@ use Rattle.nodestate.specs.declared.State.{State}
 use Rattle.nodestate.specs.declared.Transfer.{Transfer}
 use Rattle.nodestate.specs.declared.Node.{Node}
 use Rattle.nodestate.specs.States.{isJoined, isServing}
-use Rattle.nodestate.specs.Change.{moved, takenOver, storedVersion, transferred, endedTransfer, instructed}
+use Rattle.nodestate.specs.Change.{wentTo, takenOver, storedVersion, transferred, endedTransfer, instructed}
 use Rattle.nodestate.specs.StateRules.{keptOk, standing, valid}
 use Rattle.nodestate.specs.Table.{Kind, legal}
 use Rattle.nodestate.proofs.Tables.{gives, given}
@@ -35,7 +35,7 @@ enable1-passed n sound version set e =
     (passes n sound (isServing n) (none-applies ts e 0 (omega arith)) (none-applies ts e 1 (omega arith)) (or-false (ltb 15 (n .id)) _ (none-applies ts e 2 (omega arith)) .0) (none-applies ts e 8 (omega arith)), tells n version set (or-false (ltb 15 (n .id)) (ltb 65535 set) (none-applies ts e 2 (omega arith)) .1) (none-applies ts e 9 (omega arith)) (none-applies ts e 13 (omega arith)))
 
 pub enable1-keeps : (n : Node) (sound : Bool) (version : ℕ) (set : ℕ) → enable1Refusal n sound version set ≡ 0 → Keeps Kind.enable1 n (enabled n version set)
-unfolding enabled instructed storedVersion takenOver endedTransfer transferred moved keptOk
+unfolding enabled instructed storedVersion takenOver endedTransfer transferred wentTo keptOk
 enable1-keeps n sound version set e =
     let p = enable1-passed n sound version set e .0 in
     let v = p .rules in
@@ -63,7 +63,7 @@ stop-passed n sound e =
     passes n sound (stoppable (n .state)) (none-applies ts e 0 (omega arith)) (none-applies ts e 1 (omega arith)) (none-applies ts e 2 (omega arith)) (none-applies ts e 8 (omega arith))
 
 pub enable0-keeps : (n : Node) (sound : Bool) → stopRefusal n sound ≡ 0 → Keeps Kind.enable0 n (disabled n)
-unfolding disabled endedTransfer transferred moved keptOk
+unfolding disabled endedTransfer transferred wentTo keptOk
 enable0-keeps n sound e =
     let p = stop-passed n sound e in
     let v = p .rules in
@@ -75,13 +75,13 @@ enable0-keeps n sound e =
       size = refl;
     }
 
-pub fault-keeps : (n : Node) (sound : Bool) → stopRefusal n sound ≡ 0 → Keeps Kind.fault n (moved n State.NoIo)
-unfolding moved keptOk
+pub fault-keeps : (n : Node) (sound : Bool) → stopRefusal n sound ≡ 0 → Keeps Kind.fault n (wentTo n State.NoIo)
+unfolding wentTo keptOk
 fault-keeps n sound e =
     let p = stop-passed n sound e in
     let v = p .rules in
     record {
-      rules = valid-of (moved n State.NoIo) (record { some = v .some; few = v .few; stand = given _ _ (at-node (λ s store create t own. gives (standing s store create t own && (stoppable s)) (standing State.NoIo store create t own)) refl n) (and-both (v .stand) (p .from)); ids = v .ids; top = v .top; keeps = v .keeps });
+      rules = valid-of (wentTo n State.NoIo) (record { some = v .some; few = v .few; stand = given _ _ (at-node (λ s store create t own. gives (standing s store create t own && (stoppable s)) (standing State.NoIo store create t own)) refl n) (and-both (v .stand) (p .from)); ids = v .ids; top = v .top; keeps = v .keeps });
       lawful = given _ _ (at-node (λ s store create t own. gives (standing s store create t own && (stoppable s)) (legal Kind.fault s (State.NoIo))) refl n) (and-both (v .stand) (p .from));
       same-id = refl;
       same-chunks = refl;

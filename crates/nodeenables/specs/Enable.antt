@@ -13,7 +13,7 @@ use Rattle.nodestate.specs.declared.Answer.{Answer}
 use Rattle.nodestate.specs.declared.Node.{Node}
 use Rattle.nodestate.specs.declared.Turn.{Turn}
 use Rattle.nodestate.specs.States.{isNormal, isNoIo, isServing}
-use Rattle.nodestate.specs.Change.{moved, endedTransfer, instructed}
+use Rattle.nodestate.specs.Change.{wentTo, endedTransfer, instructed}
 use Rattle.nodestate.specs.StateRules.{valid}
 use Rattle.nodestate.specs.Turns.{does, turn, settled}
 
@@ -33,7 +33,7 @@ unfoldable pub enable1Refusal : Node → Bool → ℕ → ℕ → ℕ
 enable1Refusal n sound version set = refusal (enable1Tests n sound version set)
 
 unfoldable pub enabled : Node → ℕ → ℕ → Node
-enabled n version set = instructed (endedTransfer (moved n State.Normal)) version set
+enabled n version set = instructed (endedTransfer (wentTo n State.Normal)) version set
 
 unfoldable pub enable1 : Node → Bool → ℕ → ℕ → Turn
 enable1 n sound version set =
@@ -53,10 +53,10 @@ unfoldable pub stopRefusal : Node → Bool → ℕ
 stopRefusal n sound = refusal (stopTests n sound)
 
 unfoldable pub disabled : Node → Node
-disabled n = endedTransfer (moved n State.NoIo)
+disabled n = endedTransfer (wentTo n State.NoIo)
 
 unfoldable pub enable0 : Node → Bool → Turn
 enable0 n sound = settled (stopRefusal n sound) n (turn Answer.Done (disabled n) (does OnMap.Keep OnStaging.Zero))
 
 unfoldable pub fault : Node → Bool → Turn
-fault n sound = settled (stopRefusal n sound) n (turn Answer.Done (moved n State.NoIo) (does OnMap.Keep OnStaging.Keep))
+fault n sound = settled (stopRefusal n sound) n (turn Answer.Done (wentTo n State.NoIo) (does OnMap.Keep OnStaging.Keep))

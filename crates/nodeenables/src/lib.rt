@@ -50,7 +50,7 @@ pub fn enable1(n: Node, sound: bool, version: u64, set: u64) -> Turn
 fn enabled(n: Node, version: u64, set: u64) -> Node
     ensures { λ r. ⌜ r ≡ enabled n version set ⌝ }
 {
-    let here = change::moved(n, State::Normal);
+    let here = change::went_to(n, State::Normal);
     let ended = change::ended_transfer(here);
     change::instructed(ended, version, set)
 }
@@ -89,7 +89,7 @@ pub fn enable0(n: Node, sound: bool) -> Turn
 fn disabled(n: Node) -> Node
     ensures { λ r. ⌜ r ≡ disabled n ⌝ }
 {
-    let here = change::moved(n, State::NoIo);
+    let here = change::went_to(n, State::NoIo);
     change::ended_transfer(here)
 }
 
@@ -98,7 +98,7 @@ pub fn fault(n: Node, sound: bool) -> Turn
     ensures { λ r. ⌜ r ≡ fault n sound ⌝ }
 {
     let why = stop_refusal(n, sound);
-    let next = change::moved(n, State::NoIo);
+    let next = change::went_to(n, State::NoIo);
     let effect = turns::does(OnMap::Keep, OnStaging::Keep);
     let done = turns::turn(Answer::Done, next, effect);
     turns::settled(why, n, done)

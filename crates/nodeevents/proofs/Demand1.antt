@@ -22,13 +22,13 @@ use Rattle.node.specs.Events.{Event, third, turnOf}
 use Rattle.node.specs.Face.{lentTo, turnAt, answers}
 use Rattle.node.proofs.Theorems.{refusal-changes-nothing}
 use Rattle.nodeevents.specs.Tests.{testsAt, testsOf}
-use Rattle.nodeevents.specs.Demand1.{isTaken, Verdict, Demand1}
+use Rattle.nodeevents.specs.Demand1.{isAccepted, Verdict, Demand1}
 
 -- a turn is what the event does where nothing refuses it, else it is refused by the first that applies
 record Shape (e : Event) (n : Node) (sound : Bool) : Type 0 where
   does : Turn
   same : turnOf e n sound ≡ pick (eqb (refusal (testsAt e n sound)) 0) does (refused (refusal (testsAt e n sound)) n)
-  plain : isTaken (does .answer) ≡ true
+  plain : isAccepted (does .answer) ≡ true
 
 shape : (e : Event) (n : Node) (sound : Bool) → Shape e n sound
 unfolding settled Register.registerCreate Register.registerCreateRefusal Register.registerAdd Register.registerAddRefusal Register.unregister Register.unregisterRefusal Join.joinCreate Join.joinCreateRefusal Join.assemble Join.assembleRefusal Join.leave Join.leaveRefusal Enable.enable1 Enable.enable1Refusal Enable.enable0 Enable.fault Enable.stopRefusal Write.write Write.writeRefusal Write.synced Write.syncedRefusal Info.poolInfo Info.poolInfoRefusal Serve.mapReady Serve.give Serve.mapGetVer Serve.serveRefusal Hand.take Hand.mapDisable Hand.handRefusal Hand.mapDone Hand.mapDoneRefusal Serve.lastIoToMap Serve.lastIoRefusal
@@ -65,7 +65,7 @@ demand-1 e s xs ys = at (eqb why 0) refl
     turn b z = h .same ∙ ap (λ (x : Bool). pick x (h .does) (refused why (s .node))) z
 
     at : (b : Bool) → eqb why 0 ≡ b → Verdict e s xs ys
-    at true z = Verdict.done (ap (λ (t : Turn). isTaken (t .answer)) (turn true z) ∙ h .plain) (none-applies (testsOf e s xs ys) (eqb-true why 0 z))
+    at true z = Verdict.done (ap (λ (t : Turn). isAccepted (t .answer)) (turn true z) ∙ h .plain) (none-applies (testsOf e s xs ys) (eqb-true why 0 z))
     at false z =
         let q : answers e s xs ys .answer ≡ Answer.Refused why = ap (λ (t : Turn). t .answer) (turn false z) in
         let u = refusal-changes-nothing e s xs ys why q in

@@ -13,7 +13,7 @@ use Rattle.node.specs.Events.{Event, third}
 use Rattle.node.specs.Face.{lentTo, answers}
 use Rattle.node.proofs.Theorems.{isRefused, Good, fresh-good, stays-good, accepted-keeps}
 use Rattle.nodeevents.specs.Tests.{testsAt, testsOf}
-use Rattle.nodeevents.specs.Demand1.{isTaken, Verdict}
+use Rattle.nodeevents.specs.Demand1.{isAccepted, Verdict}
 use Rattle.nodeevents.specs.Demand2.{Reached, RulesKept, NeverOne, NeverTwo, ByTheTable}
 use Rattle.nodeevents.proofs.Demand1.{demand-1}
 
@@ -52,7 +52,7 @@ given e s xs ys n q = at (demand-1 e s xs ys)
   where
     at : Verdict e s xs ys → applies n (testsOf e s xs ys) ≡ true
     at (Verdict.refused m p h) = let z : m ≡ n = cc (p, q) in ap (λ (k : ℕ). applies k (testsOf e s xs ys)) (sym z) ∙ h .first .given
-    at (Verdict.done p h) = clash p (ap isTaken q)
+    at (Verdict.done p h) = clash p (ap isAccepted q)
 
 pub never-one : NeverOne
 never-one s xs ys r e n q z =
@@ -65,7 +65,7 @@ never-two s xs ys r e n t q z =
     clash (ap (λ (k : ℕ). applies k (testsOf e s xs ys)) (sym z) ∙ given e s xs ys n q)
     (first-two e (s .node) (lentTo (third e) (s .node) xs ys) .1 ∙ ap not (and-both t (and-both (g .map) (g .staging))))
 
-taken-plain : (a : Answer) → isTaken a ≡ true → isRefused a ≡ false
+pub taken-plain : (a : Answer) → isAccepted a ≡ true → isRefused a ≡ false
 taken-plain (Answer.Refused n) e = clash e refl
 taken-plain Answer.Done e = refl
 taken-plain (Answer.Version v) e = refl

@@ -11,10 +11,10 @@ use Rattle.node.specs.Events.{Event}
 use Rattle.node.specs.Face.{answers, mapLeft, stagingLeft}
 use Rattle.nodeevents.specs.Tests.{testsOf}
 
-abbrev pub isTaken : Answer → Bool
-isTaken (Answer.Refused n) = false
-isTaken Answer.Done = true
-isTaken (Answer.Version v) = true
+abbrev pub isAccepted : Answer → Bool
+isAccepted (Answer.Refused n) = false
+isAccepted Answer.Done = true
+isAccepted (Answer.Version v) = true
 
 -- A refusal's number is the first that applies; state, map and staging are as they were. A node sends no messages.
 pub record Refuses (e : Event) (s : StorageNode) (xs ys : List ℕ) (n : ℕ) : Type 0 where
@@ -26,7 +26,7 @@ pub record Refuses (e : Event) (s : StorageNode) (xs ys : List ℕ) (n : ℕ) : 
 -- Every answer is a refusal, which is then the first that applies and changes nothing; or it is none, and then no number applies.
 pub data Verdict (e : Event) (s : StorageNode) (xs ys : List ℕ) : Type 0 where
   refused : (n : ℕ) → answers e s xs ys .answer ≡ Answer.Refused n → Refuses e s xs ys n → Verdict e s xs ys
-  done : isTaken (answers e s xs ys .answer) ≡ true → None (testsOf e s xs ys) → Verdict e s xs ys
+  done : isAccepted (answers e s xs ys .answer) ≡ true → None (testsOf e s xs ys) → Verdict e s xs ys
 
 -- Assumed: nothing. xs are the map's bytes, ys those of staging, of any length.
 abbrev pub Demand1 : Type 0

@@ -12,7 +12,7 @@ use Rattle.nodestate.specs.Table.{legal}
 use Rattle.node.specs.declared.StorageNode.{StorageNode}
 use Rattle.node.specs.Events.{Event, kindOf, third}
 use Rattle.node.specs.Face.{freshNode, soundThird, answers, mapLeft, stagingLeft}
-use Rattle.nodeevents.specs.Demand1.{isTaken}
+use Rattle.nodeevents.specs.Demand1.{isAccepted}
 
 -- A node with its map and staging is reached if it is a fresh one of any id, with 1 to 4,096 chunks and two sound maps, or what an event left of a reached one:
 -- any event, with any data, accepted or refused.
@@ -37,5 +37,5 @@ NeverTwo = (s : StorageNode) (xs ys : List ℕ) → Reached s xs ys → (e : Eve
 
 -- Every accepted event at a reached node changes its state only along source document 003's table.
 abbrev pub ByTheTable : Type 0
-ByTheTable = (s : StorageNode) (xs ys : List ℕ) → Reached s xs ys → (e : Event) → isTaken (answers e s xs ys .answer) ≡ true
+ByTheTable = (s : StorageNode) (xs ys : List ℕ) → Reached s xs ys → (e : Event) → isAccepted (answers e s xs ys .answer) ≡ true
     → legal (kindOf e) (s .node .state) (answers e s xs ys .node .node .state) ≡ true

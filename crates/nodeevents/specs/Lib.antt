@@ -2,3 +2,4 @@ pub mod Tests
 pub mod Demand1
 pub mod Demand2
 pub mod Unique
+pub mod Said

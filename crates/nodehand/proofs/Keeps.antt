@@ -10,14 +10,14 @@ use Rattle.refusals.specs.Refusals.{Test}
 use Rattle.nodestate.specs.declared.Transfer.{Transfer}
 use Rattle.order.proofs.Order.{none-applies}
 use Rattle.nodestate.specs.declared.Node.{Node}
-use Rattle.nodestate.specs.States.{inHand, isTaken}
-use Rattle.nodestate.specs.Change.{moved, takenOver, storedVersion, transferred, endedTransfer, instructed}
+use Rattle.nodestate.specs.States.{inHand, isMapTaken}
+use Rattle.nodestate.specs.Change.{wentTo, takenOver, storedVersion, transferred, endedTransfer, instructed}
 use Rattle.nodestate.specs.StateRules.{keptOk, standing, valid}
 use Rattle.nodestate.specs.Table.{Kind, legal}
 use Rattle.nodestate.proofs.Tables.{gives, given}
 use Rattle.nodestate.proofs.Valid.{valid-of, at-node}
 use Rattle.nodestate.proofs.Passed.{or-false, Passed, passes, Told, tells, Keeps, Later, later}
-use Rattle.nodehand.specs.Hand.{handTests, handRefusal, taken, mapDoneTests, mapDoneRefusal, doneTo, committed}
+use Rattle.nodehand.specs.Hand.{handTests, handRefusal, mapTaken, mapDoneTests, mapDoneRefusal, doneTo, committed}
 
 -- ---- taking a map, MAP_DISABLE
 
@@ -33,13 +33,13 @@ hand-passed n sound e =
     let ts : List Test = handTests n sound in
     passes n sound (inHand (n .transfer)) (none-applies ts e 0 (omega arith)) (none-applies ts e 1 (omega arith)) (none-applies ts e 2 (omega arith)) (none-applies ts e 14 (omega arith))
 
-pub take-keeps : (n : Node) (sound : Bool) → handRefusal n sound ≡ 0 → Keeps Kind.take n (taken n)
-unfolding taken transferred keptOk
+pub take-keeps : (n : Node) (sound : Bool) → handRefusal n sound ≡ 0 → Keeps Kind.take n (mapTaken n)
+unfolding mapTaken transferred keptOk
 take-keeps n sound e =
     let p = hand-passed n sound e in
     let v = p .rules in
     record {
-      rules = valid-of (taken n) (record { some = v .some; few = v .few; stand = given _ _ (at-node (λ s store create t own. gives (standing s store create t own && (inHand t)) (standing s store create Transfer.Taken own)) refl n) (and-both (v .stand) (p .from)); ids = v .ids; top = v .top; keeps = v .keeps });
+      rules = valid-of (mapTaken n) (record { some = v .some; few = v .few; stand = given _ _ (at-node (λ s store create t own. gives (standing s store create t own && (inHand t)) (standing s store create Transfer.Taken own)) refl n) (and-both (v .stand) (p .from)); ids = v .ids; top = v .top; keeps = v .keeps });
       lawful = given _ _ (at-node (λ s store create t own. gives (standing s store create t own && (inHand t)) (legal Kind.take s (s))) refl n) (and-both (v .stand) (p .from));
       same-id = refl;
       same-chunks = refl;
@@ -67,21 +67,21 @@ mapDone-later n sound version set v l =
     let ts : List Test = mapDoneTests n sound version set in
     later ts (ap not v) (ap not l)
 
-pub mapDone-passed : (n : Node) (sound : Bool) (version : ℕ) (set : ℕ) → mapDoneRefusal n sound version set ≡ 0 → Passed n sound (isTaken (n .transfer)) × Told n version set
+pub mapDone-passed : (n : Node) (sound : Bool) (version : ℕ) (set : ℕ) → mapDoneRefusal n sound version set ≡ 0 → Passed n sound (isMapTaken (n .transfer)) × Told n version set
 unfolding mapDoneRefusal
 mapDone-passed n sound version set e =
     let ts : List Test = mapDoneTests n sound version set in
-    (passes n sound (isTaken (n .transfer)) (none-applies ts e 0 (omega arith)) (none-applies ts e 1 (omega arith)) (or-false (ltb 15 (n .id)) _ (none-applies ts e 2 (omega arith)) .0) (none-applies ts e 14 (omega arith)), tells n version set (or-false (ltb 15 (n .id)) (ltb 65535 set) (none-applies ts e 2 (omega arith)) .1) (none-applies ts e 9 (omega arith)) (none-applies ts e 13 (omega arith)))
+    (passes n sound (isMapTaken (n .transfer)) (none-applies ts e 0 (omega arith)) (none-applies ts e 1 (omega arith)) (or-false (ltb 15 (n .id)) _ (none-applies ts e 2 (omega arith)) .0) (none-applies ts e 14 (omega arith)), tells n version set (or-false (ltb 15 (n .id)) (ltb 65535 set) (none-applies ts e 2 (omega arith)) .1) (none-applies ts e 9 (omega arith)) (none-applies ts e 13 (omega arith)))
 
 pub mapDone-keeps : (n : Node) (sound enabling : Bool) (version set : ℕ) → mapDoneRefusal n sound version set ≡ 0 → Keeps Kind.mapDone n (committed n enabling version set)
-unfolding committed instructed storedVersion takenOver endedTransfer transferred moved keptOk
+unfolding committed instructed storedVersion takenOver endedTransfer transferred wentTo keptOk
 mapDone-keeps n sound true version set e =
     let p = mapDone-passed n sound version set e .0 in
     let v = p .rules in
     let w = mapDone-passed n sound version set e .1 in
     record {
-      rules = valid-of (committed n true version set) (record { some = v .some; few = v .few; stand = rw (w .holds) (given _ _ (at-node (λ s store create t own. gives (standing s store create t own && (isTaken t)) (standing (doneTo true s) store create Transfer.Nothing true)) refl n) (and-both (v .stand) (p .from))); ids = w .set-lt; top = w .low; keeps = v .keeps });
-      lawful = given _ _ (at-node (λ s store create t own. gives (standing s store create t own && (isTaken t)) (legal Kind.mapDone s (doneTo true s))) refl n) (and-both (v .stand) (p .from));
+      rules = valid-of (committed n true version set) (record { some = v .some; few = v .few; stand = rw (w .holds) (given _ _ (at-node (λ s store create t own. gives (standing s store create t own && (isMapTaken t)) (standing (doneTo true s) store create Transfer.Nothing true)) refl n) (and-both (v .stand) (p .from))); ids = w .set-lt; top = w .low; keeps = v .keeps });
+      lawful = given _ _ (at-node (λ s store create t own. gives (standing s store create t own && (isMapTaken t)) (legal Kind.mapDone s (doneTo true s))) refl n) (and-both (v .stand) (p .from));
       same-id = refl;
       same-chunks = refl;
       size = refl;
@@ -91,8 +91,8 @@ mapDone-keeps n sound false version set e =
     let v = p .rules in
     let w = mapDone-passed n sound version set e .1 in
     record {
-      rules = valid-of (committed n false version set) (record { some = v .some; few = v .few; stand = rw (w .holds) (given _ _ (at-node (λ s store create t own. gives (standing s store create t own && (isTaken t)) (standing (doneTo false s) store create Transfer.Nothing true)) refl n) (and-both (v .stand) (p .from))); ids = w .set-lt; top = w .low; keeps = v .keeps });
-      lawful = given _ _ (at-node (λ s store create t own. gives (standing s store create t own && (isTaken t)) (legal Kind.mapDone s (doneTo false s))) refl n) (and-both (v .stand) (p .from));
+      rules = valid-of (committed n false version set) (record { some = v .some; few = v .few; stand = rw (w .holds) (given _ _ (at-node (λ s store create t own. gives (standing s store create t own && (isMapTaken t)) (standing (doneTo false s) store create Transfer.Nothing true)) refl n) (and-both (v .stand) (p .from))); ids = w .set-lt; top = w .low; keeps = v .keeps });
+      lawful = given _ _ (at-node (λ s store create t own. gives (standing s store create t own && (isMapTaken t)) (legal Kind.mapDone s (doneTo false s))) refl n) (and-both (v .stand) (p .from));
       same-id = refl;
       same-chunks = refl;
       size = refl;

@@ -14,8 +14,8 @@ use Rattle.nodestate.specs.declared.OnStaging.{OnStaging}
 use Rattle.nodestate.specs.declared.Answer.{Answer}
 use Rattle.nodestate.specs.declared.Node.{Node}
 use Rattle.nodestate.specs.declared.Turn.{Turn}
-use Rattle.nodestate.specs.States.{inHand, isTaken}
-use Rattle.nodestate.specs.Change.{moved, transferred, endedTransfer, instructed}
+use Rattle.nodestate.specs.States.{inHand, isMapTaken}
+use Rattle.nodestate.specs.Change.{wentTo, transferred, endedTransfer, instructed}
 use Rattle.nodestate.specs.StateRules.{valid}
 use Rattle.nodestate.specs.Turns.{does, turn, settled}
 
@@ -28,11 +28,11 @@ handRefusal n sound = refusal (handTests n sound)
 
 -- ---- taking a map ORs it in
 
-unfoldable pub taken : Node → Node
-taken n = transferred n Transfer.Taken
+unfoldable pub mapTaken : Node → Node
+mapTaken n = transferred n Transfer.Taken
 
 unfoldable pub take : Node → Bool → Turn
-take n sound = settled (handRefusal n sound) n (turn Answer.Done (taken n) (does OnMap.Keep OnStaging.Or))
+take n sound = settled (handRefusal n sound) n (turn Answer.Done (mapTaken n) (does OnMap.Keep OnStaging.Or))
 
 -- ---- MAP_DONE (enabling or not, version, set holding itself): commits, NORMAL if enabling; version and set stored, rows outside the set zeroed
 
@@ -43,7 +43,7 @@ mapDoneTests n sound version set =
     ∷ test 3 (ltb 15 (n .id) || ltb 65535 set)
     ∷ test 10 (not (has set (n .id)))
     ∷ test 14 (ltb versionLimit version)
-    ∷ test 15 (not (isTaken (n .transfer)))
+    ∷ test 15 (not (isMapTaken (n .transfer)))
     ∷ []
 
 unfoldable pub mapDoneRefusal : Node → Bool → ℕ → ℕ → ℕ
@@ -54,7 +54,7 @@ doneTo true s = State.Normal
 doneTo false s = s
 
 unfoldable pub committed : Node → Bool → ℕ → ℕ → Node
-committed n enabling version set = instructed (endedTransfer (moved n (doneTo enabling (n .state)))) version set
+committed n enabling version set = instructed (endedTransfer (wentTo n (doneTo enabling (n .state)))) version set
 
 unfoldable pub mapDone : Node → Bool → Bool → ℕ → ℕ → Turn
 mapDone n sound enabling version set =

@@ -1,6 +1,6 @@
 // Taking a map, MAP_DONE, MAP_DISABLE.
 ghost use mathlib.Core.Path.{_≡_};
-ghost use Rattle.nodehand.specs.Hand.{handRefusal, taken, take, mapDoneRefusal, doneTo, committed, mapDone, mapDisable};
+ghost use Rattle.nodehand.specs.Hand.{handRefusal, mapTaken, take, mapDoneRefusal, doneTo, committed, mapDone, mapDisable};
 use nodestate::Answer;
 use nodestate::Node;
 use nodestate::OnMap;
@@ -33,14 +33,14 @@ pub fn take(n: Node, sound: bool) -> Turn
     ensures { λ r. ⌜ r ≡ take n sound ⌝ }
 {
     let why = hand_refusal(n, sound);
-    let next = taken(n);
+    let next = map_taken(n);
     let effect = turns::does(OnMap::Keep, OnStaging::Or);
     let done = turns::turn(Answer::Done, next, effect);
     turns::settled(why, n, done)
 }
 
-fn taken(n: Node) -> Node
-    ensures { λ r. ⌜ r ≡ taken n ⌝ }
+fn map_taken(n: Node) -> Node
+    ensures { λ r. ⌜ r ≡ mapTaken n ⌝ }
 {
     change::transferred(n, Transfer::Taken)
 }
@@ -50,7 +50,7 @@ fn map_done_refusal(n: Node, sound: bool, version: u64, set: u64) -> u64
 {
     let ok = state_rules::valid(n);
     let t = n.transfer;
-    let full = states::is_taken(t);
+    let full = states::is_map_taken(t);
     let own = sets::has(set, n.id);
     let ids = (15 < n.id) | (65535 < set);
     let high = refusals::VERSION_LIMIT < version;
@@ -85,7 +85,7 @@ fn committed(n: Node, enabling: bool, version: u64, set: u64) -> Node
 {
     let s = n.state;
     let to = done_to(enabling, s);
-    let here = change::moved(n, to);
+    let here = change::went_to(n, to);
     let ended = change::ended_transfer(here);
     change::instructed(ended, version, set)
 }

@@ -14,7 +14,7 @@ use Rattle.nodestate.specs.declared.State.{State}
 use Rattle.nodestate.specs.declared.Transfer.{Transfer}
 use Rattle.nodestate.specs.declared.Node.{Node}
 use Rattle.nodestate.specs.States.{isRegistered, isJoined}
-use Rattle.nodestate.specs.Change.{moved, equipped, takenOver, transferred, endedTransfer}
+use Rattle.nodestate.specs.Change.{wentTo, equipped, takenOver, transferred, endedTransfer}
 use Rattle.nodestate.specs.StateRules.{keptOk, standing, valid}
 use Rattle.nodestate.specs.Table.{Kind, legal}
 use Rattle.nodestate.proofs.Tables.{gives, given}
@@ -37,7 +37,7 @@ joinCreate-passed n sound set e =
     passes n sound (isRegistered (n .state) && n .create) (none-applies ts e 0 (omega arith)) (none-applies ts e 1 (omega arith)) (or-false (ltb 15 (n .id)) _ (none-applies ts e 2 (omega arith)) .0) (none-applies ts e 8 (omega arith))
 
 pub joinCreate-keeps : (n : Node) (sound : Bool) (set : ℕ) → joinCreateRefusal n sound set ≡ 0 → Keeps Kind.joinCreate n (joinedCreate n set)
-unfolding joinCreateRefusal joinedCreate takenOver equipped moved keptOk
+unfolding joinCreateRefusal joinedCreate takenOver equipped wentTo keptOk
 joinCreate-keeps n sound set e =
     let p = joinCreate-passed n sound set e in
     let v = p .rules in
@@ -65,13 +65,13 @@ assemble-passed n sound e =
     let ts : List Test = assembleTests n sound in
     passes n sound (assembles (n .state) (n .store) (n .create)) (none-applies ts e 0 (omega arith)) (none-applies ts e 1 (omega arith)) (none-applies ts e 2 (omega arith)) (none-applies ts e 8 (omega arith))
 
-pub assemble-keeps : (n : Node) (sound : Bool) → assembleRefusal n sound ≡ 0 → Keeps Kind.assemble n (moved n State.NoIo)
-unfolding moved keptOk
+pub assemble-keeps : (n : Node) (sound : Bool) → assembleRefusal n sound ≡ 0 → Keeps Kind.assemble n (wentTo n State.NoIo)
+unfolding wentTo keptOk
 assemble-keeps n sound e =
     let p = assemble-passed n sound e in
     let v = p .rules in
     record {
-      rules = valid-of (moved n State.NoIo) (record { some = v .some; few = v .few; stand = given _ _ (at-node (λ s store create t own. gives (standing s store create t own && (assembles s store create)) (standing State.NoIo store create t own)) refl n) (and-both (v .stand) (p .from)); ids = v .ids; top = v .top; keeps = v .keeps });
+      rules = valid-of (wentTo n State.NoIo) (record { some = v .some; few = v .few; stand = given _ _ (at-node (λ s store create t own. gives (standing s store create t own && (assembles s store create)) (standing State.NoIo store create t own)) refl n) (and-both (v .stand) (p .from)); ids = v .ids; top = v .top; keeps = v .keeps });
       lawful = given _ _ (at-node (λ s store create t own. gives (standing s store create t own && (assembles s store create)) (legal Kind.assemble s (State.NoIo))) refl n) (and-both (v .stand) (p .from));
       same-id = refl;
       same-chunks = refl;
@@ -93,7 +93,7 @@ leave-passed n sound e =
     passes n sound (isJoined (n .state)) (none-applies ts e 0 (omega arith)) (none-applies ts e 1 (omega arith)) (none-applies ts e 2 (omega arith)) (none-applies ts e 8 (omega arith))
 
 pub leave-keeps : (n : Node) (sound : Bool) → leaveRefusal n sound ≡ 0 → Keeps Kind.leave n (left n)
-unfolding left endedTransfer transferred moved keptOk
+unfolding left endedTransfer transferred wentTo keptOk
 leave-keeps n sound e =
     let p = leave-passed n sound e in
     let v = p .rules in

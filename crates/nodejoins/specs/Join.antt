@@ -12,7 +12,7 @@ use Rattle.nodestate.specs.declared.Answer.{Answer}
 use Rattle.nodestate.specs.declared.Node.{Node}
 use Rattle.nodestate.specs.declared.Turn.{Turn}
 use Rattle.nodestate.specs.States.{isRegistered, isNormal, isNoIo, isJoined}
-use Rattle.nodestate.specs.Change.{moved, equipped, takenOver, endedTransfer}
+use Rattle.nodestate.specs.Change.{wentTo, equipped, takenOver, endedTransfer}
 use Rattle.nodestate.specs.StateRules.{valid}
 use Rattle.nodestate.specs.Turns.{does, turn, settled}
 
@@ -34,7 +34,7 @@ unfoldable pub joinCreateRefusal : Node → Bool → ℕ → ℕ
 joinCreateRefusal n sound set = refusal (joinCreateTests n sound set)
 
 unfoldable pub joinedCreate : Node → ℕ → Node
-joinedCreate n set = takenOver (equipped (moved n State.Created) (n .store) false) (with set (n .id))
+joinedCreate n set = takenOver (equipped (wentTo n State.Created) (n .store) false) (with set (n .id))
 
 unfoldable pub joinCreate : Node → Bool → ℕ → Turn
 joinCreate n sound set = settled (joinCreateRefusal n sound set) n (turn Answer.Done (joinedCreate n set) (does (ownRow n) OnStaging.Keep))
@@ -56,7 +56,7 @@ unfoldable pub assembleRefusal : Node → Bool → ℕ
 assembleRefusal n sound = refusal (assembleTests n sound)
 
 unfoldable pub assemble : Node → Bool → Turn
-assemble n sound = settled (assembleRefusal n sound) n (turn Answer.Done (moved n State.NoIo) (does OnMap.Keep OnStaging.Keep))
+assemble n sound = settled (assembleRefusal n sound) n (turn Answer.Done (wentTo n State.NoIo) (does OnMap.Keep OnStaging.Keep))
 
 -- ---- leave: from CREATED, NORMAL, NO_IO to REGISTERED, or EMPTY without store; staging dropped; delete zeroes the other rows, never its own
 
@@ -72,7 +72,7 @@ unfoldable pub leaveRefusal : Node → Bool → ℕ
 leaveRefusal n sound = refusal (leaveTests n sound)
 
 unfoldable pub left : Node → Node
-left n = endedTransfer (moved n (leftTo (n .store)))
+left n = endedTransfer (wentTo n (leftTo (n .store)))
 
 abbrev pub leaves : Bool → Node → OnMap
 leaves true n = ownRow n

@@ -64,7 +64,7 @@ fn joined_create(n: Node, set: u64) -> Node
     ensures { λ r. ⌜ r ≡ joinedCreate n set ⌝ }
 {
     let all = sets::with(set, n.id);
-    let here = change::moved(n, State::Created);
+    let here = change::went_to(n, State::Created);
     let plain = change::equipped(here, n.store, false);
     change::taken_over(plain, all)
 }
@@ -87,7 +87,7 @@ pub fn assemble(n: Node, sound: bool) -> Turn
     ensures { λ r. ⌜ r ≡ assemble n sound ⌝ }
 {
     let why = assemble_refusal(n, sound);
-    let next = change::moved(n, State::NoIo);
+    let next = change::went_to(n, State::NoIo);
     let effect = turns::does(OnMap::Keep, OnStaging::Keep);
     let done = turns::turn(Answer::Done, next, effect);
     turns::settled(why, n, done)
@@ -128,7 +128,7 @@ fn left(n: Node) -> Node
     ensures { λ r. ⌜ r ≡ left n ⌝ }
 {
     let to = left_to(n.store);
-    let away = change::moved(n, to);
+    let away = change::went_to(n, to);
     change::ended_transfer(away)
 }
 

@@ -7,7 +7,7 @@ use Rattle.laws.specs.Words.{pick}
 use Rattle.laws.specs.Loops.{runAt}
 use Rattle.sets.specs.Sets.{without}
 use Rattle.chunks.specs.Chunk.{dirty, markedFor, cleared}
-use Rattle.maps.specs.Map.{zeroRow, zeroed, kept, orIn, copied}
+use Rattle.maps.specs.Map.{zeroRow, zeroed, rowsKept, orIn, copied}
 use Rattle.nodestate.specs.declared.OnMap.{OnMap}
 use Rattle.nodestate.specs.declared.OnStaging.{OnStaging}
 use Rattle.nodestate.specs.declared.Node.{Node}
@@ -33,8 +33,8 @@ mapAfter (OnMap.Clear member chunk) n ys xs = cleared xs member chunk
 mapAfter (OnMap.LastIos chosen) n ys xs = lastIos n chosen xs
 mapAfter (OnMap.ZeroRow member) n ys xs = zeroRow member xs
 mapAfter OnMap.Zero n ys xs = zeroed xs
-mapAfter (OnMap.KeepRows set) n ys xs = kept set xs
-mapAfter (OnMap.Commit set) n ys xs = kept set (copied xs ys)
+mapAfter (OnMap.KeepRows set) n ys xs = rowsKept set xs
+mapAfter (OnMap.Commit set) n ys xs = rowsKept set (copied xs ys)
 
 -- the staging map after an effect; xs is the map after it. What is ORed in is lent to taking alone: takenIn
 unfoldable pub stagingAfter : OnStaging → List ℕ → List ℕ → List ℕ

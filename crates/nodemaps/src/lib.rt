@@ -1,7 +1,7 @@
 // What a node's events do to its two maps, carried out by the functions of `maps`. Every function takes maps of any length.
 ghost use mathlib.Core.Path.{_≡_};
 ghost use Prim.Native.Nat.{_<_};
-ghost use Rattle.maps.specs.Map.{kept, copied};
+ghost use Rattle.maps.specs.Map.{rowsKept, copied};
 ghost use Rattle.nodemaps.specs.Carry.{lastIo, lastIoAt, lastIos, mapAfter, stagingAfter, takenIn};
 use nodestate::Effect;
 use nodestate::Node;
@@ -36,7 +36,7 @@ fn carry_map(e: OnMap, n: Node, map: &mut [u8], staging: &[u8])
 
 // Staging in the map's place, with the rows of the set alone.
 fn commit(set: u64, map: &mut [u8], staging: &[u8])
-    ensures { λ _. ⌜ now (map .exit) ≡ kept set (copied (now (map .entry)) (now (staging .entry))) ⌝ }
+    ensures { λ _. ⌜ now (map .exit) ≡ rowsKept set (copied (now (map .entry)) (now (staging .entry))) ⌝ }
 {
     maps::copy(map, staging);
     maps::keep_rows(map, set);

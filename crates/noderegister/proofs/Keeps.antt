@@ -14,7 +14,7 @@ use Rattle.nodestate.specs.declared.State.{State}
 use Rattle.nodestate.specs.declared.Transfer.{Transfer}
 use Rattle.nodestate.specs.declared.Node.{Node}
 use Rattle.nodestate.specs.States.{isEmpty}
-use Rattle.nodestate.specs.Change.{moved, equipped, takenOver, storedVersion, forgotten, transferred, endedTransfer, instructed}
+use Rattle.nodestate.specs.Change.{wentTo, equipped, takenOver, storedVersion, forgotten, transferred, endedTransfer, instructed}
 use Rattle.nodestate.specs.StateRules.{keptOk, standing, valid}
 use Rattle.nodestate.specs.Table.{Kind, legal}
 use Rattle.nodestate.proofs.Tables.{gives, given}
@@ -37,7 +37,7 @@ registerCreate-passed n sound e =
     passes n sound (isEmpty (n .state)) (none-applies ts e 0 (omega arith)) (none-applies ts e 1 (omega arith)) (none-applies ts e 2 (omega arith)) (none-applies ts e 8 (omega arith))
 
 pub registerCreate-keeps : (n : Node) (sound : Bool) → length (n .kept) ≡ 16 → registerCreateRefusal n sound ≡ 0 → Keeps Kind.registerCreate n (registeredCreate n)
-unfolding registeredCreate instructed storedVersion takenOver forgotten equipped moved keptOk
+unfolding registeredCreate instructed storedVersion takenOver forgotten equipped wentTo keptOk
 registerCreate-keeps n sound h e =
     let p = registerCreate-passed n sound e in
     let v = p .rules in
@@ -64,13 +64,13 @@ registerAdd-passed n sound set version e =
     (passes n sound (takesStore (n .state) (n .store)) (none-applies ts e 0 (omega arith)) (none-applies ts e 1 (omega arith)) (or-false (ltb 15 (n .id)) _ (none-applies ts e 2 (omega arith)) .0) (none-applies ts e 8 (omega arith)), tells n version set (or-false (ltb 15 (n .id)) (ltb 65535 set) (none-applies ts e 2 (omega arith)) .1) (none-applies ts e 9 (omega arith)) (none-applies ts e 13 (omega arith)))
 
 pub registerAdd-keeps : (n : Node) (sound : Bool) (set : ℕ) (version : ℕ) → registerAddRefusal n sound set version ≡ 0 → Keeps Kind.registerAdd n (registeredAdd n set version)
-unfolding registeredAdd instructed storedVersion takenOver equipped moved keptOk
+unfolding registeredAdd instructed storedVersion takenOver equipped wentTo keptOk
 registerAdd-keeps n sound set version e =
     let p = registerAdd-passed n sound set version e .0 in
     let v = p .rules in
     let w = registerAdd-passed n sound set version e .1 in
     record {
-      rules = valid-of (registeredAdd n set version) (record { some = v .some; few = v .few; stand = rw (w .holds) (given _ _ (at-node (λ s store create t own. gives (standing s store create t own && (takesStore s store)) (standing (addedTo s) true create t true)) refl n) (and-both (v .stand) (p .from))); ids = w .set-lt; top = w .low; keeps = v .keeps });
+      rules = valid-of (registeredAdd n set version) (record { some = v .some; few = v .few; stand = rw (w .holds) (given _ _ (at-node (λ s store create t own. gives (standing s store create t own && (takesStore s store)) (standing (addedTo s) true false t true)) refl n) (and-both (v .stand) (p .from))); ids = w .set-lt; top = w .low; keeps = v .keeps });
       lawful = given _ _ (at-node (λ s store create t own. gives (standing s store create t own && (takesStore s store)) (legal Kind.registerAdd s (addedTo s))) refl n) (and-both (v .stand) (p .from));
       same-id = refl;
       same-chunks = refl;
@@ -92,7 +92,7 @@ unregister-passed n sound delete e =
     passes n sound (givesStore (n .state) (n .store) delete) (none-applies ts e 0 (omega arith)) (none-applies ts e 1 (omega arith)) (none-applies ts e 2 (omega arith)) (none-applies ts e 8 (omega arith))
 
 pub unregister-keeps : (n : Node) (sound : Bool) (delete : Bool) → unregisterRefusal n sound delete ≡ 0 → Keeps Kind.unregister n (unregistered n delete)
-unfolding unregistered wiped instructed storedVersion takenOver endedTransfer transferred equipped moved keptOk
+unfolding unregistered wiped instructed storedVersion takenOver endedTransfer transferred equipped wentTo keptOk
 unregister-keeps n sound true e =
     let p = unregister-passed n sound true e in
     let v = p .rules in

@@ -14,7 +14,7 @@ use Rattle.nodestate.specs.declared.Answer.{Answer}
 use Rattle.nodestate.specs.declared.Node.{Node}
 use Rattle.nodestate.specs.declared.Turn.{Turn}
 use Rattle.nodestate.specs.States.{isEmpty, isRegistered, isNoIo}
-use Rattle.nodestate.specs.Change.{moved, equipped, forgotten, endedTransfer, instructed}
+use Rattle.nodestate.specs.Change.{wentTo, equipped, forgotten, endedTransfer, instructed}
 use Rattle.nodestate.specs.StateRules.{valid}
 use Rattle.nodestate.specs.Turns.{does, turn, settled}
 
@@ -28,7 +28,7 @@ unfoldable pub registerCreateRefusal : Node → Bool → ℕ
 registerCreateRefusal n sound = refusal (registerCreateTests n sound)
 
 unfoldable pub registeredCreate : Node → Node
-registeredCreate n = instructed (forgotten (equipped (moved n State.Registered) true true)) 0 (with 0 (n .id))
+registeredCreate n = instructed (forgotten (equipped (wentTo n State.Registered) true true)) 0 (with 0 (n .id))
 
 unfoldable pub registerCreate : Node → Bool → Turn
 registerCreate n sound = settled (registerCreateRefusal n sound) n (turn Answer.Done (registeredCreate n) (does OnMap.Zero OnStaging.Keep))
@@ -61,13 +61,13 @@ unfoldable pub registerAddRefusal : Node → Bool → ℕ → ℕ → ℕ
 registerAddRefusal n sound set version = refusal (registerAddTests n sound set version)
 
 unfoldable pub registeredAdd : Node → ℕ → ℕ → Node
-registeredAdd n set version = instructed (equipped (moved n (addedTo (n .state))) true (n .create)) version set
+registeredAdd n set version = instructed (equipped (wentTo n (addedTo (n .state))) true false) version set
 
 unfoldable pub registerAdd : Node → Bool → ℕ → ℕ → Turn
 registerAdd n sound set version =
     settled (registerAddRefusal n sound set version) n (turn Answer.Done (registeredAdd n set version) (does OnMap.Keep OnStaging.Keep))
 
--- ---- unregister: REGISTERED to EMPTY, mark gone (delete zeroes map, members, version); NO_IO with store stays, without it; staging zeroed
+-- ---- unregister: REGISTERED to EMPTY, mark gone (delete zeroes map, members, version); NO_IO with store stays, without it, staging dropped
 
 -- where a store can be given up: delete not in NO_IO
 abbrev pub givesStore : State → Bool → Bool → Bool
@@ -96,14 +96,23 @@ unregisterRefusal n sound delete = refusal (unregisterTests n sound delete)
 unfoldable pub wiped : Bool → Node → Node
 wiped delete n = pick delete (instructed n 0 0) n
 
+-- a transfer is in hand only in NO_IO, and ends there
 unfoldable pub unregistered : Node → Bool → Node
-unregistered n delete = wiped delete (endedTransfer (equipped (moved n (unregisteredTo (n .state))) false false))
+unregistered n delete = wiped delete (endedTransfer (equipped (wentTo n (unregisteredTo (n .state))) false false))
 
 -- the map zeroed by delete
 abbrev pub wipes : Bool → OnMap
 wipes true = OnMap.Zero
 wipes false = OnMap.Keep
 
+-- staging zeroed in NO_IO, left alone in REGISTERED
+abbrev pub dropsStaging : State → OnStaging
+dropsStaging State.Empty = OnStaging.Keep
+dropsStaging State.Registered = OnStaging.Keep
+dropsStaging State.Created = OnStaging.Keep
+dropsStaging State.Normal = OnStaging.Keep
+dropsStaging State.NoIo = OnStaging.Zero
+
 unfoldable pub unregister : Node → Bool → Bool → Turn
 unregister n sound delete =
-    settled (unregisterRefusal n sound delete) n (turn Answer.Done (unregistered n delete) (does (wipes delete) OnStaging.Zero))
+    settled (unregisterRefusal n sound delete) n (turn Answer.Done (unregistered n delete) (does (wipes delete) (dropsStaging (n .state))))

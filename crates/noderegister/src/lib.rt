@@ -15,6 +15,7 @@ ghost use Rattle.noderegister.specs.Register.{
   wiped,
   unregistered,
   wipes,
+  dropsStaging,
   unregister,
 };
 use nodestate::Answer;
@@ -57,7 +58,7 @@ fn registered_create(n: Node) -> Node
     ensures { λ r. ⌜ r ≡ registeredCreate n ⌝ }
 {
     let own = sets::with(0, n.id);
-    let here = change::moved(n, State::Registered);
+    let here = change::went_to(n, State::Registered);
     let marked = change::equipped(here, true, true);
     let bare = change::forgotten(marked);
     change::instructed(bare, 0, own)
@@ -103,8 +104,8 @@ fn registered_add(n: Node, set: u64, version: u64) -> Node
 {
     let s = n.state;
     let to = added_to(s);
-    let here = change::moved(n, to);
-    let ready = change::equipped(here, true, n.create);
+    let here = change::went_to(n, to);
+    let ready = change::equipped(here, true, false);
     change::instructed(ready, version, set)
 }
 
@@ -139,14 +140,16 @@ fn unregister_refusal(n: Node, sound: bool, delete: bool) -> u64
     )
 }
 
-// REGISTERED to EMPTY; NO_IO stays without its store. Staging is dropped.
+// REGISTERED to EMPTY; NO_IO stays without its store, and staging is dropped.
 pub fn unregister(n: Node, sound: bool, delete: bool) -> Turn
     ensures { λ r. ⌜ r ≡ unregister n sound delete ⌝ }
 {
     let why = unregister_refusal(n, sound, delete);
     let next = unregistered(n, delete);
     let map = wipes(delete);
-    let effect = turns::does(map, OnStaging::Zero);
+    let s = n.state;
+    let staging = drops_staging(s);
+    let effect = turns::does(map, staging);
     let done = turns::turn(Answer::Done, next, effect);
     turns::settled(why, n, done)
 }
@@ -156,7 +159,7 @@ fn unregistered(n: Node, delete: bool) -> Node
 {
     let s = n.state;
     let to = unregistered_to(s);
-    let here = change::moved(n, to);
+    let here = change::went_to(n, to);
     let bare = change::equipped(here, false, false);
     let ended = change::ended_transfer(bare);
     wiped(delete, ended)
@@ -194,4 +197,16 @@ fn wipes(delete: bool) -> OnMap
     ensures { λ r. ⌜ r ≡ wipes delete ⌝ }
 {
     if delete { OnMap::Zero } else { OnMap::Keep }
+}
+
+fn drops_staging(s: State) -> OnStaging
+    ensures { λ r. ⌜ r ≡ dropsStaging s ⌝ }
+{
+    match s {
+        State::Empty => OnStaging::Keep,
+        State::Registered => OnStaging::Keep,
+        State::Created => OnStaging::Keep,
+        State::Normal => OnStaging::Keep,
+        State::NoIo => OnStaging::Zero,
+    }
 }

@@ -12,7 +12,7 @@ use Rattle.nodestate.specs.declared.State.{State}
 use Rattle.nodestate.specs.declared.Transfer.{Transfer}
 use Rattle.nodestate.specs.declared.Node.{Node}
 use Rattle.nodestate.specs.States.{isJoined, isServing}
-use Rattle.nodestate.specs.Change.{moved, transferred}
+use Rattle.nodestate.specs.Change.{wentTo, transferred}
 use Rattle.nodestate.specs.StateRules.{keptOk, standing, valid}
 use Rattle.nodestate.specs.Table.{Kind, legal}
 use Rattle.nodestate.proofs.Tables.{gives, given}
@@ -35,7 +35,7 @@ serve-passed n sound e =
     passes n sound (isServing n) (none-applies ts e 0 (omega arith)) (none-applies ts e 1 (omega arith)) (none-applies ts e 2 (omega arith)) (none-applies ts e 8 (omega arith))
 
 pub mapReady-keeps : (n : Node) (sound : Bool) → serveRefusal n sound ≡ 0 → Keeps Kind.mapReady n (readied n)
-unfolding readied transferred moved keptOk
+unfolding readied transferred wentTo keptOk
 mapReady-keeps n sound e =
     let p = serve-passed n sound e in
     let v = p .rules in

@@ -12,7 +12,7 @@ use Rattle.nodestate.specs.declared.Answer.{Answer}
 use Rattle.nodestate.specs.declared.Node.{Node}
 use Rattle.nodestate.specs.declared.Turn.{Turn}
 use Rattle.nodestate.specs.States.{isServing}
-use Rattle.nodestate.specs.Change.{moved, transferred}
+use Rattle.nodestate.specs.Change.{wentTo, transferred}
 use Rattle.nodestate.specs.StateRules.{valid}
 use Rattle.nodestate.specs.Turns.{does, turn, settled}
 
@@ -26,7 +26,7 @@ serveRefusal n sound = refusal (serveTests n sound)
 -- ---- MAP_READY (keep or start empty): gives NO_IO and fills staging, with the map or with zero; a transfer in hand starts over
 
 unfoldable pub readied : Node → Node
-readied n = transferred (moved n State.NoIo) Transfer.Ready
+readied n = transferred (wentTo n State.NoIo) Transfer.Ready
 
 abbrev pub fills : Bool → OnStaging
 fills true = OnStaging.Fill

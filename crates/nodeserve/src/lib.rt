@@ -42,7 +42,7 @@ pub fn map_ready(n: Node, sound: bool, keep: bool) -> Turn
 fn readied(n: Node) -> Node
     ensures { λ r. ⌜ r ≡ readied n ⌝ }
 {
-    let here = change::moved(n, State::NoIo);
+    let here = change::went_to(n, State::NoIo);
     change::transferred(here, Transfer::Ready)
 }
 

@@ -27,8 +27,8 @@ fresh id chunks =
     }
 
 -- another state
-unfoldable pub moved : Node → State → Node
-moved n to =
+unfoldable pub wentTo : Node → State → Node
+wentTo n to =
     record {
       id = n .id;
       chunks = n .chunks;

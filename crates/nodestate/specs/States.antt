@@ -58,7 +58,7 @@ inHand Transfer.Ready = true
 inHand Transfer.Taken = true
 
 -- a transfer is in hand, and its map was taken
-abbrev pub isTaken : Transfer → Bool
-isTaken Transfer.Nothing = false
-isTaken Transfer.Ready = false
-isTaken Transfer.Taken = true
+abbrev pub isMapTaken : Transfer → Bool
+isMapTaken Transfer.Nothing = false
+isMapTaken Transfer.Ready = false
+isMapTaken Transfer.Taken = true

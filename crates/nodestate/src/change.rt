@@ -7,7 +7,7 @@ ghost use lib.ListN.{drop};
 ghost use Rattle.laws.specs.Words.{pick};
 ghost use Rattle.nodestate.specs.Change.{
   fresh,
-  moved,
+  wentTo,
   equipped,
   takenOver,
   memberEntered,
@@ -42,8 +42,8 @@ pub fn fresh(id: u64, chunks: u64) -> Node
 }
 
 // Another state.
-pub fn moved(n: Node, to: State) -> Node
-    ensures { λ r. ⌜ r ≡ moved n to ⌝ }
+pub fn went_to(n: Node, to: State) -> Node
+    ensures { λ r. ⌜ r ≡ wentTo n to ⌝ }
 {
     let t = n.transfer;
     let k = n.kept;

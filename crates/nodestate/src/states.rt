@@ -1,6 +1,6 @@
 // Tests on a node's state.
 ghost use mathlib.Core.Path.{_≡_};
-ghost use Rattle.nodestate.specs.States.{isEmpty, isRegistered, isNormal, isNoIo, isJoined, isServing, inHand, isTaken};
+ghost use Rattle.nodestate.specs.States.{isEmpty, isRegistered, isNormal, isNoIo, isJoined, isServing, inHand, isMapTaken};
 use crate::Node;
 use crate::State;
 use crate::Transfer;
@@ -84,8 +84,8 @@ pub fn in_hand(t: Transfer) -> bool
     }
 }
 
-pub fn is_taken(t: Transfer) -> bool
-    ensures { λ r. ⌜ r ≡ isTaken t ⌝ }
+pub fn is_map_taken(t: Transfer) -> bool
+    ensures { λ r. ⌜ r ≡ isMapTaken t ⌝ }
 {
     match t {
         Transfer::Nothing => false,

@@ -1,15 +1,44 @@
 -- What a refusal means: the first of the tests that applies, or that none does.
 use mathlib.Core.Path.{_≡_, refl, sym, ap, _∙_}
 use mathlib.Core.Logic.{_≢_}
-use mathlib.Core.Bool.{Bool, true, false}
+use mathlib.Core.Bool.{Bool, true, false, _||_}
 use mathlib.Core.List.{List, [], _∷_}
 use Prim.Native.Nat.{ℕ, zero, suc, _<_}
 use native.Mathlib.Omega.{arith}
+use lib.Dec.{eqb}
 use lib.ListN.{length, getD}
+use borrow.Author.Tests.{eqb-true, eq-eqb}
 use Rattle.laws.specs.Words.{pick}
-use Rattle.laws.specs.Tests.{clash, passed}
+use Rattle.laws.specs.Tests.{by-cases, clash, passed}
 use Rattle.refusals.specs.Refusals.{Test, places, applies, firstOf, refusal}
-use Rattle.order.specs.Order.{FirstApplies, NoneApplies}
+use Rattle.order.specs.Order.{Given, SomeApplies, FirstApplies, NoneApplies}
+
+-- ---- what it means that a number applies
+
+or-last : (b c : Bool) → c ≡ true → (b || c) ≡ true
+or-last true c e = refl
+or-last false c e = e
+
+applies-given : (n : ℕ) (ts : List Test) → applies n ts ≡ true → Given n ts
+applies-given n [] e = clash e refl
+applies-given n (t ∷ ts) e = at (eqb n (t .number)) refl e (applies-given n ts)
+  where
+    at : (b : Bool) → eqb n (t .number) ≡ b → pick b (applies n ts || t .holds) (applies n ts) ≡ true → (applies n ts ≡ true → Given n ts) → Given n (t ∷ ts)
+    at true q e rec = by-cases (applies n ts) (λ h. Given.later (rec h)) (λ h. Given.here (sym (eqb-true n (t .number) q)) (rw h at e))
+    at false q e rec = Given.later (rec e)
+
+given-applies : {n : ℕ} {ts : List Test} → Given n ts → applies n ts ≡ true
+given-applies {n} (Given.here {t} {ts} p q) = rw (eq-eqb n (t .number) (sym p)) (or-last (applies n ts) (t .holds) q)
+given-applies {n} (Given.later {t} {ts} g) = at (eqb n (t .number)) (applies n ts) (given-applies g)
+  where
+    at : (b c : Bool) → c ≡ true → pick b (c || t .holds) c ≡ true
+    at true c e = rw e refl
+    at false c e = e
+
+pub some-applies : SomeApplies
+some-applies n ts = (applies-given n ts, given-applies)
+
+-- ---- the first that applies
 
 -- the same for any order of numbers
 record FirstIn (ns : List ℕ) (ts : List Test) (n : ℕ) : Type 0 where

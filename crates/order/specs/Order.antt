@@ -2,10 +2,19 @@
 use mathlib.Core.Path.{_≡_}
 use mathlib.Core.Logic.{_≢_}
 use mathlib.Core.Bool.{true, false}
-use mathlib.Core.List.{List}
+use mathlib.Core.List.{List, _∷_}
 use Prim.Native.Nat.{ℕ, _<_}
 use lib.ListN.{getD}
 use Rattle.refusals.specs.Refusals.{Test, places, applies, refusal}
+
+-- A test with the number n is among them, and holds.
+pub data Given (n : ℕ) : List Test → Type 0 where
+  here : {t : Test} {ts : List Test} → t .number ≡ n → t .holds ≡ true → Given n (t ∷ ts)
+  later : {t : Test} {ts : List Test} → Given n ts → Given n (t ∷ ts)
+
+-- What `applies` says, of any number and any tests, several with one number among them.
+abbrev pub SomeApplies : Type 0
+SomeApplies = (n : ℕ) (ts : List Test) → (applies n ts ≡ true → Given n ts) × (Given n ts → applies n ts ≡ true)
 
 -- The number n is the first of the tests that applies: it stands at one of the fifteen places of document 01's order, it applies, and none at an earlier place does.
 pub record First (ts : List Test) (n : ℕ) : Type 0 where

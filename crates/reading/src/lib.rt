@@ -1,4 +1,6 @@
 // Lines out of standard input, through a buffer of fixed size.
+ghost use mathlib.Core.Path.{_≡_};
+ghost use Rattle.reading.specs.Reading.{started, nextLine, commandIn};
 use forms::Command;
 
 // Where the reading stands: the bytes of buf from pos up to end are not looked at yet; len bytes of the line are taken, 256 where there were more than 255.
@@ -16,7 +18,9 @@ pub enum Got {
     End,
 }
 
-pub fn start() -> Cur {
+pub fn start() -> Cur
+    ensures { λ r. ⌜ r ≡ started ⌝ }
+{
     Cur {
         pos: 0,
         end: 0,
@@ -26,7 +30,9 @@ pub fn start() -> Cur {
 }
 
 // The next line begins.
-pub fn fresh(c: Cur) -> Cur {
+pub fn fresh(c: Cur) -> Cur
+    ensures { λ r. ⌜ r ≡ nextLine c ⌝ }
+{
     Cur {
         pos: c.pos,
         end: c.end,
@@ -95,7 +101,9 @@ fn push(n: usize, b: u8, line: &mut [u8]) -> usize {
     256
 }
 
-pub fn to_command(n: usize, line: &[u8]) -> Command {
+pub fn to_command(n: usize, line: &[u8]) -> Command
+    ensures { λ r. ⌜ r ≡ commandIn n (now (line .entry)) ⌝ }
+{
     if line.len() < n {
         return Command::Unreadable;
     }

@@ -1,5 +1,5 @@
 -- Which of the three cases holds, and how its run begins.
-use mathlib.Core.Bool.{_||_, not}
+use mathlib.Core.Bool.{false, _||_, not}
 use Prim.Native.Nat.{ℕ}
 use lib.Dec.{eqb, ltb}
 use Rattle.laws.specs.Words.{pick}
@@ -23,7 +23,7 @@ case1 normals candidates = pick (eqb candidates 0) Next.Over (start (Phase.Sprea
 -- 2: none NORMAL, and the last authoritative session is a candidate. It is the source; the other candidates receive.
 abbrev pub case2 : ℕ → ℕ → Next
 case2 marked candidates =
-    pick (has candidates (lowest marked)) (start Phase.Enable (lowest marked) (without candidates (lowest marked))) Next.Over
+    pick (has candidates (lowest marked)) (start (Phase.Enable false) (lowest marked) (without candidates (lowest marked))) Next.Over
 
 -- 3: none NORMAL, none marked, membership not empty, every member's session a candidate. All are asked for their version.
 abbrev pub case3 : ℕ → ℕ → Next

@@ -35,8 +35,8 @@ abbrev pub quiet : Pool → Posted
 quiet p = record { pool = p; awaited = Message.Nothing }
 
 -- No job is in hand any more: the one end of every run, finished, failed or cut off, and of every removal.
-abbrev pub over : Pool → Pool
-over p = record { roster = p .roster; job = Job.Idle; number = p .number; chunks = p .chunks }
+abbrev pub jobEnded : Pool → Pool
+jobEnded p = record { roster = p .roster; job = Job.Idle; number = p .number; chunks = p .chunks }
 
 -- a run sends the message that it awaits
 abbrev pub sentBy : Pool → Run → Posted
@@ -44,7 +44,7 @@ sentBy p r = posted p (Job.Running r) (awaitedIn (p .roster .members) (p .roster
 
 -- a run goes on, or is over
 abbrev pub goneOn : Next → Pool → Posted
-goneOn Next.Over p = quiet (over p)
+goneOn Next.Over p = quiet (jobEnded p)
 goneOn (Next.On r) p = sentBy p r
 
 -- a run begins, or nothing changes

@@ -36,7 +36,7 @@ fn enable_first(marked: u64, candidates: u64) -> Next
     let able = sets::has(candidates, source);
     let others = sets::without(candidates, source);
     if able {
-        return start(Phase::Enable, source, others);
+        return start(Phase::Enable(false), source, others);
     }
     Next::Over
 }

@@ -2,7 +2,7 @@
 pub mod cases;
 
 ghost use mathlib.Core.Path.{_≡_};
-ghost use Rattle.recovery.specs.Recovery.{nextNumber, withRoster, posted, quiet, over, sentBy, goneOn, beginning, tried, disabling, disablingBut};
+ghost use Rattle.recovery.specs.Recovery.{nextNumber, withRoster, posted, quiet, jobEnded, sentBy, goneOn, beginning, tried, disabling, disablingBut};
 use run::Next;
 use run::Who;
 use state::Job;
@@ -65,8 +65,8 @@ pub fn rest(p: Pool) -> Posted
 }
 
 // No job is in hand any more.
-pub fn end(p: Pool) -> Pool
-    ensures { λ r. ⌜ r ≡ over p ⌝ }
+pub fn end_job(p: Pool) -> Pool
+    ensures { λ r. ⌜ r ≡ jobEnded p ⌝ }
 {
     let ro = p.roster;
     Pool {
@@ -91,7 +91,7 @@ pub fn go_on(n: Next, p: Pool) -> Posted
 {
     match n {
         Next::Over => {
-            let idle = end(p);
+            let idle = end_job(p);
             rest(idle)
         }
         Next::On(r) => send_by(p, r),

@@ -1,6 +1,7 @@
 -- The numbers that refusals and state rules speak of.
-use Prim.Native.Nat.{ℕ, _+_, _≤_}
+use Prim.Native.Nat.{ℕ, _+_, _-_, _^_, _≤_}
 use native.Mathlib.Omega.{arith}
+use Rattle.refusals.specs.declared.Numbers.{Numbers}
 
 -- member ids are 0 to members - 1
 abbrev pub members : ℕ
@@ -18,13 +19,17 @@ mapBytes = 8192
 abbrev pub answerLimit : ℕ
 answerLimit = 168
 
--- the highest version that is taken over or that a run begins with: 2^63 - 33
+-- the highest version that is taken over or that a run begins with
 abbrev pub versionLimit : ℕ
-versionLimit = 9223372036854775775
+versionLimit = 2 ^ 63 - 33
 
--- the bound of the state rules, and of a node's write: 2^63 - 17
+-- the bound of the state rules, and of a node's write
 abbrev pub versionTop : ℕ
-versionTop = 9223372036854775791
+versionTop = 2 ^ 63 - 17
+
+-- those that belong to the types of client and node
+abbrev pub numbers : Numbers
+numbers = record { members = members; chunks = chunkLimit; bytes = mapBytes; version = versionLimit }
 
 -- a version that was taken over can be raised once for each session
 pub limits-tied : versionLimit + members ≤ versionTop

@@ -1,5 +1,5 @@
 -- Refusals: the first that applies, in one order for every event. 0 stands for none.
-use mathlib.Core.Bool.{Bool, false}
+use mathlib.Core.Bool.{Bool, false, _||_}
 use mathlib.Core.List.{List, [], _∷_}
 use Prim.Native.Nat.{ℕ}
 use lib.Dec.{eqb}
@@ -17,10 +17,10 @@ pub record Test : Type 0 where
 abbrev pub test : ℕ → Bool → Test
 test n b = record { number = n; holds = b }
 
--- whether the number n applies
+-- whether the number n applies: some test with that number holds
 abbrev pub applies : ℕ → List Test → Bool
 applies n [] = false
-applies n (t ∷ ts) = pick (eqb n (t .number)) (t .holds) (applies n ts)
+applies n (t ∷ ts) = pick (eqb n (t .number)) (applies n ts || t .holds) (applies n ts)
 
 abbrev pub firstOf : List ℕ → List Test → ℕ
 firstOf [] ts = 0

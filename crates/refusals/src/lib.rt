@@ -15,6 +15,14 @@ pub const VERSION_LIMIT: u64 = 9223372036854775775;
 
 pub const VERSION_TOP: u64 = 9223372036854775791;
 
+// Those that belong to the types of client and node.
+pub struct Numbers {
+    pub members: u64,
+    pub chunks: u64,
+    pub bytes: u64,
+    pub version: u64,
+}
+
 // One link of the chain: the number where its test holds, else what the rest of the chain says.
 pub fn first(test: bool, number: u64, rest: u64) -> u64
     ensures { λ r. ⌜ r ≡ pick test number rest ⌝ }

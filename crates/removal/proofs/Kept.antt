@@ -1,13 +1,15 @@
 -- A removal keeps the state rules: the event, and the answers to its awaited messages.
-use mathlib.Core.Path.{_≡_, refl, ap}
+use mathlib.Core.Path.{_≡_, refl, sym, ap, _∙_, subst}
 use mathlib.Core.Bool.{Bool, true, false, not, _&&_, _||_}
 use Prim.Native.Nat.{ℕ, _≤_, _<_}
 use native.Mathlib.Omega.{arith}
 use lib.Dec.{eqb, ltb}
-use borrow.Author.Tests.{eqb-true, ltb-false}
+use borrow.Author.Tests.{eqb-true, ltb-true, ltb-false}
 use Rattle.laws.specs.Words.{pick}
-use Rattle.laws.specs.Tests.{clash, passed}
+use Rattle.laws.specs.Tests.{by-cases, clash, passed, and-left, and-both}
 use Rattle.refusals.specs.Limits.{chunkLimit}
+use Rattle.sets.specs.Sets.{has, lowest}
+use Rattle.sets.proofs.Laws.{lowest-in}
 use Rattle.state.specs.declared.Mode.{Mode}
 use Rattle.state.specs.declared.State.{State}
 use Rattle.state.specs.declared.Session.{Session}
@@ -17,18 +19,20 @@ use Rattle.state.specs.declared.Pool.{Pool}
 use Rattle.state.specs.declared.Message.{Message}
 use Rattle.state.specs.declared.Reply.{Reply}
 use Rattle.state.specs.declared.Effect.{Effect}
-use Rattle.state.specs.Session.{isFree, isNormal, isRemoving, isDeleting, isOwed, moved}
+use Rattle.state.specs.declared.Roster.{Roster}
+use Rattle.state.specs.Session.{isFree, isNormal, isRemoving, isDeleting, isOwed, isTold, moved}
+use Rattle.roster.specs.declared.Kind.{Kind}
 use Rattle.roster.specs.Roster.{sessionAt}
 use Rattle.changes.specs.Changes.{went, removing, memberDropped}
-use Rattle.rules.specs.Rules.{validPool}
+use Rattle.rules.specs.Rules.{stageOk, validPool}
 use Rattle.recovery.specs.Recovery.{withRoster, posted}
 use Rattle.exits.specs.Exit.{refused}
-use Rattle.kept.specs.Ids.{stored-same}
-use Rattle.kept.specs.Rosters.{Ok}
-use Rattle.kept.specs.Changes.{went-keeps, removing-keeps, removing-at, freed-keeps, drop-keeps}
-use Rattle.kept.specs.Pools.{Valid}
+use Rattle.keeps.specs.Ids.{Long, stored-same, ids-has}
+use Rattle.keeps.specs.Rosters.{Ok}
+use Rattle.keeps.specs.Changes.{went-keeps, removing-keeps, removing-at, freed-keeps, drop-keeps}
+use Rattle.keeps.specs.Pools.{Valid}
 use Rattle.removal.specs.declared.Gone.{Gone}
-use Rattle.removal.specs.Removal.{stateOf, modeOf, opOf, due, asked, freedFrom, onward, departed, started, paid, wellAnswered, answered}
+use Rattle.removal.specs.Removal.{stateOf, modeOf, opOf, tellable, due, asked, freedFrom, onward, departed, started, paid, wellAnswered, removalAnswered}
 use Rattle.removal.specs.Remove.{removeRefusal, removeBegun, gone, remove}
 
 -- what is known while a removal is under way
@@ -58,9 +62,9 @@ pub keep-pick : (b : Bool) (x y : Gone) → (b ≡ true → Keeps x) → (b ≡ 
 keep-pick true x y f g = f refl
 keep-pick false x y f g = g refl
 
-asks : (p : Pool) (id : ℕ) (st : Stage) (m : Message) (e : Effect) → Removes p id → Keeps (record { posted = asked p id st m; effect = e })
+asks : (p : Pool) (id : ℕ) (st : Stage) (m : Message) (e : Effect) → stageOk st id ≡ true → Removes p id → Keeps (record { posted = asked p id st m; effect = e })
 unfolding posted
-asks p id st m e h = record { some = h .some; most = h .most; ok = h .ok; job = h .removing }
+asks p id st m e s h = record { some = h .some; most = h .most; ok = h .ok; job = and-both (h .removing) s }
 
 frees : (p : Pool) (id : ℕ) (e : Effect) → Removes p id → Keeps (freedFrom p id e)
 unfolding freedFrom
@@ -72,11 +76,41 @@ frees p id e h =
       job = refl;
     }
 
+-- the peer that is due is another session: the removed one is REMOVING, and is told nothing
+told-lives : (st : State) → isTold st ≡ true → isRemoving st ≡ false
+told-lives State.Free e = refl
+told-lives State.Created e = refl
+told-lives State.Normal e = refl
+told-lives State.Failed e = refl
+told-lives State.Reconnecting e = refl
+told-lives (State.Removing m owed) e = clash e refl
+
+told-at : (st : Stage) (ro : Roster) → Long ro → (j : ℕ) → j < 16 → has (tellable st ro) j ≡ true → isTold (sessionAt ro j .state) ≡ true
+told-at Stage.Leave ro l j h e = sym (ids-has Kind.Told ro l j h) ∙ e
+told-at (Stage.Info peer) ro l j h e = and-left (isTold (sessionAt ro j .state)) (ltb peer j) (sym (ids-has (Kind.Later peer) ro l j h) ∙ e)
+
+due-told : (st : Stage) (ro : Roster) → Long ro → ltb (due st ro) 16 ≡ true → isTold (sessionAt ro (due st ro) .state) ≡ true
+unfolding due
+due-told st ro l = at (ro .sync)
+  where
+    at : (b : Bool) → ltb (pick b 16 (lowest (tellable st ro))) 16 ≡ true → isTold (sessionAt ro (pick b 16 (lowest (tellable st ro))) .state) ≡ true
+    at true z = clash z refl
+    at false z = let h = ltb-true (lowest (tellable st ro)) 16 z in told-at st ro l (lowest (tellable st ro)) h (lowest-in (tellable st ro) h)
+
+another : (p : Pool) (id : ℕ) (st : Stage) → Removes p id → ltb (due st (p .roster)) 16 ≡ true → stageOk (Stage.Info (due st (p .roster))) id ≡ true
+another p id st h z = and-both z (by-cases (eqb d id) (λ e. clash (h .removing) (told-lives (stateOf p id) (is e))) (λ e. ap not e))
+  where
+    d : ℕ
+    d = due st (p .roster)
+
+    is : eqb d id ≡ true → isTold (stateOf p id) ≡ true
+    is e = subst (λ (j : ℕ). isTold (sessionAt (p .roster) j .state) ≡ true) (eqb-true d id e) (due-told st (p .roster) (h .ok .long) z)
+
 goes-on : (p : Pool) (id : ℕ) (st : Stage) (e : Effect) → Removes p id → Keeps (onward p id st e)
 unfolding onward
 goes-on p id st e h =
     keep-pick (ltb (due st (p .roster)) 16) _ (freedFrom p id e)
-    (λ z. asks p id (Stage.Info (due st (p .roster))) (Message.Info (due st (p .roster)) (opOf (stateOf p id)) id) e h)
+    (λ z. asks p id (Stage.Info (due st (p .roster))) (Message.Info (due st (p .roster)) (opOf (stateOf p id)) id) e (another p id st h z) h)
     (λ z. frees p id e h)
 
 departs : (p : Pool) (id : ℕ) → Removes p id → Keeps (departed p id)
@@ -89,7 +123,7 @@ departs p id h =
 
 starts : (p : Pool) (id : ℕ) → Removes p id → Keeps (started p id)
 unfolding started
-starts p id h = keep-pick (isOwed (stateOf p id)) _ _ (λ z. asks p id Stage.Leave (Message.Leave id (modeOf (stateOf p id))) Effect.Keep h) (λ z. departs p id h)
+starts p id h = keep-pick (isOwed (stateOf p id)) _ _ (λ z. asks p id Stage.Leave (Message.Leave id (modeOf (stateOf p id))) Effect.Keep refl h) (λ z. departs p id h)
 
 pays : (p : Pool) (id : ℕ) → Removes p id → Removes (paid p id) id
 unfolding went
@@ -107,7 +141,7 @@ wells Stage.Leave p id h = departs (paid p id) id (pays p id h)
 wells (Stage.Info peer) p id h = goes-on p id (Stage.Info peer) Effect.Keep h
 
 -- an answer to the awaited message of a removal
-pub answers-keep : (m : Removal) (p : Pool) (a : Reply) → Removes p (m .id) → Keeps (answered m p a)
+pub answers-keep : (m : Removal) (p : Pool) (a : Reply) → Removes p (m .id) → Keeps (removalAnswered m p a)
 answers-keep m p Reply.Failed h = record { some = h .some; most = h .most; ok = h .ok; job = refl }
 answers-keep m p (Reply.Good b) h = wells (m .stage) p (m .id) h
 

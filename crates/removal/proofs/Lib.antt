@@ -1,3 +1,3 @@
 pub mod Kept
-pub mod Moves
+pub mod Steps
 pub mod Worked

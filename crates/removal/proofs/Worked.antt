@@ -27,7 +27,7 @@ use Rattle.changes.specs.Changes.{left, went, removing}
 use Rattle.recovery.specs.Recovery.{posted}
 use Rattle.rules.specs.Rules.{rosterOk, validPool}
 use Rattle.removal.specs.declared.Gone.{Gone}
-use Rattle.removal.specs.Removal.{due, freedFrom, onward, departed, started, answered}
+use Rattle.removal.specs.Removal.{due, freedFrom, onward, departed, started, removalAnswered}
 use Rattle.removal.specs.Remove.{removeRefusal, remove}
 
 -- sessions 0 to 2: NORMAL, NORMAL, FAILED; or sync and NORMAL alone
@@ -87,14 +87,14 @@ abbrev leaving : Turn
 leaving = remove three true 1 Mode.Delete
 
 abbrev telling : Gone
-telling = answered (record { id = 1; stage = Stage.Leave }) (leaving .pool) fine
+telling = removalAnswered (record { id = 1; stage = Stage.Leave }) (leaving .pool) fine
 
 abbrev over : Gone
-over = answered (record { id = 1; stage = Stage.Info 0 }) (telling .posted .pool) fine
+over = removalAnswered (record { id = 1; stage = Stage.Info 0 }) (telling .posted .pool) fine
 
 -- its POOL_INFO failed: halted, and a repeat tells 0 again, without LEAVE
 abbrev again : Turn
-again = remove (answered (record { id = 1; stage = Stage.Info 0 }) (telling .posted .pool) Reply.Failed .posted .pool) true 1 Mode.Delete
+again = remove (removalAnswered (record { id = 1; stage = Stage.Info 0 }) (telling .posted .pool) Reply.Failed .posted .pool) true 1 Mode.Delete
 
 abbrev done : Message → ℕ → Answer
 done m n = Answer.Done (record { outcome = Outcome.Plain; told = Told.Nothing; awaited = m; number = n })

@@ -4,7 +4,7 @@ pub mod remove;
 ghost use mathlib.Core.Path.{_≡_};
 ghost use Rattle.laws.specs.Words.{pick};
 ghost use Rattle.state.specs.declared.Effect.{Effect};
-ghost use Rattle.removal.specs.Removal.{stateOf, modeOf, opOf, tellable, due, asked, freedFrom, onward, departed, started, paid, halted, wellAnswered, answered};
+ghost use Rattle.removal.specs.Removal.{stateOf, modeOf, opOf, tellable, due, asked, freedFrom, onward, departed, started, paid, halted, wellAnswered, removalAnswered};
 use recovery::Posted;
 use roster::Kind;
 use state::Effect;
@@ -93,7 +93,7 @@ fn free(p: Pool, id: u64, effect: Effect) -> Gone
     let present = roster::ids(Kind::Present, next);
     let zeroed = zero_all((present == 0) & !ro.sync, effect);
     let freed = recovery::with_roster(p, next);
-    let idle = recovery::end(freed);
+    let idle = recovery::end_job(freed);
     let posted = recovery::rest(idle);
     Gone {
         posted: posted,
@@ -164,7 +164,7 @@ fn pay(p: Pool, id: u64) -> Pool
 fn halt(p: Pool) -> Gone
     ensures { λ r. ⌜ r ≡ halted p ⌝ }
 {
-    let idle = recovery::end(p);
+    let idle = recovery::end_job(p);
     let posted = recovery::rest(idle);
     Gone {
         posted: posted,
@@ -186,7 +186,7 @@ fn answered_well(st: Stage, p: Pool, id: u64) -> Gone
 
 // What an answer to the awaited message of a removal does; a failed one halts it.
 pub fn answer(m: Removal, p: Pool, a: Reply) -> Gone
-    ensures { λ r. ⌜ r ≡ answered m p a ⌝ }
+    ensures { λ r. ⌜ r ≡ removalAnswered m p a ⌝ }
 {
     let Reply::Good(b) = a else {
         return halt(p);

@@ -3,8 +3,7 @@
 ghost use mathlib.Core.Path.{_≡_};
 ghost use lib.Dec.{eqb};
 ghost use Rattle.chunks.specs.Chunk.{dirty, count};
-ghost use Rattle.maps.specs.Map.{rowOf};
-ghost use Rattle.rows.specs.Row.{stepAt};
+ghost use Rattle.rows.specs.Row.{stepAt, rowCount, rowBit, rowNext};
 
 pub struct Row<'a> {
     pub bytes: &'a [u8],
@@ -13,6 +12,22 @@ pub struct Row<'a> {
 pub enum Step {
     Byte(u8),
     End,
+}
+
+// The three answers of one member's row of a map, or that there is no such row.
+pub enum Count {
+    NoRow,
+    Of(u64),
+}
+
+pub enum Bit {
+    NoRow,
+    Of(bool),
+}
+
+pub enum Ahead {
+    NoRow,
+    Of(Step),
 }
 
 // ---- the work, on the row's bytes
@@ -85,21 +100,33 @@ fn next_view(bytes: &[u8], at: usize) -> Step
     next(view(bytes), at)
 }
 
-// ---- one member's row of a whole map; a map of another length and an id above 15 have an empty row
-pub fn row_count(map: &[u8], m: u64) -> u64
-    ensures { λ n. ⌜ n ≡ count (rowOf (now (map .entry)) m) 0 ⌝ }
+// ---- one member's row of a whole map; there is none where the map is of another length or the id above 15, which is told apart from a clean row
+pub fn row_count(map: &[u8], m: u64) -> Count
+    ensures { λ r. ⌜ r ≡ rowCount (now (map .entry)) m ⌝ }
 {
-    count_view(maps::row(map, m))
+    let row = maps::row(map, m);
+    if row.len() == 512 {
+        return Count::Of(count_view(row));
+    }
+    Count::NoRow
 }
 
-pub fn row_is_dirty(map: &[u8], m: u64, c: u64) -> bool
-    ensures { λ t. ⌜ t ≡ eqb (dirty (rowOf (now (map .entry)) m) 0 c) 1 ⌝ }
+pub fn row_is_dirty(map: &[u8], m: u64, c: u64) -> Bit
+    ensures { λ r. ⌜ r ≡ rowBit (now (map .entry)) m c ⌝ }
 {
-    dirty_view(maps::row(map, m), c)
+    let row = maps::row(map, m);
+    if row.len() == 512 {
+        return Bit::Of(dirty_view(row, c));
+    }
+    Bit::NoRow
 }
 
-pub fn row_next(map: &[u8], m: u64, at: usize) -> Step
-    ensures { λ s. ⌜ s ≡ stepAt (rowOf (now (map .entry)) m) at ⌝ }
+pub fn row_next(map: &[u8], m: u64, at: usize) -> Ahead
+    ensures { λ r. ⌜ r ≡ rowNext (now (map .entry)) m at ⌝ }
 {
-    next_view(maps::row(map, m), at)
+    let row = maps::row(map, m);
+    if row.len() == 512 {
+        return Ahead::Of(next_view(row, at));
+    }
+    Ahead::NoRow
 }

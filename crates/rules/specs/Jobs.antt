@@ -1,5 +1,5 @@
 -- The job in hand: whether there is one, and who is awaited in a removal.
-use mathlib.Core.Bool.{Bool, true, false, _&&_}
+use mathlib.Core.Bool.{Bool, true, false}
 use Prim.Native.Nat.{ℕ}
 use lib.Dec.{eqb}
 use Rattle.state.specs.declared.Stage.{Stage}
@@ -22,18 +22,8 @@ abbrev pub peerAt : Stage → ℕ → ℕ
 peerAt Stage.Leave id = id
 peerAt (Stage.Info peer) id = peer
 
-abbrev pub isLeave : Stage → Bool
-isLeave Stage.Leave = true
-isLeave (Stage.Info peer) = false
-
 -- id is the awaited peer of the removal in hand
 abbrev pub isPeer : Job → ℕ → Bool
 isPeer Job.Idle id = false
 isPeer (Job.Running r) id = false
 isPeer (Job.Removing m) id = eqb (peerAt (m .stage) (m .id)) id
-
--- id is awaited for its own LEAVE_POOL
-abbrev pub isLeaving : Job → ℕ → Bool
-isLeaving Job.Idle id = false
-isLeaving (Job.Running r) id = false
-isLeaving (Job.Removing m) id = isLeave (m .stage) && eqb (m .id) id

@@ -1,5 +1,5 @@
 -- The client's state rules.
-use mathlib.Core.Bool.{Bool, true, _&&_, _||_, not}
+use mathlib.Core.Bool.{Bool, true, false, _&&_, _||_, not}
 use mathlib.Core.List.{List, [], _∷_}
 use Prim.Native.Nat.{ℕ, _+_}
 use lib.Dec.{eqb, leb, ltb}
@@ -8,6 +8,7 @@ use Rattle.refusals.specs.Limits.{chunkLimit, answerLimit, versionLimit, versio
 use Rattle.sets.specs.Sets.{has, size}
 use Rattle.state.specs.declared.Phase.{Phase}
 use Rattle.state.specs.declared.Run.{Run}
+use Rattle.state.specs.declared.Stage.{Stage}
 use Rattle.state.specs.declared.Job.{Job}
 use Rattle.state.specs.declared.Roster.{Roster}
 use Rattle.state.specs.declared.Pool.{Pool}
@@ -34,14 +35,19 @@ rosterRules ro =
 unfoldable pub rosterOk : Roster → Bool
 rosterOk ro = all (rosterRules ro)
 
--- case 3 before ENABLE_POOL: none NORMAL, every member a candidate, the chosen a member
+-- case 3 until the enabling spread begins: none NORMAL, every member a candidate, the chosen a member
 unfoldable pub allAsked : Roster → ℕ → Bool
 allAsked ro source =
     eqb (idsOf Kind.Normals ro) 0 && (eqb (idsOf (Kind.Strays (ro .members)) ro) 0 && has (ro .members) source)
 
--- ENABLE_POOL awaited: none NORMAL, the source a candidate
+-- case 2 until then: none NORMAL, the source a candidate
 unfoldable pub oneAsked : Roster → ℕ → Bool
 oneAsked ro source = eqb (idsOf Kind.Normals ro) 0 && candidate (sessionAt ro source)
+
+-- ENABLE_POOL awaited: in case 3 as before it, else of the source alone
+abbrev pub asked : Bool → Roster → ℕ → Bool
+asked true ro source = allAsked ro source
+asked false ro source = oneAsked ro source
 
 -- An enabling spread's source is NORMAL; before that the source, in case 3 every member, is a candidate and none NORMAL. No source is among its own
 -- receivers.
@@ -50,7 +56,7 @@ sourceOk (Phase.Versions best) ro source left = allAsked ro source
 sourceOk (Phase.Base s) ro source left = allAsked ro source && not (has left source)
 sourceOk Phase.LastIo ro source left = allAsked ro source
 sourceOk (Phase.Gather s) ro source left = allAsked ro source && not (has left source)
-sourceOk Phase.Enable ro source left = oneAsked ro source && not (has left source)
+sourceOk (Phase.Enable every) ro source left = asked every ro source && not (has left source)
 sourceOk (Phase.Spread s) ro source left = isNormal (sessionAt ro source .state)
 
 -- somebody is in hand; while ENABLE_POOL is awaited, the source is
@@ -59,7 +65,7 @@ handOk (Phase.Versions best) left = not (eqb left 0)
 handOk (Phase.Base s) left = not (eqb left 0)
 handOk Phase.LastIo left = not (eqb left 0)
 handOk (Phase.Gather s) left = not (eqb left 0)
-handOk Phase.Enable left = true
+handOk (Phase.Enable every) left = true
 handOk (Phase.Spread s) left = not (eqb left 0)
 
 -- A run: in no sync pool; version at most the limit; those left are ids, somebody, and candidates; its source; count plus answers still possible at most the limit.
@@ -77,11 +83,16 @@ runRules ro r =
 unfoldable pub runOk : Roster → Run → Bool
 runOk ro r = all (runRules ro r)
 
+-- The awaited peer of a POOL_INFO is another id of 0 to 15.
+abbrev pub stageOk : Stage → ℕ → Bool
+stageOk Stage.Leave id = true
+stageOk (Stage.Info peer) id = ltb peer 16 && not (eqb peer id)
+
 -- In a removal its session is REMOVING.
 abbrev pub jobOk : Job → Roster → Bool
 jobOk Job.Idle ro = true
 jobOk (Job.Running r) ro = runOk ro r
-jobOk (Job.Removing m) ro = isRemoving (sessionAt ro (m .id) .state)
+jobOk (Job.Removing m) ro = isRemoving (sessionAt ro (m .id) .state) && stageOk (m .stage) (m .id)
 
 -- All of them, with 1 to 4,096 chunks.
 abbrev pub rules : Pool → List Bool

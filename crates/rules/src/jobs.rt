@@ -1,6 +1,6 @@
 // The job in hand: whether there is one, and who is awaited in a removal.
 ghost use mathlib.Core.Path.{_≡_};
-ghost use Rattle.rules.specs.Jobs.{isIdle, isRunning, peerAt, isLeave, isPeer, isLeaving};
+ghost use Rattle.rules.specs.Jobs.{isIdle, isRunning, peerAt, isPeer};
 use state::Job;
 use state::Stage;
 
@@ -33,15 +33,6 @@ pub fn peer_at(s: Stage, id: u64) -> u64
     }
 }
 
-fn is_leave(s: Stage) -> bool
-    ensures { λ r. ⌜ r ≡ isLeave s ⌝ }
-{
-    match s {
-        Stage::Leave => true,
-        Stage::Info(peer) => false,
-    }
-}
-
 // Whether the id is the awaited peer of the removal in hand.
 pub fn is_peer(j: Job, id: u64) -> bool
     ensures { λ r. ⌜ r ≡ isPeer j id ⌝ }
@@ -52,20 +43,6 @@ pub fn is_peer(j: Job, id: u64) -> bool
         Job::Removing(m) => {
             let s = m.stage;
             peer_at(s, m.id) == id
-        }
-    }
-}
-
-// Whether the id is awaited for its own LEAVE_POOL.
-pub fn is_leaving(j: Job, id: u64) -> bool
-    ensures { λ r. ⌜ r ≡ isLeaving j id ⌝ }
-{
-    match j {
-        Job::Idle => false,
-        Job::Running(r) => false,
-        Job::Removing(m) => {
-            let s = m.stage;
-            is_leave(s) & (m.id == id)
         }
     }
 }

@@ -4,13 +4,14 @@ pub mod jobs;
 ghost use mathlib.Core.Path.{_≡_};
 ghost use Prim.Native.Nat.{_+_};
 ghost use lib.Dec.{leb};
-ghost use Rattle.rules.specs.Rules.{rosterOk, allAsked, oneAsked, sourceOk, handOk, runOk, jobOk, validPool};
+ghost use Rattle.rules.specs.Rules.{rosterOk, allAsked, oneAsked, asked, sourceOk, handOk, runOk, stageOk, jobOk, validPool};
 use roster::Kind;
 use state::Job;
 use state::Phase;
 use state::Pool;
 use state::Roster;
 use state::Run;
+use state::Stage;
 
 // Whether a + b <= limit, where the sum may not fit.
 fn within(a: u64, b: u64, limit: u64) -> bool
@@ -53,6 +54,16 @@ fn one_asked(ro: Roster, source: u64) -> bool
     (roster::ids(Kind::Normals, ro) == 0) & state::is_candidate(s)
 }
 
+// every: the run is one of case 3.
+fn asked(every: bool, ro: Roster, source: u64) -> bool
+    ensures { λ r. ⌜ r ≡ asked every ro source ⌝ }
+{
+    if every {
+        return all_asked(ro, source);
+    }
+    one_asked(ro, source)
+}
+
 fn source_ok(p: Phase, ro: Roster, source: u64, left: u64) -> bool
     ensures { λ r. ⌜ r ≡ sourceOk p ro source left ⌝ }
 {
@@ -61,7 +72,7 @@ fn source_ok(p: Phase, ro: Roster, source: u64, left: u64) -> bool
         Phase::Base(s) => all_asked(ro, source) & !sets::has(left, source),
         Phase::LastIo => all_asked(ro, source),
         Phase::Gather(s) => all_asked(ro, source) & !sets::has(left, source),
-        Phase::Enable => one_asked(ro, source) & !sets::has(left, source),
+        Phase::Enable(every) => asked(every, ro, source) & !sets::has(left, source),
         Phase::Spread(s) => {
             let spreads = roster::session(ro, source);
             let st = spreads.state;
@@ -78,7 +89,7 @@ fn hand_ok(p: Phase, left: u64) -> bool
         Phase::Base(s) => !(left == 0),
         Phase::LastIo => !(left == 0),
         Phase::Gather(s) => !(left == 0),
-        Phase::Enable => true,
+        Phase::Enable(every) => true,
         Phase::Spread(s) => !(left == 0),
     }
 }
@@ -102,6 +113,15 @@ fn run_ok(ro: Roster, r: Run) -> bool
             & ((left < 65536) & (hand & ((strays == 0) & (sound & most)))))
 }
 
+fn stage_ok(s: Stage, id: u64) -> bool
+    ensures { λ r. ⌜ r ≡ stageOk s id ⌝ }
+{
+    match s {
+        Stage::Leave => true,
+        Stage::Info(peer) => (peer < 16) & !(peer == id),
+    }
+}
+
 fn job_ok(j: Job, ro: Roster) -> bool
     ensures { λ b. ⌜ b ≡ jobOk j ro ⌝ }
 {
@@ -111,7 +131,8 @@ fn job_ok(j: Job, ro: Roster) -> bool
         Job::Removing(m) => {
             let s = roster::session(ro, m.id);
             let st = s.state;
-            state::is_removing(st)
+            let stage = m.stage;
+            state::is_removing(st) & stage_ok(stage, m.id)
         }
     }
 }

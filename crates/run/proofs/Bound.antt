@@ -17,7 +17,7 @@ use Rattle.state.specs.declared.Brought.{Brought}
 use Rattle.state.specs.declared.Reply.{Reply}
 use Rattle.run.specs.declared.Next.{Next}
 use Rattle.run.specs.declared.Move.{Move}
-use Rattle.run.specs.Run.{hand, rest, counted, go, ahead, toSpread, toGather, toLast, toBase, toVersions, wentOn, ended, failedAt, failed, versionBrought, goodAt, good, takes}
+use Rattle.run.specs.Run.{hand, rest, counted, go, ahead, toSpread, toGather, toLast, toBase, toVersions, wentOn, ended, failedAt, failedAnswer, versionBrought, goodAt, good, takes}
 use Rattle.run.specs.Still.{stepsDone, possibleAt, possible}
 
 -- ---- the count
@@ -53,7 +53,7 @@ FitAt (Phase.Versions best) members r = Some r × Chosen members r × Asked memb
 FitAt (Phase.Base s) members r = Some r × Chosen members r
 FitAt Phase.LastIo members r = Some r × Chosen members r
 FitAt (Phase.Gather s) members r = Some r × Chosen members r
-FitAt Phase.Enable members r = r .left < 65536
+FitAt (Phase.Enable every) members r = r .left < 65536
 FitAt (Phase.Spread s) members r = Some r
 
 abbrev pub Fit : ℕ → Run → Type 0
@@ -99,7 +99,7 @@ module _ (members : ℕ) (small : members < 65536) (r : Run) (source : ℕ) (mem
   unfolding possible
   gather-enters left h = at (eqb left 0) refl
     where
-      at : (b : Bool) → eqb left 0 ≡ b → Enters members (counted (r .taken)) (3 * size left + 1 + 3 * (size members - 1)) (pick b (go r Phase.Enable source (without members source)) (go r (Phase.Gather Step.Ready) source left))
+      at : (b : Bool) → eqb left 0 ≡ b → Enters members (counted (r .taken)) (3 * size left + 1 + 3 * (size members - 1)) (pick b (go r (Phase.Enable true) source (without members source)) (go r (Phase.Gather Step.Ready) source left))
       at true e = record { count = rw (eqb-true left 0 e) (omega (arith, size-zero, size-without members source member)); fit = without-lt members source small; carries = refl }
       at false e = record { count = omega arith; fit = ((h, some-left left h e), (small, member)); carries = refl }
 
@@ -161,7 +161,7 @@ wellAt (Phase.Versions best) version b = brings version b
 wellAt (Phase.Base s) version b = true
 wellAt Phase.LastIo version b = true
 wellAt (Phase.Gather s) version b = true
-wellAt Phase.Enable version b = true
+wellAt (Phase.Enable every) version b = true
 wellAt (Phase.Spread s) version b = true
 
 -- the answer is taken as a good one
@@ -198,7 +198,7 @@ fails (Phase.Versions best) members r f = ends _ members r (omega (arith, one-fe
 fails (Phase.Base s) members r f = ends _ members r (omega (arith, one-fewer r (f .0), steps s))
 fails Phase.LastIo members r f = ends _ members r (omega (arith, one-fewer r (f .0)))
 fails (Phase.Gather s) members r f = ends _ members r (omega (arith, one-fewer r (f .0), steps s))
-fails Phase.Enable members r f = ends _ members r (omega arith)
+fails (Phase.Enable every) members r f = ends _ members r (omega arith)
 fails (Phase.Spread s) members r f =
     let g = spread-enters members r (rest r) (rest-lt r f) in
     record { fewer = omega (arith, one-fewer r f, g .count, steps s); exact = λ e. clash e refl; fit = g .fit; raised = refl; carries = g .carries }
@@ -208,8 +208,8 @@ ahead-enters : (p : Phase) (members : ℕ) (r : Run) → FitAt p members (record
 unfolding possible
 ahead-enters p members r f = record { count = refl; fit = f; carries = refl }
 
-failed-ends : (r : Run) (best : ℕ) → r .phase ≡ Phase.Versions best → failed r ≡ ended r
-unfolding failed
+failed-ends : (r : Run) (best : ℕ) → r .phase ≡ Phase.Versions best → failedAnswer r ≡ ended r
+unfolding failedAnswer
 failed-ends r best p = ap (λ (q : Phase). failedAt q r) p
 
 brought-well : (best members version : ℕ) (r : Run) (b : Brought) → FitAt (Phase.Versions best) members r → r .phase ≡ Phase.Versions best
@@ -223,7 +223,7 @@ brought-well best members version r (Brought.Version v) f p = at (ltb version v)
     g : Enters members (counted (r .taken)) (size (rest r) + 3 * (size members - 1) + size members + 3 * (size members - 1) + 1 + 3 * (size members - 1)) (toVersions members r (pick (ltb best v) v best) (pick (ltb best v) (hand r) (r .source)) (rest r))
     g = versions-enters members (f .1 .0) r (pick (ltb best v) (hand r) (r .source)) (either (λ k. has members k ≡ true) (ltb best v) (hand r) (r .source) (f .2 (hand r) in-left) (f .1 .1)) (pick (ltb best v) v best) (rest r) (rest-lt r (f .0)) (λ j h. f .2 j (still (r .left) (hand r) j h .0))
 
-    at : (b : Bool) → Lowers (not b) (now (Phase.Versions best) members r) members r (pick b (failed r) (wentOn r (toVersions members r (pick (ltb best v) v best) (pick (ltb best v) (hand r) (r .source)) (rest r))))
+    at : (b : Bool) → Lowers (not b) (now (Phase.Versions best) members r) members r (pick b (failedAnswer r) (wentOn r (toVersions members r (pick (ltb best v) v best) (pick (ltb best v) (hand r) (r .source)) (rest r))))
     at true = rw (failed-ends r best p) (fails (Phase.Versions best) members r f)
     at false = by-one _ members r _ _ g (omega (arith, one-fewer r (f .0))) refl
 
@@ -236,13 +236,13 @@ goes Phase.LastIo members version r b f p = by-one _ members r _ _ (last-enters 
 goes (Phase.Gather Step.Ready) members version r b f p = by-one _ members r _ _ (ahead-enters (Phase.Gather Step.Send) members r f) (omega (arith, one-fewer r (f .0))) refl
 goes (Phase.Gather Step.Send) members version r b f p = by-one _ members r _ _ (ahead-enters (Phase.Gather Step.Done) members r f) (omega (arith, one-fewer r (f .0))) refl
 goes (Phase.Gather Step.Done) members version r b f p = by-one _ members r _ _ (gather-enters members (f .1 .0) r (r .source) (f .1 .1) (rest r) (rest-lt r (f .0))) (omega (arith, one-fewer r (f .0))) refl
-goes Phase.Enable members version r b f p = by-one _ members r _ _ (spread-enters members r (r .left) f) (omega arith) refl
+goes (Phase.Enable every) members version r b f p = by-one _ members r _ _ (spread-enters members r (r .left) f) (omega arith) refl
 goes (Phase.Spread Step.Ready) members version r b f p = by-one _ members r _ _ (ahead-enters (Phase.Spread Step.Send) members r f) (omega (arith, one-fewer r f)) refl
 goes (Phase.Spread Step.Send) members version r b f p = by-one _ members r _ _ (ahead-enters (Phase.Spread Step.Done) members r f) (omega (arith, one-fewer r f)) refl
 goes (Phase.Spread Step.Done) members version r b f p = by-one _ members r _ _ (spread-enters members r (rest r) (rest-lt r f)) (omega (arith, one-fewer r f)) refl
 
 -- Every answer lowers what is still possible, a good one by exactly one; the count is raised each time.
 pub lowers : (members version : ℕ) (r : Run) (a : Reply) → Fit members r → Lowers (taken-well version r a) (possible members r) members r (takes members version r a)
-unfolding failed good possible
+unfolding failedAnswer good possible
 lowers members version r Reply.Failed f = fails (r .phase) members r f
 lowers members version r (Reply.Good b) f = goes (r .phase) members version r b f refl

@@ -11,7 +11,7 @@ use Rattle.state.specs.declared.Brought.{Brought}
 use Rattle.state.specs.declared.Reply.{Reply}
 use Rattle.state.specs.declared.Message.{Message}
 use Rattle.run.specs.declared.Next.{Next}
-use Rattle.run.specs.Run.{receiver, failed, good, takes, awaitedIn}
+use Rattle.run.specs.Run.{receiver, failedAnswer, good, takes, awaitedIn}
 use Rattle.run.specs.Still.{possible}
 
 -- the message that is awaited, what an answer does, and the count with it
@@ -48,7 +48,7 @@ fines (suc n) = fine ∷ fines n
 
 -- case 2: 1 is marked, 0 receives
 abbrev two : Next
-two = Next.On (record { phase = Phase.Enable; source = 1; left = 1; taken = 0 })
+two = Next.On (record { phase = Phase.Enable false; source = 1; left = 1; taken = 0 })
 
 -- case 3: 0 and 1
 abbrev three : Next
@@ -58,7 +58,7 @@ three = Next.On (record { phase = Phase.Versions 0; source = 0; left = 3; taken 
 case-2 :
     (messages 3 3 two (fines 4) ≡ Message.Enable 1 3 3 ∷ Message.Ready 0 false ∷ Message.Send 1 0 ∷ Message.Done 0 true 3 3 ∷ Message.Nothing ∷ [])
     × (counts 3 3 0 two (fines 4) ≡ 4)
-unfolding good failed receiver awaitedIn lowest without has bit
+unfolding good failedAnswer receiver awaitedIn lowest without has bit
 case-2 = (refl, refl)
 
 -- GET 0, GET 1, READY 0, SEND 1, DONE 0, LAST_IO 0, LAST_IO 1, READY 1 (keep), SEND 0, DONE 1, ENABLE 1, READY 0, SEND 1, DONE 0 (enable); 14 answers
@@ -70,25 +70,25 @@ case-3 :
     ∷ Message.Enable 1 3 3
     ∷ Message.Ready 0 false ∷ Message.Send 1 0 ∷ Message.Done 0 true 3 3 ∷ Message.Nothing ∷ [])
     × (counts 3 3 0 three (told 2 ∷ told 3 ∷ fines 12) ≡ 14)
-unfolding good failed receiver awaitedIn lowest without has bit
+unfolding good failedAnswer receiver awaitedIn lowest without has bit
 case-3 = (refl, refl)
 
 -- a tie goes to the lowest id; one member alone takes 3 answers
 case-3-tie : messages 3 3 three (told 3 ∷ told 3 ∷ []) ≡ Message.GetVersion 0 ∷ Message.GetVersion 1 ∷ Message.Ready 1 false ∷ []
-unfolding good failed receiver awaitedIn lowest without has bit
+unfolding good failedAnswer receiver awaitedIn lowest without has bit
 case-3-tie = refl
 
 alone : counts 4 9 0 (Next.On (record { phase = Phase.Versions 0; source = 2; left = 4; taken = 0 })) (told 9 ∷ fines 2) ≡ 3
-unfolding good failed receiver awaitedIn lowest without has bit
+unfolding good failedAnswer receiver awaitedIn lowest without has bit
 alone = refl
 
 -- a failed answer to MAP_DONE without enable ends the run, and so does a version above the pool's: the count is raised
 fails-base : counts 3 3 0 three (told 2 ∷ told 3 ∷ fine ∷ fine ∷ Reply.Failed ∷ fines 9) ≡ 5
-unfolding good failed receiver awaitedIn lowest without has bit
+unfolding good failedAnswer receiver awaitedIn lowest without has bit
 fails-base = refl
 
 fails-version : counts 3 3 0 three (told 2 ∷ told 4 ∷ fines 12) ≡ 2
-unfolding good failed receiver awaitedIn lowest without has bit
+unfolding good failedAnswer receiver awaitedIn lowest without has bit
 fails-version = refl
 
 -- sixteen members: as many answers as the limit

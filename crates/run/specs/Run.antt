@@ -41,7 +41,7 @@ toSpread r left = pick (eqb left 0) Next.Over (go r (Phase.Spread Step.Ready) (r
 -- The gather, from each other member to the chosen; then ENABLE_POOL to the chosen.
 abbrev pub toGather : ℕ → Run → ℕ → ℕ → Next
 toGather members r source left =
-    pick (eqb left 0) (go r Phase.Enable source (without members source)) (go r (Phase.Gather Step.Ready) source left)
+    pick (eqb left 0) (go r (Phase.Enable true) source (without members source)) (go r (Phase.Gather Step.Ready) source left)
 
 -- LAST_IO_TO_MAP to all; then the gather.
 abbrev pub toLast : ℕ → Run → ℕ → ℕ → Next
@@ -63,7 +63,7 @@ receiverAt (Phase.Versions best) r = Who.Nobody
 receiverAt (Phase.Base s) r = Who.One (hand r)
 receiverAt Phase.LastIo r = Who.Nobody
 receiverAt (Phase.Gather s) r = Who.One (r .source)
-receiverAt Phase.Enable r = Who.Nobody
+receiverAt (Phase.Enable every) r = Who.Nobody
 receiverAt (Phase.Spread s) r = Who.One (hand r)
 
 unfoldable pub receiver : Run → Who
@@ -89,17 +89,17 @@ failedAt (Phase.Versions best) r = ended r
 failedAt (Phase.Base s) r = ended r
 failedAt Phase.LastIo r = ended r
 failedAt (Phase.Gather s) r = ended r
-failedAt Phase.Enable r = ended r
+failedAt (Phase.Enable every) r = ended r
 failedAt (Phase.Spread s) r = passedOver r
 
-unfoldable pub failed : Run → Move
-failed r = failedAt (r .phase) r
+unfoldable pub failedAnswer : Run → Move
+failedAnswer r = failedAt (r .phase) r
 
 -- A good answer to MAP_GET_VER: without a version, or with one above the pool's, it is a failed one. The highest is chosen, ties to the lowest id.
 abbrev pub versionBrought : ℕ → ℕ → ℕ → Run → Brought → Move
-versionBrought members version best r Brought.Nothing = failed r
+versionBrought members version best r Brought.Nothing = failedAnswer r
 versionBrought members version best r (Brought.Version v) =
-    pick (ltb version v) (failed r)
+    pick (ltb version v) (failedAnswer r)
     (wentOn r (toVersions members r (pick (ltb best v) v best) (pick (ltb best v) (hand r) (r .source)) (rest r)))
 
 -- A good answer in each of the three spreads: MAP_READY, MAP_SEND, MAP_DONE, then the next receiver.
@@ -124,7 +124,7 @@ goodAt (Phase.Versions best) members version r b = versionBrought members versio
 goodAt (Phase.Base s) members version r b = wentOn r (baseNext members s r)
 goodAt Phase.LastIo members version r b = wentOn r (toLast members r (r .source) (rest r))
 goodAt (Phase.Gather s) members version r b = wentOn r (gatherNext members s r)
-goodAt Phase.Enable members version r b = becameNormal r (toSpread r (r .left)) (r .source)
+goodAt (Phase.Enable every) members version r b = becameNormal r (toSpread r (r .left)) (r .source)
 goodAt (Phase.Spread s) members version r b = spreadGood s r
 
 unfoldable pub good : ℕ → ℕ → Run → Brought → Move
@@ -132,7 +132,7 @@ good members version r b = goodAt (r .phase) members version r b
 
 -- What an awaited answer does to a run, in a pool with these members and this version.
 abbrev pub takes : ℕ → ℕ → Run → Reply → Move
-takes members version r Reply.Failed = failed r
+takes members version r Reply.Failed = failedAnswer r
 takes members version r (Reply.Good b) = good members version r b
 
 abbrev pub stepMessage : Step → ℕ → ℕ → Bool → Bool → ℕ → ℕ → Message
@@ -146,7 +146,7 @@ awaitedAt (Phase.Versions best) members version r = Message.GetVersion (hand r)
 awaitedAt (Phase.Base s) members version r = stepMessage s (r .source) (hand r) false false version members
 awaitedAt Phase.LastIo members version r = Message.LastIo (hand r) (r .source)
 awaitedAt (Phase.Gather s) members version r = stepMessage s (hand r) (r .source) true false version members
-awaitedAt Phase.Enable members version r = Message.Enable (r .source) version members
+awaitedAt (Phase.Enable every) members version r = Message.Enable (r .source) version members
 awaitedAt (Phase.Spread s) members version r = stepMessage s (r .source) (hand r) false true version members
 
 unfoldable pub awaitedIn : ℕ → ℕ → Run → Message

@@ -17,7 +17,7 @@ possibleAt (Phase.Versions best) l k o = l + 3 * o + k + 3 * o + 1 + 3 * o
 possibleAt (Phase.Base s) l k o = 3 * l - stepsDone s + k + 3 * o + 1 + 3 * o
 possibleAt Phase.LastIo l k o = l + 3 * o + 1 + 3 * o
 possibleAt (Phase.Gather s) l k o = 3 * l - stepsDone s + 1 + 3 * o
-possibleAt Phase.Enable l k o = 1 + 3 * l
+possibleAt (Phase.Enable every) l k o = 1 + 3 * l
 possibleAt (Phase.Spread s) l k o = 3 * l - stepsDone s
 
 unfoldable pub possible : ℕ → Run → ℕ

@@ -2,7 +2,7 @@
 pub mod still;
 
 ghost use mathlib.Core.Path.{_≡_};
-ghost use Rattle.run.specs.Run.{counted, go, ahead, receiver, toSpread, toGather, toLast, toBase, toVersions, wentOn, becameNormal, ended, passedOver, failed, versionBrought, baseNext, gatherNext, spreadGood, good, takes, stepMessage, awaitedIn};
+ghost use Rattle.run.specs.Run.{counted, go, ahead, receiver, toSpread, toGather, toLast, toBase, toVersions, wentOn, becameNormal, ended, passedOver, failedAnswer, versionBrought, baseNext, gatherNext, spreadGood, good, takes, stepMessage, awaitedIn};
 use state::Brought;
 use state::Message;
 use state::Phase;
@@ -70,7 +70,7 @@ pub fn receiver(r: Run) -> Who
         Phase::Base(s) => Who::One(x),
         Phase::LastIo => Who::Nobody,
         Phase::Gather(s) => Who::One(r.source),
-        Phase::Enable => Who::Nobody,
+        Phase::Enable(every) => Who::Nobody,
         Phase::Spread(s) => Who::One(x),
     }
 }
@@ -89,7 +89,7 @@ fn to_gather(members: u64, r: Run, source: u64, left: u64) -> Next
 {
     if left == 0 {
         let others = sets::without(members, source);
-        return go(r, Phase::Enable, source, others);
+        return go(r, Phase::Enable(true), source, others);
     }
     go(r, Phase::Gather(Step::Ready), source, left)
 }
@@ -177,8 +177,8 @@ fn passed_over(r: Run) -> Move
 }
 
 // A failed answer ends the run, save in an enabling spread, which passes over its receiver.
-fn failed(r: Run) -> Move
-    ensures { λ m. ⌜ m ≡ failed r ⌝ }
+fn failed_answer(r: Run) -> Move
+    ensures { λ m. ⌜ m ≡ failedAnswer r ⌝ }
 {
     let p = r.phase;
     match p {
@@ -186,7 +186,7 @@ fn failed(r: Run) -> Move
         Phase::Base(s) => ended(r),
         Phase::LastIo => ended(r),
         Phase::Gather(s) => ended(r),
-        Phase::Enable => ended(r),
+        Phase::Enable(every) => ended(r),
         Phase::Spread(s) => passed_over(r),
     }
 }
@@ -196,10 +196,10 @@ fn version_brought(members: u64, version: u64, best: u64, r: Run, b: Brought) ->
     ensures { λ m. ⌜ m ≡ versionBrought members version best r b ⌝ }
 {
     let Brought::Version(v) = b else {
-        return failed(r);
+        return failed_answer(r);
     };
     if version < v {
-        return failed(r);
+        return failed_answer(r);
     }
     let x = sets::lowest(r.left);
     let others = sets::without(r.left, x);
@@ -274,7 +274,7 @@ fn good(members: u64, version: u64, r: Run, b: Brought) -> Move
             let n = gather_next(members, s, r);
             went_on(r, n)
         }
-        Phase::Enable => {
+        Phase::Enable(every) => {
             let n = to_spread(r, r.left);
             became_normal(r, n, r.source)
         }
@@ -287,7 +287,7 @@ pub fn take(members: u64, version: u64, r: Run, a: Reply) -> Move
     ensures { λ m. ⌜ m ≡ takes members version r a ⌝ }
 {
     let Reply::Good(b) = a else {
-        return failed(r);
+        return failed_answer(r);
     };
     good(members, version, r, b)
 }
@@ -321,7 +321,7 @@ pub fn awaited(members: u64, version: u64, r: Run) -> Message
         Phase::Base(s) => step_message(s, r.source, x, false, false, version, members),
         Phase::LastIo => Message::LastIo(x, r.source),
         Phase::Gather(s) => step_message(s, x, r.source, true, false, version, members),
-        Phase::Enable => Message::Enable(r.source, version, members),
+        Phase::Enable(every) => Message::Enable(r.source, version, members),
         Phase::Spread(s) => step_message(s, r.source, x, false, true, version, members),
     }
 }

@@ -37,7 +37,7 @@ pub fn possible(members: u64, r: Run) -> u64
             let m = minus(3 * l, d);
             m + 1 + 3 * o
         }
-        Phase::Enable => 1 + 3 * l,
+        Phase::Enable(every) => 1 + 3 * l,
         Phase::Spread(s) => {
             let d = steps_done(s);
             minus(3 * l, d)

@@ -91,7 +91,7 @@ phase-length (Phase.Versions top) = omega arith
 phase-length (Phase.Base step) = omega arith
 phase-length Phase.LastIo = omega arith
 phase-length (Phase.Gather step) = omega arith
-phase-length Phase.Enable = omega arith
+phase-length (Phase.Enable every) = omega arith
 phase-length (Phase.Spread step) = omega arith
 
 job-length : (j : Job) → length (jobText j) ≤ 40

@@ -33,7 +33,7 @@ phaseText (Phase.Versions top) = bytes " job=run:versions"
 phaseText (Phase.Base step) = bytes " job=run:base"
 phaseText Phase.LastIo = bytes " job=run:last_io"
 phaseText (Phase.Gather step) = bytes " job=run:gather"
-phaseText Phase.Enable = bytes " job=run:enable"
+phaseText (Phase.Enable every) = bytes " job=run:enable"
 phaseText (Phase.Spread step) = bytes " job=run:spread"
 
 abbrev pub jobText : Job → List ℕ

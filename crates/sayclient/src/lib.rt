@@ -48,7 +48,7 @@ fn put_phase(out: &mut [u8], at: usize, p: Phase) -> usize
         Phase::Base(step) => text::put_bytes(out, at, b" job=run:base"),
         Phase::LastIo => text::put_bytes(out, at, b" job=run:last_io"),
         Phase::Gather(step) => text::put_bytes(out, at, b" job=run:gather"),
-        Phase::Enable => text::put_bytes(out, at, b" job=run:enable"),
+        Phase::Enable(every) => text::put_bytes(out, at, b" job=run:enable"),
         Phase::Spread(step) => text::put_bytes(out, at, b" job=run:spread"),
     }
 }

@@ -12,8 +12,9 @@ use Rattle.laws.specs.Words.{one}
 use Rattle.laws.specs.Tests.{by-cases}
 use Rattle.text.specs.Ink.{decFrom, decimal, joined}
 use Rattle.text.proofs.Meaning.{joined-length}
-use Rattle.chunks.specs.Chunk.{count}
-use Rattle.sayrow.specs.Row.{rangeText, begunText, ranges, isDirty, rowText}
+use Rattle.rows.specs.declared.Count.{Count}
+use Rattle.rows.specs.Row.{rowCount}
+use Rattle.sayrow.specs.Row.{rangeText, begunText, ranges, isDirty, countText, rowText}
 
 dec-length : (k f n : ℕ) (rest : List ℕ) → n < 10 ^ suc k → k < f → length (decFrom f n rest) ≤ suc k + length rest
 unfolding decFrom
@@ -63,9 +64,13 @@ ranges-length d false a (suc n) c h g =
     (λ e. rw (e, joined-two (begunText false a c) (ranges d false a n (suc c))) (omega (arith, ranges-length d false a n (suc c) h (omega arith))))
 
 -- A row's line is at most 20,490 bytes.
-pub row-length : (xs : List ℕ) (m : ℕ) → length (rowText xs m) ≤ 20490
-unfolding rowText
-row-length xs m =
-    by-cases (eqb (count xs m) 0)
+count-length : (r : Count) (xs : List ℕ) (m : ℕ) → length (countText r xs m) ≤ 20490
+count-length Count.NoRow xs m = omega arith
+count-length (Count.Of n) xs m =
+    by-cases (eqb n 0)
     (λ e. rw e (omega arith))
     (λ e. rw (e, joined-two _ _) (omega (arith, ranges-length (isDirty xs m) false 0 4096 0 (omega arith) (omega arith))))
+
+pub row-length : (xs : List ℕ) (m : ℕ) → length (rowText xs m) ≤ 20490
+unfolding rowText
+row-length xs m = count-length (rowCount xs m) xs m

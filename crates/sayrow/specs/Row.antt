@@ -6,7 +6,9 @@ use lib.Dec.{eqb}
 use Rattle.laws.specs.Words.{pick}
 use Rattle.text.specs.Bytes.{bytes}
 use Rattle.text.specs.Ink.{decimal, joined}
-use Rattle.chunks.specs.Chunk.{dirty, count}
+use Rattle.chunks.specs.Chunk.{dirty}
+use Rattle.rows.specs.declared.Count.{Count}
+use Rattle.rows.specs.Row.{rowCount}
 
 -- A space, and the chunks from a to b: a where it is alone, else a-b (45 is the dash).
 unfoldable pub rangeText : ℕ → ℕ → List ℕ
@@ -24,6 +26,10 @@ ranges d begun a (suc n) c = pick (d c) (ranges d true (pick begun a c) n (suc c
 abbrev pub isDirty : List ℕ → ℕ → ℕ → Bool
 isDirty xs m c = eqb (dirty xs m c) 1
 
--- clean, or dirty and the ranges of member m's dirty chunks, ascending.
+-- clean, or dirty and the ranges of member m's dirty chunks, ascending; told apart from a map in which m has no row
+abbrev pub countText : Count → List ℕ → ℕ → List ℕ
+countText Count.NoRow xs m = bytes "no row"
+countText (Count.Of n) xs m = pick (eqb n 0) (bytes "clean") (joined (bytes "dirty" ∷ ranges (isDirty xs m) false 0 4096 0 ∷ []))
+
 unfoldable pub rowText : List ℕ → ℕ → List ℕ
-rowText xs m = pick (eqb (count xs m) 0) (bytes "clean") (joined (bytes "dirty" ∷ ranges (isDirty xs m) false 0 4096 0 ∷ []))
+rowText xs m = countText (rowCount xs m) xs m

@@ -4,6 +4,7 @@ ghost use mathlib.Core.Bool.{false};
 ghost use mathlib.Core.List.{_∷_};
 ghost use Rattle.text.specs.Ink.{ink, emits, decimal as Ink·decimal};
 ghost use Rattle.sayrow.specs.Row.{rangeText, begunText, ranges, isDirty, rowText};
+use rows::Count;
 
 // A byte and a number.
 fn put_sign(out: &mut [u8], at: usize, sign: u8, n: u64) -> usize
@@ -59,7 +60,9 @@ fn put_ranges(out: &mut [u8], at: usize, map: &[u8], m: u64) -> usize
 pub fn put_row(out: &mut [u8], at: usize, map: &[u8], m: u64) -> usize
     ensures { λ r. ⌜ ink (now (out .exit)) r ≡ emits (ink (now (out .entry)) at) (rowText (now (map .entry)) m) ⌝ }
 {
-    let n = chunks::count_row(map, m);
+    let Count::Of(n) = rows::row_count(map, m) else {
+        return text::put_bytes(out, at, b"no row");
+    };
     if n == 0 {
         return text::put_bytes(out, at, b"clean");
     }

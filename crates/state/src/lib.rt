@@ -41,13 +41,14 @@ pub enum Step {
     Done,
 }
 
-// The phase of a recovery run. Versions carries the highest version so far. Base is the spread without enable, Spread the one with it.
+// The phase of a recovery run. Versions carries the highest version so far. Base is the spread without enable, Spread the one with it. Enable carries whether
+// the run is one of case 3: there every member is to stay a candidate until the enabling spread begins.
 pub enum Phase {
     Versions(u64),
     Base(Step),
     LastIo,
     Gather(Step),
-    Enable,
+    Enable(bool),
     Spread(Step),
 }
 

@@ -1,36 +1,44 @@
--- Write ended and synced, accepted or refused: the state rules are kept; a session's state changes only by the table, and the version never falls; a session
--- that was reached, or was not NORMAL, keeps its record, and a NORMAL one that was not reached is FAILED.
+-- Write ended and synced, accepted or refused, keep the state rules; and what a write leaves of the sessions: one that was reached, or was not NORMAL, keeps its
+-- record; a NORMAL one that was not reached is FAILED and raises the version, and the last one is marked.
 use mathlib.Core.Path.{_≡_, refl, sym, ap, _∙_, subst}
-use mathlib.Core.Bool.{Bool, true, false, not, _&&_}
-use Prim.Native.Nat.{ℕ, zero, suc, _+_, _≤_, _<_}
-use native.Mathlib.Nat.{zero-add}
+use mathlib.Core.Bool.{Bool, true, false, not, _&&_, _||_}
+use mathlib.Core.Logic.{_≢_}
+use Prim.Native.Nat.{ℕ, zero, suc, _+_, _-_, _≤_, _<_}
+use native.Mathlib.Nat.{zero-add, add-zero}
 use native.Mathlib.Decide.{ℕ-discrete}
 use native.Mathlib.Omega.{arith}
 use lib.Dec.{eqb, ltb}
+use borrow.Author.Tests.{eqb-true, ne-eqb, lt-ltb, le-ltb}
+use Rattle.laws.specs.Words.{pick, one}
 use Rattle.laws.specs.Loops.{runAt}
-use Rattle.laws.specs.Tests.{by-cases, clash, passed, and-left}
-use Rattle.sets.specs.Sets.{has}
+use Rattle.laws.specs.Tests.{by-cases, clash, passed, and-left, and-false}
+use Rattle.sets.specs.Sets.{has, countTo}
+use Rattle.sets.proofs.Laws.{has-below, countTo-none}
 use Rattle.state.specs.declared.State.{State}
 use Rattle.state.specs.declared.Session.{Session}
 use Rattle.state.specs.declared.Roster.{Roster}
 use Rattle.state.specs.declared.Job.{Job}
 use Rattle.state.specs.declared.Pool.{Pool}
-use Rattle.state.specs.Session.{isNormal, isRemoving}
-use Rattle.state.specs.Table.{legal}
+use Rattle.state.specs.Session.{isNormal, isRemoving, moved, marked}
+use Rattle.roster.specs.declared.Kind.{Kind}
 use Rattle.changes.specs.declared.Cause.{Cause}
-use Rattle.roster.specs.Roster.{sessionAt}
-use Rattle.changes.specs.Changes.{failed}
+use Rattle.roster.specs.Roster.{sessionAt, idsOf}
+use Rattle.changes.specs.Changes.{more, failed}
 use Rattle.recovery.specs.Recovery.{withRoster}
 use Rattle.exits.specs.Exit.{haltedIf}
 use Rattle.exits.proofs.Laws.{picked, turned, halts}
 use Rattle.rules.specs.Rules.{validPool, jobOk}
 use Rattle.rules.specs.Jobs.{isRunning}
-use Rattle.kept.specs.Ids.{Long}
-use Rattle.kept.specs.Rosters.{Ok}
-use Rattle.kept.specs.Pools.{Valid}
-use Rattle.kept.specs.Links.{normal-live, failed-keeps}
-use Rattle.kept.specs.Legal.{Moves, goes, stays, moves-none, failed-here, failed-other, failed-version, failed-long, normal-below}
-use Rattle.writes.specs.Writes.{writeRefusal, missStep, missed, loses, marks, writeDone, writeEnded, syncRefusal, syncDone, synced}
+use Rattle.keeps.specs.Ids.{Long, ids-none}
+use Rattle.keeps.specs.Rosters.{Ok}
+use Rattle.keeps.specs.Pools.{Valid, removal-stays}
+use Rattle.keeps.specs.Links.{normal-live, counted, failed-keeps}
+use Rattle.keeps.specs.Records.{Numbers, isLast, failed-at, failed-other, normal-failed, raised}
+use Rattle.writes.specs.Writes.{reachBars, writeRefusal, missStep, missed, loses, marks, writeDone, writeEnded, syncRefusal, syncDone, synced}
+
+and-true : (b : Bool) → (b && true) ≡ b
+and-true true = refl
+and-true false = refl
 
 -- ---- the sessions not reached, one after the other
 
@@ -49,84 +57,116 @@ step-does : (P : Roster → Type 0) (reached i : ℕ) (ro : Roster) → (misses 
 unfolding missStep
 step-does P reached i ro f g = by-cases (misses reached i ro) (λ e. rw e (f e)) (λ e. rw e (g e))
 
-missed-keeps : (ro : Roster) (reached : ℕ) → Ok ro → Ok (missed ro reached)
+-- a NORMAL session above j
+abbrev pub above : Roster → ℕ → ℕ → Bool
+above ro j k = isNormal (sessionAt ro k .state) && ltb j k
+
+-- The sessions when those below i have been looked at: a NORMAL one not reached is FAILED and has raised the version, the last one that was NORMAL is marked, and
+-- every other record is as it was.
+pub record Missed (reached : ℕ) (ro : Roster) (i : ℕ) (q : Roster) : Type 0 where
+  pub ok : Ok q
+  pub plain : q .sync ≡ false
+  pub version : q .version ≡ ro .version + countTo (λ j. misses reached j ro) i
+  pub members : q .members ≡ ro .members
+  pub spares : (j : ℕ) → misses reached j ro ≡ false → sessionAt q j ≡ sessionAt ro j
+  pub ahead : (j : ℕ) → i ≤ j → sessionAt q j ≡ sessionAt ro j
+  pub fails : (j : ℕ) → j < i → misses reached j ro ≡ true → sessionAt q j ≡ marked (moved (sessionAt ro j) State.Failed) (eqb (q .count) 0 && eqb (countTo (above ro j) i) 0)
+
+none-above : (ro : Roster) (j i : ℕ) → i ≤ j + 1 → countTo (above ro j) i ≡ 0
+none-above ro j i h = countTo-none (above ro j) i (λ k hk. rw (le-ltb j k (omega arith)) (and-false (isNormal (sessionAt ro k .state))))
+
+-- a count that one more raises is not 0
+not-none : (n : ℕ) (b : Bool) → b ≡ true → eqb (n + one b) 0 ≡ false
+not-none n b e = rw e (ne-eqb (n + 1) 0 (λ z. absurd (let y : ⊥ = omega arith in y)))
+
+some-counted : (q : Roster) → Ok q → q .sync ≡ false → (i : ℕ) → i < 16 → isNormal (sessionAt q i .state) ≡ true → 1 ≤ q .count
+some-counted q v plain i h e = omega (arith, counted q i v h plain e)
+
+module _ (reached : ℕ) (ro : Roster) (i : ℕ) (q : Roster) (h : i < 16) (m : Missed reached ro i q) where
+  -- session i is NORMAL and was not reached
+  fails-one : misses reached i ro ≡ true → Missed reached ro (suc i) (failed q i Cause.Write)
+  fails-one miss =
+      record {
+        ok = failed-keeps q i Cause.Write (m .ok) h (normal-live (sessionAt q i .state) was);
+        plain = n .kind ∙ m .plain;
+        version = n .versioned ∙ (raised q (m .ok) some ∙ rw (m .version, miss) (omega arith));
+        members = n .held ∙ m .members;
+        spares = λ j e. failed-other q i Cause.Write j (λ p. clash miss (rw p at e)) ∙ m .spares j e;
+        ahead = λ j l. failed-other q i Cause.Write j (λ p. absurd (let z : ⊥ = omega arith in z)) ∙ m .ahead j (omega arith);
+        fails = λ j l e. elim (ℕ-discrete j i) [
+          | yes p ↦ rw p here
+          | no p ↦ there j (omega (arith, p)) p e
+        ];
+      }
+    where
+      was : isNormal (sessionAt q i .state) ≡ true
+      was = ap (λ (s : Session). isNormal (s .state)) (m .ahead i (omega arith)) ∙ and-left (isNormal (sessionAt ro i .state)) (not (has reached i)) miss
+
+      some : 1 ≤ q .count
+      some = some-counted q (m .ok) (m .plain) i h was
+
+      n : Numbers q (failed q i Cause.Write) (q .count - 1) (more (q .version)) (q .members)
+      n = normal-failed q i Cause.Write (m .plain) was
+
+      here : sessionAt (failed q i Cause.Write) i ≡ marked (moved (sessionAt ro i) State.Failed) (eqb (failed q i Cause.Write .count) 0 && eqb (countTo (above ro i) (suc i)) 0)
+      here =
+          failed-at q i Cause.Write (m .ok .long) h
+          ∙ (ap (λ (b : Bool). marked (moved (sessionAt q i) State.Failed) (pick b (isLast q) (sessionAt q i .mark))) was
+          ∙ (ap (λ (b : Bool). marked (moved (sessionAt q i) State.Failed) (not b && eqb (q .count - 1) 0)) (m .plain)
+          ∙ (ap (λ (s : Session). marked (moved s State.Failed) (eqb (q .count - 1) 0)) (m .ahead i (omega arith))
+          ∙ ap (λ (b : Bool). marked (moved (sessionAt ro i) State.Failed) b) (sym (rw (n .counted, none-above ro i (suc i) (omega arith)) (and-true (eqb (q .count - 1) 0)))))))
+
+      -- of those below none is the last one
+      there : (j : ℕ) → j < i → j ≢ i → misses reached j ro ≡ true → sessionAt (failed q i Cause.Write) j ≡ marked (moved (sessionAt ro j) State.Failed) (eqb (failed q i Cause.Write .count) 0 && eqb (countTo (above ro j) (suc i)) 0)
+      there j l p e =
+          failed-other q i Cause.Write j p
+          ∙ (m .fails j l e
+          ∙ ap (λ (b : Bool). marked (moved (sessionAt ro j) State.Failed) b)
+          (rw (
+            ne-eqb (q .count) 0 (λ z. absurd (let y : ⊥ = omega (arith, some) in y)),
+            not-none (countTo (above ro j) i) (above ro j i) (rw (and-left (isNormal (sessionAt ro i .state)) (not (has reached i)) miss) (lt-ltb j i l)),
+          )
+          (sym (and-false (eqb (failed q i Cause.Write .count) 0)))))
+
+  -- it is not, or was
+  spares-one : misses reached i ro ≡ false → Missed reached ro (suc i) q
+  spares-one miss =
+      record {
+        ok = m .ok;
+        plain = m .plain;
+        version = rw miss (omega (arith, m .version));
+        members = m .members;
+        spares = m .spares;
+        ahead = λ j l. m .ahead j (omega arith);
+        fails = λ j l e. elim (ℕ-discrete j i) [
+          | yes p ↦ clash e (rw p miss)
+          | no p ↦ m .fails j (omega (arith, p)) e ∙ ap (λ (b : Bool). marked (moved (sessionAt ro j) State.Failed) b) (same j)
+        ];
+      }
+    where
+      -- a NORMAL one that was reached is still counted
+      same : (j : ℕ) → (eqb (q .count) 0 && eqb (countTo (above ro j) i) 0) ≡ (eqb (q .count) 0 && eqb (countTo (above ro j) (suc i)) 0)
+      same j =
+          by-cases (isNormal (sessionAt ro i .state))
+          (λ n. rw (ne-eqb (q .count) 0 (λ z. absurd (let y : ⊥ = omega (arith, some-counted q (m .ok) (m .plain) i h (ap (λ (s : Session). isNormal (s .state)) (m .ahead i (omega arith)) ∙ n)) in y))) refl)
+          (λ n. rw (n, add-zero (countTo (above ro j) i)) refl)
+
+-- After all sixteen.
+pub missed-does : (ro : Roster) (reached : ℕ) → Ok ro → ro .sync ≡ false → Missed reached ro 16 (missed ro reached)
 unfolding missed
-missed-keeps ro reached v = stepped (λ i q. Ok q) (missStep reached) 16 step 16 0 ro (omega arith) v
+missed-does ro reached v plain = stepped (Missed reached ro) (missStep reached) 16 step 16 0 ro (omega arith) start
   where
-    step : (i : ℕ) (q : Roster) → i < 16 → Ok q → Ok (missStep reached i q)
-    step i q h ok = step-does Ok reached i q (λ e. failed-keeps q i Cause.Write ok h (normal-live (sessionAt q i .state) (and-left (isNormal (sessionAt q i .state)) (not (has reached i)) e))) (λ e. ok)
+    start : Missed reached ro 0 ro
+    start = record { ok = v; plain = plain; version = omega arith; members = refl; spares = λ j e. refl; ahead = λ j l. refl; fails = λ j l. absurd (let z : ⊥ = omega arith in z) }
 
--- the array stays whole, and the version never falls
-missed-least : (ro : Roster) (reached : ℕ) → Long ro → Long (missed ro reached) × (ro .version ≤ missed ro reached .version)
-unfolding missed
-missed-least ro reached l = stepped (λ i q. Long q × (ro .version ≤ q .version)) (missStep reached) 16 step 16 0 ro (omega arith) (l, omega arith)
-  where
-    step : (i : ℕ) (q : Roster) → i < 16 → Long q × (ro .version ≤ q .version) → Long (missStep reached i q) × (ro .version ≤ missStep reached i q .version)
-    step i q h s =
-        step-does (λ x. Long x × (ro .version ≤ x .version)) reached i q
-        (λ e. (failed-long q i Cause.Write (s .0), omega (arith, s .1, failed-version q i Cause.Write)))
-        (λ e. s)
-
--- A session that was reached, or was not NORMAL, keeps its record.
-pub missed-spares : (ro : Roster) (reached j : ℕ) → misses reached j ro ≡ false → sessionAt (missed ro reached) j ≡ sessionAt ro j
-unfolding missed
-missed-spares ro reached j no-miss = stepped (λ i q. sessionAt q j ≡ sessionAt ro j) (missStep reached) 16 step 16 0 ro (omega arith) refl
-  where
-    step : (i : ℕ) (q : Roster) → i < 16 → sessionAt q j ≡ sessionAt ro j → sessionAt (missStep reached i q) j ≡ sessionAt ro j
-    step i q h s =
-        step-does (λ x. sessionAt x j ≡ sessionAt ro j) reached i q
-        (λ e. elim (ℕ-discrete j i) [
-          | yes p ↦ clash (let f : misses reached j q ≡ true = rw p e in rw s at f) no-miss
-          | no p ↦ failed-other q i Cause.Write j p ∙ s
-        ])
-        (λ e. s)
-
--- A NORMAL session that was not reached is FAILED.
-pub missed-fails : (ro : Roster) (reached j : ℕ) → Long ro → misses reached j ro ≡ true → sessionAt (missed ro reached) j .state ≡ State.Failed
-unfolding missed
-missed-fails ro reached j l miss =
-    stepped Turns (missStep reached) 16 step 16 0 ro (omega arith) (l, (λ h. refl), λ h. absurd (let z : ⊥ = omega arith in z)) .2
-    (normal-below ro j l (and-left (isNormal (sessionAt ro j .state)) (not (has reached j)) miss))
-  where
-    Turns : ℕ → Roster → Type 0
-    Turns i q = Long q × (i ≤ j → sessionAt q j ≡ sessionAt ro j) × (j < i → sessionAt q j .state ≡ State.Failed)
-
-    step : (i : ℕ) (q : Roster) → i < 16 → Turns i q → Turns (suc i) (missStep reached i q)
-    step i q h s =
-        step-does (Turns (suc i)) reached i q
-        (λ e. (
-          failed-long q i Cause.Write (s .0),
-          (λ b. failed-other q i Cause.Write j (λ p. absurd (let z : ⊥ = omega arith in z)) ∙ s .1 (omega arith)),
-          λ b. elim (ℕ-discrete j i) [
-            | yes p ↦ rw p (failed-here q i Cause.Write (s .0) h)
-            | no p ↦ ap (λ (x : Session). x .state) (failed-other q i Cause.Write j p) ∙ s .2 (omega (arith, p))
-          ],
-        ))
-        (λ e. (
-          s .0,
-          (λ b. s .1 (omega arith)),
-          λ b. elim (ℕ-discrete j i) [
-            | yes p ↦ clash miss (let f : misses reached j q ≡ false = rw p e in rw (s .1 (omega (arith, p))) at f)
-            | no p ↦ s .2 (omega (arith, p))
-          ],
-        ))
-
-normal-falls : (sync : Bool) (st : State) → isNormal st ≡ true → legal sync st State.Failed ≡ true
-normal-falls sync State.Free e = e
-normal-falls sync State.Created e = clash refl (sym e)
-normal-falls sync State.Normal e = refl
-normal-falls sync State.Failed e = clash refl (sym e)
-normal-falls sync State.Reconnecting e = clash refl (sym e)
-normal-falls sync (State.Removing m owed) e = e
-
-missed-moves : (ro : Roster) (reached : ℕ) → Long ro → Moves ro (missed ro reached)
-missed-moves ro reached l =
-    record {
-      states = λ j. by-cases (misses reached j ro)
-          (λ e. rw (missed-fails ro reached j l e) (goes (ro .sync) (sessionAt ro j .state) State.Failed (normal-falls (ro .sync) (sessionAt ro j .state) (and-left (isNormal (sessionAt ro j .state)) (not (has reached j)) e))))
-          (λ e. rw (missed-spares ro reached j e) (stays (ro .sync) (sessionAt ro j .state) (sessionAt ro j .state) refl));
-      version = missed-least ro reached l .1;
-    }
+    step : (i : ℕ) (q : Roster) → i < 16 → Missed reached ro i q → Missed reached ro (suc i) (missStep reached i q)
+    step i q h m =
+        step-does (Missed reached ro (suc i)) reached i q
+        (λ e. fails-one reached ro i q h m (sym (same i q m) ∙ e))
+        (λ e. spares-one reached ro i q h m (sym (same i q m) ∙ e))
+      where
+        same : (i : ℕ) (q : Roster) → Missed reached ro i q → misses reached i q ≡ misses reached i ro
+        same i q m = ap (λ (s : Session). isNormal (s .state) && not (has reached i)) (m .ahead i (omega arith))
 
 removing-not : (st : State) → isRemoving st ≡ true → isNormal st ≡ false
 removing-not State.Free e = refl
@@ -137,50 +177,73 @@ removing-not State.Reconnecting e = refl
 removing-not (State.Removing m owed) e = refl
 
 -- a REMOVING session stays so
-removing-stays : (ro : Roster) (reached j : ℕ) → isRemoving (sessionAt ro j .state) ≡ true → isRemoving (sessionAt (missed ro reached) j .state) ≡ true
-removing-stays ro reached j e = rw (missed-spares ro reached j (rw (removing-not (sessionAt ro j .state) e) refl)) e
+removing-stays : (ro : Roster) (reached j : ℕ) → Missed reached ro 16 (missed ro reached) → isRemoving (sessionAt ro j .state) ≡ true → isRemoving (sessionAt (missed ro reached) j .state) ≡ true
+removing-stays ro reached j m e = rw (m .spares j (rw (removing-not (sessionAt ro j .state) e) refl)) e
 
 -- ---- write ended
 
-job-stays : (j : Job) (ro : Roster) (reached : ℕ) → isRunning j ≡ false → jobOk j ro ≡ true → jobOk j (missed ro reached) ≡ true
-job-stays Job.Idle ro reached r e = refl
-job-stays (Job.Running x) ro reached r e = clash refl r
-job-stays (Job.Removing m) ro reached r e = removing-stays ro reached (m .id) e
+job-stays : (j : Job) (ro : Roster) (reached : ℕ) → Long ro → Missed reached ro 16 (missed ro reached) → isRunning j ≡ false → jobOk j ro ≡ true → jobOk j (missed ro reached) ≡ true
+job-stays Job.Idle ro reached l d r e = refl
+job-stays (Job.Running x) ro reached l d r e = clash refl r
+job-stays (Job.Removing m) ro reached l d r e = removal-stays ro (missed ro reached) m l (removing-stays ro reached (m .id) d) e
 
 halted-valid : (b : Bool) (p : Pool) → Valid p → Valid (haltedIf b p)
 halted-valid b p v = halts Valid b p (record { some = v .some; most = v .most; ok = v .ok; job = refl }) v
 
-halted-roster : (b : Bool) (p : Pool) → haltedIf b p .roster ≡ p .roster
-halted-roster b p = halts (λ q. q .roster ≡ p .roster) b p refl refl
-
-marks-pool : (P : Pool → Type 0) (before after : Pool) (chunk reached : ℕ) → P after → P (marks before after chunk reached .pool)
+pub marks-pool : (P : Pool → Type 0) (before after : Pool) (chunk reached : ℕ) → P after → P (marks before after chunk reached .pool)
 unfolding marks
 marks-pool P before after chunk reached h = picked P (eqb reached 0) _ _ (λ e. h) (λ e. h)
 
-write-idle : (p : Pool) (sound : Bool) (chunk reached : ℕ) → writeRefusal p sound chunk reached ≡ 0 → isRunning (p .job) ≡ false
+pub record Writes (p : Pool) (reached : ℕ) : Type 0 where
+  pub plain : p .roster .sync ≡ false
+  pub free : isRunning (p .job) ≡ false
+  pub reaches : reachBars (p .roster) reached ≡ false
+
+pub write-passed : (p : Pool) (sound : Bool) (chunk reached : ℕ) → writeRefusal p sound chunk reached ≡ 0 → Writes p reached
 unfolding writeRefusal
-write-idle p sound chunk reached e =
+write-passed p sound chunk reached e =
     let a = passed (not (validPool p)) 1 _ (λ h. omega arith) e in
     let b = passed (not sound) 2 _ (λ h. omega arith) (a .1) in
     let c = passed (ltb 65535 reached) 3 _ (λ h. omega arith) (b .1) in
     let d = passed (not (ltb chunk (p .chunks))) 4 _ (λ h. omega arith) (c .1) in
     let f = passed (p .roster .sync) 5 _ (λ h. omega arith) (d .1) in
-    passed (isRunning (p .job)) 6 _ (λ h. omega arith) (f .1) .0
+    let g = passed (isRunning (p .job)) 6 _ (λ h. omega arith) (f .1) in
+    let k = passed (reachBars (p .roster) reached) 11 _ (λ h. omega arith) (g .1) in
+    record { plain = f .0; free = g .0; reaches = k .0 }
+
+-- every id of the reached set is NORMAL
+pub reached-normal : (ro : Roster) (reached : ℕ) → Long ro → reachBars ro reached ≡ false → (j : ℕ) → has reached j ≡ true → isNormal (sessionAt ro j .state) ≡ true
+unfolding reachBars
+reached-normal ro reached l e j h =
+    both (has reached j) (isNormal (sessionAt ro j .state)) h
+    (ids-none (Kind.Abnormal reached) ro l (eqb-true (idsOf (Kind.Abnormal reached) ro) 0 (parts (eqb (idsOf Kind.Normals ro) 0) (eqb (idsOf (Kind.Abnormal reached) ro) 0) e)) j (has-below reached j h))
+  where
+    parts : (a b : Bool) → (a || not b) ≡ false → b ≡ true
+    parts true b z = clash refl z
+    parts false true z = refl
+    parts false false z = clash refl z
+
+    both : (a b : Bool) → a ≡ true → (a && not b) ≡ false → b ≡ true
+    both true true f z = refl
+    both true false f z = clash refl z
+    both false b f z = clash f refl
 
 pub write-keeps : (p : Pool) (sound : Bool) (chunk reached : ℕ) → Valid p → Valid (writeEnded p sound chunk reached .pool)
 unfolding writeEnded writeDone
 write-keeps p sound chunk reached v =
     turned Valid (writeRefusal p sound chunk reached) (writeDone p chunk reached) p v
-    (λ e. marks-pool Valid p (haltedIf (loses (p .job) (p .roster) reached) (withRoster p (missed (p .roster) reached))) chunk reached
+    (λ e. let w = write-passed p sound chunk reached e in
+    let d = missed-does (p .roster) reached (v .ok) (w .plain) in
+    marks-pool Valid p (haltedIf (loses (p .job) (p .roster) reached) (withRoster p (missed (p .roster) reached))) chunk reached
     (halted-valid (loses (p .job) (p .roster) reached) (withRoster p (missed (p .roster) reached))
-    (record { some = v .some; most = v .most; ok = missed-keeps (p .roster) reached (v .ok); job = job-stays (p .job) (p .roster) reached (write-idle p sound chunk reached e) (v .job) })))
+    (record { some = v .some; most = v .most; ok = d .ok; job = job-stays (p .job) (p .roster) reached (v .ok .long) d (w .free) (v .job) })))
 
-pub write-moves : (p : Pool) (sound : Bool) (chunk reached : ℕ) → Long (p .roster) → Moves (p .roster) (writeEnded p sound chunk reached .pool .roster)
-unfolding writeEnded writeDone
-write-moves p sound chunk reached l =
-    turned (λ q. Moves (p .roster) (q .roster)) (writeRefusal p sound chunk reached) (writeDone p chunk reached) p (moves-none (p .roster))
-    (λ e. marks-pool (λ q. Moves (p .roster) (q .roster)) p (haltedIf (loses (p .job) (p .roster) reached) (withRoster p (missed (p .roster) reached))) chunk reached
-    (rw (halted-roster (loses (p .job) (p .roster) reached) (withRoster p (missed (p .roster) reached))) (missed-moves (p .roster) reached l)))
+-- the sessions that it leaves
+pub write-roster : (p : Pool) (chunk reached : ℕ) → writeDone p chunk reached .pool .roster ≡ missed (p .roster) reached
+unfolding writeDone
+write-roster p chunk reached =
+    marks-pool (λ q. q .roster ≡ missed (p .roster) reached) p (haltedIf (loses (p .job) (p .roster) reached) (withRoster p (missed (p .roster) reached))) chunk reached
+    (halts (λ q. q .roster ≡ missed (p .roster) reached) (loses (p .job) (p .roster) reached) (withRoster p (missed (p .roster) reached)) refl refl)
 
 -- ---- synced changes nothing at the client
 

@@ -1,4 +1,4 @@
-use Rattle.answers.specs.Answers.{moved}
+use Rattle.answers.specs.Answers.{movedOn}
 use borrow.Author.Needs.{needs}
 use Rattle.answers.proofs.move_on.Statement.{statement}
 use Rattle.answers.proofs.move_on.Tie as tie
@@ -13,7 +13,7 @@ go-on-requires : tie.Need-go-on-requires
 go-on-requires c κs = search needs
 
 returns : tie.Need-returns
-unfolding moved
+unfolding movedOn
 returns c = simp (c .go-on .ensures, c .before .with-roster .ensures, c .before .before .enter .ensures)
 
 pub move-on-spec : {M : Type 1} → statement M

@@ -6,15 +6,15 @@ use Rattle.joins.proofs.assemble.Tie as tie
 take-over-requires : tie.Need-take-over-requires
 take-over-requires c κs = search needs
 
-begin-requires : tie.Need-begin-requires
-begin-requires c κs = search needs
+enroll-requires : tie.Need-enroll-requires
+enroll-requires c κs = search needs
 
 go-requires : tie.Need-go-requires
 go-requires c κs = search needs
 
 returns : tie.Need-returns
 unfolding assembled
-returns c = simp (c .go .ensures, c .before .begin .ensures, c .before .before .take-over .ensures)
+returns c = simp (c .go .ensures, c .before .enroll .ensures, c .before .before .take-over .ensures)
 
 pub assemble-spec : {M : Type 1} → statement M
-assemble-spec = tie.close (tie.spec take-over-requires begin-requires go-requires returns)
+assemble-spec = tie.close (tie.spec take-over-requires enroll-requires go-requires returns)

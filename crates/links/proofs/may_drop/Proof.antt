@@ -15,8 +15,8 @@ is-reconnecting-requires c κs = search needs
 is-removing-requires : tie.Need-is-removing-requires
 is-removing-requires c κs = search needs
 
-is-leaving-requires : tie.Need-is-leaving-requires
-is-leaving-requires c κs = search needs
+is-peer-requires : tie.Need-is-peer-requires
+is-peer-requires c κs = search needs
 
 returns : tie.Need-returns
 unfolding drops
@@ -30,5 +30,5 @@ may-drop-spec =
     is-normal-requires
     is-reconnecting-requires
     is-removing-requires
-    is-leaving-requires
+    is-peer-requires
     returns)

@@ -2,7 +2,7 @@ use borrow.Author.Needs.{needs}
 use Rattle.chunks.proofs.Laws.{each-in, each-out, each-none, each-done, each-length}
 use Rattle.maps.proofs.Laws.{length-zeroRow}
 use Rattle.chunks.specs.Chunk.{each}
-use Rattle.maps.specs.Map.{zeroRow, kept}
+use Rattle.maps.specs.Map.{zeroRow, rowsKept}
 use Rattle.sets.specs.Sets.{has}
 use Prim.Native.Nat.{_-_, _≤_}
 use mathlib.Core.Bool.{not}
@@ -40,7 +40,7 @@ same-length : tie.Need-same-length Inv-loop μ-loop
 same-length c = each-length _ _ _ _ _ length-zeroRow (c .before .loop .inv .1)
 
 returns : tie.Need-returns Inv-loop μ-loop
-unfolding kept
+unfolding rowsKept
 returns c = each-done _ _ _ _ _ _ (c .before .loop .inv .1) (omega arith)
 
 pub keep-rows-spec : {M : Type 1} → statement M

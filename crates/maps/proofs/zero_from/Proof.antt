@@ -1,6 +1,6 @@
 use borrow.Author.Needs.{needs}
 use Rattle.maps.proofs.Over.{over-none, over-step, over-end}
-use Rattle.maps.specs.Map.{over, zeroFrom}
+use Rattle.maps.specs.Map.{replaced, zeroFrom}
 use lib.ListN.{length, length-set}
 use Prim.Native.Nat.{_-_, _≤_, max}
 use native.Mathlib.Omega.{arith}
@@ -9,7 +9,7 @@ use Rattle.maps.proofs.zero_from.Statement.{statement}
 use Rattle.maps.proofs.zero_from.Tie as tie
 
 abbrev Inv-loop : tie.InvT-loop
-Inv-loop map₀ a e end i₀ map i = (a ≤ i) × (i ≤ max a end) × (map ≡ over a i (λ k x. 0) map₀) × (length map ≡ length map₀)
+Inv-loop map₀ a e end i₀ map i = (a ≤ i) × (i ≤ max a end) × (map ≡ replaced a i (λ k x. 0) map₀) × (length map ≡ length map₀)
 
 abbrev μ-loop : tie.MeasureT-loop
 μ-loop map₀ a e end i₀ map i = end - i

@@ -3,8 +3,8 @@ use Rattle.nodeenables.specs.Enable.{disabled}
 use Rattle.nodeenables.proofs.disabled.Statement.{statement}
 use Rattle.nodeenables.proofs.disabled.Tie as tie
 
-moved-requires : tie.Need-moved-requires
-moved-requires c κs = search needs
+went-to-requires : tie.Need-went-to-requires
+went-to-requires c κs = search needs
 
 ended-transfer-requires : tie.Need-ended-transfer-requires
 ended-transfer-requires c κs = search needs
@@ -14,4 +14,4 @@ unfolding disabled
 returns c = cc
 
 pub disabled-spec : {M : Type 1} → statement M
-disabled-spec = tie.close (tie.spec moved-requires ended-transfer-requires returns)
+disabled-spec = tie.close (tie.spec went-to-requires ended-transfer-requires returns)

@@ -3,8 +3,8 @@ use Rattle.nodeenables.specs.Enable.{enabled}
 use Rattle.nodeenables.proofs.enabled.Statement.{statement}
 use Rattle.nodeenables.proofs.enabled.Tie as tie
 
-moved-requires : tie.Need-moved-requires
-moved-requires c κs = search needs
+went-to-requires : tie.Need-went-to-requires
+went-to-requires c κs = search needs
 
 ended-transfer-requires : tie.Need-ended-transfer-requires
 ended-transfer-requires c κs = search needs
@@ -17,4 +17,4 @@ unfolding enabled
 returns c = cc
 
 pub enabled-spec : {M : Type 1} → statement M
-enabled-spec = tie.close (tie.spec moved-requires ended-transfer-requires instructed-requires returns)
+enabled-spec = tie.close (tie.spec went-to-requires ended-transfer-requires instructed-requires returns)

@@ -6,8 +6,8 @@ use Rattle.nodeenables.proofs.fault.Tie as tie
 stop-refusal-requires : tie.Need-stop-refusal-requires
 stop-refusal-requires c κs = search needs
 
-moved-requires : tie.Need-moved-requires
-moved-requires c κs = search needs
+went-to-requires : tie.Need-went-to-requires
+went-to-requires c κs = search needs
 
 does-requires : tie.Need-does-requires
 does-requires c κs = search needs
@@ -23,4 +23,4 @@ unfolding fault
 returns c = cc
 
 pub fault-spec : {M : Type 1} → statement M
-fault-spec = tie.close (tie.spec stop-refusal-requires moved-requires does-requires turn-requires settled-requires returns)
+fault-spec = tie.close (tie.spec stop-refusal-requires went-to-requires does-requires turn-requires settled-requires returns)

@@ -6,8 +6,8 @@ use Rattle.nodehand.proofs.committed.Tie as tie
 done-to-requires : tie.Need-done-to-requires
 done-to-requires c κs = search needs
 
-moved-requires : tie.Need-moved-requires
-moved-requires c κs = search needs
+went-to-requires : tie.Need-went-to-requires
+went-to-requires c κs = search needs
 
 ended-transfer-requires : tie.Need-ended-transfer-requires
 ended-transfer-requires c κs = search needs
@@ -20,4 +20,4 @@ unfolding committed
 returns c = cc
 
 pub committed-spec : {M : Type 1} → statement M
-committed-spec = tie.close (tie.spec done-to-requires moved-requires ended-transfer-requires instructed-requires returns)
+committed-spec = tie.close (tie.spec done-to-requires went-to-requires ended-transfer-requires instructed-requires returns)

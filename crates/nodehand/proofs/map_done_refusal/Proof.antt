@@ -6,8 +6,8 @@ use Rattle.nodehand.proofs.map_done_refusal.Tie as tie
 valid-requires : tie.Need-valid-requires
 valid-requires c κs = search needs
 
-is-taken-requires : tie.Need-is-taken-requires
-is-taken-requires c κs = search needs
+is-map-taken-requires : tie.Need-is-map-taken-requires
+is-map-taken-requires c κs = search needs
 
 has-requires : tie.Need-has-requires
 has-requires c κs = search needs
@@ -35,4 +35,4 @@ unfolding mapDoneRefusal
 returns c = cc
 
 pub map-done-refusal-spec : {M : Type 1} → statement M
-map-done-refusal-spec = tie.close (tie.spec valid-requires is-taken-requires has-requires first-requires first-requires-2 first-requires-3 first-requires-4 first-requires-5 first-requires-6 returns)
+map-done-refusal-spec = tie.close (tie.spec valid-requires is-map-taken-requires has-requires first-requires first-requires-2 first-requires-3 first-requires-4 first-requires-5 first-requires-6 returns)

@@ -6,8 +6,8 @@ use Rattle.nodehand.proofs.take.Tie as tie
 hand-refusal-requires : tie.Need-hand-refusal-requires
 hand-refusal-requires c κs = search needs
 
-taken-requires : tie.Need-taken-requires
-taken-requires c κs = search needs
+map-taken-requires : tie.Need-map-taken-requires
+map-taken-requires c κs = search needs
 
 does-requires : tie.Need-does-requires
 does-requires c κs = search needs
@@ -23,4 +23,4 @@ unfolding take
 returns c = cc
 
 pub take-spec : {M : Type 1} → statement M
-take-spec = tie.close (tie.spec hand-refusal-requires taken-requires does-requires turn-requires settled-requires returns)
+take-spec = tie.close (tie.spec hand-refusal-requires map-taken-requires does-requires turn-requires settled-requires returns)

@@ -6,8 +6,8 @@ use Rattle.nodejoins.proofs.assemble.Tie as tie
 assemble-refusal-requires : tie.Need-assemble-refusal-requires
 assemble-refusal-requires c κs = search needs
 
-moved-requires : tie.Need-moved-requires
-moved-requires c κs = search needs
+went-to-requires : tie.Need-went-to-requires
+went-to-requires c κs = search needs
 
 does-requires : tie.Need-does-requires
 does-requires c κs = search needs
@@ -27,7 +27,7 @@ assemble-spec =
     tie.close
     (tie.spec
     assemble-refusal-requires
-    moved-requires
+    went-to-requires
     does-requires
     turn-requires
     settled-requires

@@ -6,8 +6,8 @@ use Rattle.nodejoins.proofs.joined_create.Tie as tie
 with-requires : tie.Need-with-requires
 with-requires c κs = search needs
 
-moved-requires : tie.Need-moved-requires
-moved-requires c κs = search needs
+went-to-requires : tie.Need-went-to-requires
+went-to-requires c κs = search needs
 
 equipped-requires : tie.Need-equipped-requires
 equipped-requires c κs = search needs
@@ -21,4 +21,4 @@ returns c = cc
 
 pub joined-create-spec : {M : Type 1} → statement M
 joined-create-spec =
-    tie.close (tie.spec with-requires moved-requires equipped-requires taken-over-requires returns)
+    tie.close (tie.spec with-requires went-to-requires equipped-requires taken-over-requires returns)

@@ -6,8 +6,8 @@ use Rattle.nodejoins.proofs.left.Tie as tie
 left-to-requires : tie.Need-left-to-requires
 left-to-requires c κs = search needs
 
-moved-requires : tie.Need-moved-requires
-moved-requires c κs = search needs
+went-to-requires : tie.Need-went-to-requires
+went-to-requires c κs = search needs
 
 ended-transfer-requires : tie.Need-ended-transfer-requires
 ended-transfer-requires c κs = search needs
@@ -17,4 +17,4 @@ unfolding left
 returns c = cc
 
 pub left-spec : {M : Type 1} → statement M
-left-spec = tie.close (tie.spec left-to-requires moved-requires ended-transfer-requires returns)
+left-spec = tie.close (tie.spec left-to-requires went-to-requires ended-transfer-requires returns)

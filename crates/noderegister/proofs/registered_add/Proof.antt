@@ -6,8 +6,8 @@ use Rattle.noderegister.proofs.registered_add.Tie as tie
 added-to-requires : tie.Need-added-to-requires
 added-to-requires c κs = search needs
 
-moved-requires : tie.Need-moved-requires
-moved-requires c κs = search needs
+went-to-requires : tie.Need-went-to-requires
+went-to-requires c κs = search needs
 
 equipped-requires : tie.Need-equipped-requires
 equipped-requires c κs = search needs
@@ -22,4 +22,4 @@ returns c = cc
 pub registered-add-spec : {M : Type 1} → statement M
 registered-add-spec =
     tie.close
-    (tie.spec added-to-requires moved-requires equipped-requires instructed-requires returns)
+    (tie.spec added-to-requires went-to-requires equipped-requires instructed-requires returns)

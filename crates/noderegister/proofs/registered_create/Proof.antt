@@ -6,8 +6,8 @@ use Rattle.noderegister.proofs.registered_create.Tie as tie
 with-requires : tie.Need-with-requires
 with-requires c κs = search needs
 
-moved-requires : tie.Need-moved-requires
-moved-requires c κs = search needs
+went-to-requires : tie.Need-went-to-requires
+went-to-requires c κs = search needs
 
 equipped-requires : tie.Need-equipped-requires
 equipped-requires c κs = search needs
@@ -27,7 +27,7 @@ registered-create-spec =
     tie.close
     (tie.spec
     with-requires
-    moved-requires
+    went-to-requires
     equipped-requires
     forgotten-requires
     instructed-requires

@@ -12,6 +12,9 @@ unregistered-requires c κs = search needs
 wipes-requires : tie.Need-wipes-requires
 wipes-requires c κs = search needs
 
+drops-staging-requires : tie.Need-drops-staging-requires
+drops-staging-requires c κs = search needs
+
 does-requires : tie.Need-does-requires
 does-requires c κs = search needs
 
@@ -32,6 +35,7 @@ unregister-spec =
     unregister-refusal-requires
     unregistered-requires
     wipes-requires
+    drops-staging-requires
     does-requires
     turn-requires
     settled-requires

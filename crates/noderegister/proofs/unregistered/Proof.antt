@@ -6,8 +6,8 @@ use Rattle.noderegister.proofs.unregistered.Tie as tie
 unregistered-to-requires : tie.Need-unregistered-to-requires
 unregistered-to-requires c κs = search needs
 
-moved-requires : tie.Need-moved-requires
-moved-requires c κs = search needs
+went-to-requires : tie.Need-went-to-requires
+went-to-requires c κs = search needs
 
 equipped-requires : tie.Need-equipped-requires
 equipped-requires c κs = search needs
@@ -27,7 +27,7 @@ unregistered-spec =
     tie.close
     (tie.spec
     unregistered-to-requires
-    moved-requires
+    went-to-requires
     equipped-requires
     ended-transfer-requires
     wiped-requires

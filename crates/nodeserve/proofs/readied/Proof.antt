@@ -3,8 +3,8 @@ use Rattle.nodeserve.specs.Serve.{readied}
 use Rattle.nodeserve.proofs.readied.Statement.{statement}
 use Rattle.nodeserve.proofs.readied.Tie as tie
 
-moved-requires : tie.Need-moved-requires
-moved-requires c κs = search needs
+went-to-requires : tie.Need-went-to-requires
+went-to-requires c κs = search needs
 
 transferred-requires : tie.Need-transferred-requires
 transferred-requires c κs = search needs
@@ -14,4 +14,4 @@ unfolding readied
 returns c = cc
 
 pub readied-spec : {M : Type 1} → statement M
-readied-spec = tie.close (tie.spec moved-requires transferred-requires returns)
+readied-spec = tie.close (tie.spec went-to-requires transferred-requires returns)

@@ -1,4 +1,8 @@
+use mathlib.Core.Path.{ap}
+use borrow.Author.Tests.{eq-eqb, ne-eqb}
 use borrow.Author.Needs.{needs}
+use Rattle.rows.specs.declared.Ahead.{Ahead}
+use Rattle.rows.specs.Row.{rowNext}
 use Rattle.rows.proofs.row_next.Statement.{statement}
 use Rattle.rows.proofs.row_next.Tie as tie
 
@@ -9,7 +13,12 @@ next-view-requires : tie.Need-next-view-requires
 next-view-requires c κs = search needs
 
 returns : tie.Need-returns
-returns c = cc
+unfolding rowNext
+returns c = rw (← c .before .before .row .ensures, eq-eqb _ _ (c .before .if1 .taken)) (ap Ahead.Of (c .next-view .ensures))
+
+returns-2 : tie.Need-returns-2
+unfolding rowNext
+returns-2 c = rw (← c .before .row .ensures, ne-eqb _ _ (c .if1 .left))
 
 pub row-next-spec : {M : Type 1} → statement M
-row-next-spec = tie.close (tie.spec row-requires next-view-requires returns)
+row-next-spec = tie.close (tie.spec row-requires next-view-requires returns returns-2)

@@ -14,11 +14,11 @@ enum-told c = search needs
 enum-known-p-3 : tie.Need-enum-known-p-3
 enum-known-p-3 c = search needs
 
-enum-told-2 : tie.Need-enum-told-2
-enum-told-2 c = search needs
-
 enum-known-p-4 : tie.Need-enum-known-p-4
 enum-known-p-4 c = search needs
+
+enum-known-p-5 : tie.Need-enum-known-p-5
+enum-known-p-5 c = search needs
 
 returns : tie.Need-returns
 returns c = simp (c .before .p .given .1)
@@ -36,7 +36,7 @@ returns-5 : tie.Need-returns-5
 returns-5 c = search needs
 
 returns-6 : tie.Need-returns-6
-returns-6 c = simp (c .before .p4 .given .1)
+returns-6 c = simp (c .before .p5 .given .1)
 
 pub hand-ok-spec : {M : Type 1} → statement M
 hand-ok-spec =
@@ -46,8 +46,8 @@ hand-ok-spec =
     enum-known-p-2
     enum-told
     enum-known-p-3
-    enum-told-2
     enum-known-p-4
+    enum-known-p-5
     returns
     returns-2
     returns-3

@@ -20,6 +20,9 @@ session-requires c κs = search needs
 is-removing-requires : tie.Need-is-removing-requires
 is-removing-requires c κs = search needs
 
+stage-ok-requires : tie.Need-stage-ok-requires
+stage-ok-requires c κs = search needs
+
 returns : tie.Need-returns
 returns c = search needs
 
@@ -27,7 +30,8 @@ returns-2 : tie.Need-returns-2
 returns-2 c = simp (c .run-ok .ensures, c .before .before .j .given .1)
 
 returns-3 : tie.Need-returns-3
-returns-3 c = simp (c .is-removing .ensures, c .before .session .ensures, c .before .before .before .j2 .given .1)
+returns-3 c =
+    simp (c .stage-ok .ensures, c .before .is-removing .ensures, c .before .before .session .ensures, c .before .before .before .before .j2 .given .1)
 
 pub job-ok-spec : {M : Type 1} → statement M
 job-ok-spec =
@@ -39,6 +43,7 @@ job-ok-spec =
     enum-known-j-2
     session-requires
     is-removing-requires
+    stage-ok-requires
     returns
     returns-2
     returns-3)

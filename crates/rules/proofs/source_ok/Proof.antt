@@ -32,17 +32,17 @@ all-asked-requires-4 c κs = search needs
 has-requires-2 : tie.Need-has-requires-2
 has-requires-2 c κs = search needs
 
-enum-told-2 : tie.Need-enum-told-2
-enum-told-2 c = search needs
+enum-known-p-4 : tie.Need-enum-known-p-4
+enum-known-p-4 c = search needs
 
-one-asked-requires : tie.Need-one-asked-requires
-one-asked-requires c κs = search needs
+asked-requires : tie.Need-asked-requires
+asked-requires c κs = search needs
 
 has-requires-3 : tie.Need-has-requires-3
 has-requires-3 c κs = search needs
 
-enum-known-p-4 : tie.Need-enum-known-p-4
-enum-known-p-4 c = search needs
+enum-known-p-5 : tie.Need-enum-known-p-5
+enum-known-p-5 c = search needs
 
 session-requires : tie.Need-session-requires
 session-requires c κs = search needs
@@ -63,10 +63,10 @@ returns-4 : tie.Need-returns-4
 returns-4 c = simp (c .has2 .ensures, c .before .all-asked4 .ensures, c .before .before .before .p3 .given .1)
 
 returns-5 : tie.Need-returns-5
-returns-5 c = simp (c .has3 .ensures, c .before .one-asked .ensures, c .before .before .enum-told2 .given .1)
+returns-5 c = simp (c .has3 .ensures, c .before .asked .ensures, c .before .before .before .p4 .given .1)
 
 returns-6 : tie.Need-returns-6
-returns-6 c = simp (c .is-normal .ensures, c .before .session .ensures, c .before .before .before .p4 .given .1)
+returns-6 c = simp (c .is-normal .ensures, c .before .session .ensures, c .before .before .before .p5 .given .1)
 
 pub source-ok-spec : {M : Type 1} → statement M
 source-ok-spec =
@@ -82,10 +82,10 @@ source-ok-spec =
     enum-known-p-3
     all-asked-requires-4
     has-requires-2
-    enum-told-2
-    one-asked-requires
-    has-requires-3
     enum-known-p-4
+    asked-requires
+    has-requires-3
+    enum-known-p-5
     session-requires
     is-normal-requires
     returns

@@ -24,11 +24,11 @@ enum-known-p-3 c = search needs
 step-message-requires-2 : tie.Need-step-message-requires-2
 step-message-requires-2 c κs = search needs
 
-enum-told-2 : tie.Need-enum-told-2
-enum-told-2 c = search needs
-
 enum-known-p-4 : tie.Need-enum-known-p-4
 enum-known-p-4 c = search needs
+
+enum-known-p-5 : tie.Need-enum-known-p-5
+enum-known-p-5 c = search needs
 
 step-message-requires-3 : tie.Need-step-message-requires-3
 step-message-requires-3 c κs = search needs
@@ -51,11 +51,11 @@ returns-4 c = simp (c .step-message2 .ensures, c .before .before .p3 .given .1, 
 
 returns-5 : tie.Need-returns-5
 unfolding awaitedIn
-returns-5 c = simp (c .enum-told2 .given .1, c .before .before .lowest .ensures)
+returns-5 c = simp (c .before .p4 .given .1, c .before .before .before .lowest .ensures)
 
 returns-6 : tie.Need-returns-6
 unfolding awaitedIn
-returns-6 c = simp (c .step-message3 .ensures, c .before .before .p4 .given .1, c .before .before .before .before .lowest .ensures)
+returns-6 c = simp (c .step-message3 .ensures, c .before .before .p5 .given .1, c .before .before .before .before .lowest .ensures)
 
 pub awaited-spec : {M : Type 1} → statement M
 awaited-spec =
@@ -68,8 +68,8 @@ awaited-spec =
     enum-told
     enum-known-p-3
     step-message-requires-2
-    enum-told-2
     enum-known-p-4
+    enum-known-p-5
     step-message-requires-3
     returns
     returns-2

@@ -42,8 +42,8 @@ gather-next-requires c κs = search needs
 went-on-requires-3 : tie.Need-went-on-requires-3
 went-on-requires-3 c κs = search needs
 
-enum-told-2 : tie.Need-enum-told-2
-enum-told-2 c = search needs
+enum-known-p-4 : tie.Need-enum-known-p-4
+enum-known-p-4 c = search needs
 
 to-spread-requires : tie.Need-to-spread-requires
 to-spread-requires c κs = search needs
@@ -51,8 +51,8 @@ to-spread-requires c κs = search needs
 became-normal-requires : tie.Need-became-normal-requires
 became-normal-requires c κs = search needs
 
-enum-known-p-4 : tie.Need-enum-known-p-4
-enum-known-p-4 c = search needs
+enum-known-p-5 : tie.Need-enum-known-p-5
+enum-known-p-5 c = search needs
 
 spread-good-requires : tie.Need-spread-good-requires
 spread-good-requires c κs = search needs
@@ -75,11 +75,11 @@ returns-4 c = simp (c .went-on3 .ensures, c .before .gather-next .ensures, c .be
 
 returns-5 : tie.Need-returns-5
 unfolding good
-returns-5 c = simp (c .became-normal .ensures, c .before .to-spread .ensures, c .before .before .enum-told2 .given .1)
+returns-5 c = simp (c .became-normal .ensures, c .before .to-spread .ensures, c .before .before .before .p4 .given .1)
 
 returns-6 : tie.Need-returns-6
 unfolding good
-returns-6 c = simp (c .spread-good .ensures, c .before .before .p4 .given .1)
+returns-6 c = simp (c .spread-good .ensures, c .before .before .p5 .given .1)
 
 pub good-spec : {M : Type 1} → statement M
 good-spec =
@@ -98,10 +98,10 @@ good-spec =
     enum-known-p-3
     gather-next-requires
     went-on-requires-3
-    enum-told-2
+    enum-known-p-4
     to-spread-requires
     became-normal-requires
-    enum-known-p-4
+    enum-known-p-5
     spread-good-requires
     returns
     returns-2

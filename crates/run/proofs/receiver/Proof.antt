@@ -18,11 +18,11 @@ enum-told c = search needs
 enum-known-p-3 : tie.Need-enum-known-p-3
 enum-known-p-3 c = search needs
 
-enum-told-2 : tie.Need-enum-told-2
-enum-told-2 c = search needs
-
 enum-known-p-4 : tie.Need-enum-known-p-4
 enum-known-p-4 c = search needs
+
+enum-known-p-5 : tie.Need-enum-known-p-5
+enum-known-p-5 c = search needs
 
 returns : tie.Need-returns
 unfolding receiver
@@ -42,11 +42,11 @@ returns-4 c = simp (c .before .p3 .given .1, c .before .before .before .lowest .
 
 returns-5 : tie.Need-returns-5
 unfolding receiver
-returns-5 c = simp (c .enum-told2 .given .1, c .before .before .lowest .ensures)
+returns-5 c = simp (c .before .p4 .given .1, c .before .before .before .lowest .ensures)
 
 returns-6 : tie.Need-returns-6
 unfolding receiver
-returns-6 c = simp (c .before .p4 .given .1, c .before .before .before .lowest .ensures)
+returns-6 c = simp (c .before .p5 .given .1, c .before .before .before .lowest .ensures)
 
 pub receiver-spec : {M : Type 1} → statement M
 receiver-spec =
@@ -57,8 +57,8 @@ receiver-spec =
     enum-known-p-2
     enum-told
     enum-known-p-3
-    enum-told-2
     enum-known-p-4
+    enum-known-p-5
     returns
     returns-2
     returns-3

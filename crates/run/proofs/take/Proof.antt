@@ -8,11 +8,11 @@ enum-known-a c = search needs
 enum-told : tie.Need-enum-told
 enum-told c = search needs
 
-failed-requires : tie.Need-failed-requires
-failed-requires c κs = search needs
+failed-answer-requires : tie.Need-failed-answer-requires
+failed-answer-requires c κs = search needs
 
 returns : tie.Need-returns
-returns c = simp (c .failed .ensures, c .before .enum-told .given .1)
+returns c = simp (c .failed-answer .ensures, c .before .enum-told .given .1)
 
 good-requires : tie.Need-good-requires
 good-requires c κs = search needs
@@ -22,4 +22,4 @@ returns-2 c = simp (c .good2 .ensures, c .before .before .a .given .1)
 
 pub take-spec : {M : Type 1} → statement M
 take-spec =
-    tie.close (tie.spec enum-known-a enum-told failed-requires returns good-requires returns-2)
+    tie.close (tie.spec enum-known-a enum-told failed-answer-requires returns good-requires returns-2)

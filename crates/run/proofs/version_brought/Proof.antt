@@ -9,17 +9,17 @@ enum-known-b c = search needs
 enum-told : tie.Need-enum-told
 enum-told c = search needs
 
-failed-requires : tie.Need-failed-requires
-failed-requires c κs = search needs
+failed-answer-requires : tie.Need-failed-answer-requires
+failed-answer-requires c κs = search needs
 
 returns : tie.Need-returns
-returns c = simp (c .failed .ensures, c .before .enum-told .given .1)
+returns c = simp (c .failed-answer .ensures, c .before .enum-told .given .1)
 
-failed-requires-2 : tie.Need-failed-requires-2
-failed-requires-2 c κs = search needs
+failed-answer-requires-2 : tie.Need-failed-answer-requires-2
+failed-answer-requires-2 c κs = search needs
 
 returns-2 : tie.Need-returns-2
-returns-2 c = simp (c .failed2 .ensures, lt-ltb _ _ (c .before .if1 .taken), c .before .before .before .b .given .1)
+returns-2 c = simp (c .failed-answer2 .ensures, lt-ltb _ _ (c .before .if1 .taken), c .before .before .before .b .given .1)
 
 lowest-requires : tie.Need-lowest-requires
 lowest-requires c κs = search needs
@@ -48,9 +48,9 @@ version-brought-spec =
     (tie.spec
     enum-known-b
     enum-told
-    failed-requires
+    failed-answer-requires
     returns
-    failed-requires-2
+    failed-answer-requires-2
     returns-2
     lowest-requires
     without-requires

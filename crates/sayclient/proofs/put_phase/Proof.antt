@@ -38,8 +38,8 @@ slice-aggregate-put-bytes-4 c = search needs
 put-bytes-requires-4 : tie.Need-put-bytes-requires-4
 put-bytes-requires-4 c κs = search needs
 
-enum-told-2 : tie.Need-enum-told-2
-enum-told-2 c = search needs
+enum-known-p-4 : tie.Need-enum-known-p-4
+enum-known-p-4 c = search needs
 
 slice-aggregate-put-bytes-5 : tie.Need-slice-aggregate-put-bytes-5
 slice-aggregate-put-bytes-5 c = search needs
@@ -47,8 +47,8 @@ slice-aggregate-put-bytes-5 c = search needs
 put-bytes-requires-5 : tie.Need-put-bytes-requires-5
 put-bytes-requires-5 c κs = search needs
 
-enum-known-p-4 : tie.Need-enum-known-p-4
-enum-known-p-4 c = search needs
+enum-known-p-5 : tie.Need-enum-known-p-5
+enum-known-p-5 c = search needs
 
 slice-aggregate-put-bytes-6 : tie.Need-slice-aggregate-put-bytes-6
 slice-aggregate-put-bytes-6 c = search needs
@@ -84,13 +84,13 @@ same-length-5 : tie.Need-same-length-5
 same-length-5 c = search needs
 
 returns-5 : tie.Need-returns-5
-returns-5 c = rw (c .before .before .before .before .before .enum-told2 .given .1) (c .before .before .put-bytes5 .ensures)
+returns-5 c = rw (c .before .before .before .before .before .before .p4 .given .1) (c .before .before .put-bytes5 .ensures)
 
 same-length-6 : tie.Need-same-length-6
 same-length-6 c = search needs
 
 returns-6 : tie.Need-returns-6
-returns-6 c = rw (c .before .before .before .before .before .before .p4 .given .1) (c .before .before .put-bytes6 .ensures)
+returns-6 c = rw (c .before .before .before .before .before .before .p5 .given .1) (c .before .before .put-bytes6 .ensures)
 
 pub put-phase-spec : {M : Type 1} → statement M
 put-phase-spec =
@@ -108,10 +108,10 @@ put-phase-spec =
     enum-known-p-3
     slice-aggregate-put-bytes-4
     put-bytes-requires-4
-    enum-told-2
+    enum-known-p-4
     slice-aggregate-put-bytes-5
     put-bytes-requires-5
-    enum-known-p-4
+    enum-known-p-5
     slice-aggregate-put-bytes-6
     put-bytes-requires-6
     same-length

@@ -108,8 +108,8 @@ mul-result-8 c = search needs
 add-result-14 : tie.Need-add-result-14
 add-result-14 c = search needs
 
-enum-told-2 : tie.Need-enum-told-2
-enum-told-2 c = search needs
+enum-known-p-4 : tie.Need-enum-known-p-4
+enum-known-p-4 c = search needs
 
 mul-result-9 : tie.Need-mul-result-9
 mul-result-9 c = search needs
@@ -117,8 +117,8 @@ mul-result-9 c = search needs
 add-result-15 : tie.Need-add-result-15
 add-result-15 c = search needs
 
-enum-known-p-4 : tie.Need-enum-known-p-4
-enum-known-p-4 c = search needs
+enum-known-p-5 : tie.Need-enum-known-p-5
+enum-known-p-5 c = search needs
 
 steps-done-requires-3 : tie.Need-steps-done-requires-3
 steps-done-requires-3 c κs = search needs
@@ -147,11 +147,11 @@ returns-4 c = simp (c .minus3 .ensures, c .before .steps-done2 .ensures, c .befo
 
 returns-5 : tie.Need-returns-5
 unfolding possible
-returns-5 c = simp (c .enum-told2 .given .1, c .before .before .minus .ensures, c .before .before .before .size2 .ensures .0, c .before .before .before .before .size .ensures .0)
+returns-5 c = simp (c .before .p4 .given .1, c .before .before .before .minus .ensures, c .before .before .before .before .size2 .ensures .0, c .before .before .before .before .before .size .ensures .0)
 
 returns-6 : tie.Need-returns-6
 unfolding possible
-returns-6 c = simp (c .minus4 .ensures, c .before .steps-done3 .ensures, c .before .before .before .p4 .given .1, c .before .before .before .before .before .minus .ensures, c .before .before .before .before .before .before .size2 .ensures .0, c .before .before .before .before .before .before .before .size .ensures .0)
+returns-6 c = simp (c .minus4 .ensures, c .before .steps-done3 .ensures, c .before .before .before .p5 .given .1, c .before .before .before .before .before .minus .ensures, c .before .before .before .before .before .before .size2 .ensures .0, c .before .before .before .before .before .before .before .size .ensures .0)
 
 pub possible-spec : {M : Type 1} → statement M
 possible-spec =
@@ -192,10 +192,10 @@ possible-spec =
     add-result-13
     mul-result-8
     add-result-14
-    enum-told-2
+    enum-known-p-4
     mul-result-9
     add-result-15
-    enum-known-p-4
+    enum-known-p-5
     steps-done-requires-3
     mul-minus-3
     minus-requires-4

@@ -1,0 +1,56 @@
+-- What a call of any event is among the events of the theorems. xs is the client's map, zs the map that synced reads.
+use mathlib.Core.Path.{_≡_}
+use mathlib.Core.List.{List}
+use Prim.Native.Nat.{ℕ}
+use Rattle.forms.specs.declared.Event as forms
+use Rattle.client.specs.declared.Client.{Client}
+use Rattle.client.specs.Client.{carried, removeTurn, writeTurn, answerTurn}
+use Rattle.events.specs.Events.{Event, Lent}
+
+abbrev pub eventOf : forms.Event → List ℕ → List ℕ → Event
+eventOf (forms.Event.JoinCreate id) xs zs = Event.joinCreate id
+eventOf (forms.Event.JoinAssemble id set version) xs zs = Event.joinAssemble id set version
+eventOf (forms.Event.Enable id) xs zs = Event.enable id
+eventOf (forms.Event.Maintenance id) xs zs = Event.maintenance id
+eventOf (forms.Event.LinkDown id) xs zs = Event.linkDown id
+eventOf (forms.Event.StoreCheck id) xs zs = Event.storeCheck id
+eventOf forms.Event.Try xs zs = Event.tryRun
+eventOf (forms.Event.Remove id mode) xs zs = Event.remove xs id mode
+eventOf (forms.Event.Write chunk reached) xs zs = Event.write xs chunk reached
+eventOf (forms.Event.Synced member chunk n) xs zs = Event.synced zs member chunk
+eventOf (forms.Event.Answer number a) xs zs = Event.answer xs number a
+
+-- which of the two maps is lent
+abbrev pub lentOf : forms.Event → List ℕ → List ℕ → Lent
+lentOf (forms.Event.JoinCreate id) own other = Lent.none
+lentOf (forms.Event.JoinAssemble id set version) own other = Lent.none
+lentOf (forms.Event.Enable id) own other = Lent.none
+lentOf (forms.Event.Maintenance id) own other = Lent.none
+lentOf (forms.Event.LinkDown id) own other = Lent.none
+lentOf (forms.Event.StoreCheck id) own other = Lent.none
+lentOf forms.Event.Try own other = Lent.none
+lentOf (forms.Event.Remove id mode) own other = Lent.some own
+lentOf (forms.Event.Write chunk reached) own other = Lent.some own
+lentOf (forms.Event.Synced member chunk n) own other = Lent.some other
+lentOf (forms.Event.Answer number a) own other = Lent.some own
+
+-- the client's map after the event: as it was where it is not lent
+abbrev pub ownLeft : forms.Event → Client → List ℕ → List ℕ
+ownLeft (forms.Event.JoinCreate id) c xs = xs
+ownLeft (forms.Event.JoinAssemble id set version) c xs = xs
+ownLeft (forms.Event.Enable id) c xs = xs
+ownLeft (forms.Event.Maintenance id) c xs = xs
+ownLeft (forms.Event.LinkDown id) c xs = xs
+ownLeft (forms.Event.StoreCheck id) c xs = xs
+ownLeft forms.Event.Try c xs = xs
+ownLeft (forms.Event.Remove id mode) c xs = carried (removeTurn c xs id mode .effect) xs
+ownLeft (forms.Event.Write chunk reached) c xs = carried (writeTurn c xs chunk reached .effect) xs
+ownLeft (forms.Event.Synced member chunk n) c xs = xs
+ownLeft (forms.Event.Answer number a) c xs = carried (answerTurn c xs number a .effect) xs
+
+-- every event of the theorems is that of a call
+pub record Called (e : Event) : Type 0 where
+  pub call : forms.Event
+  pub xs : List ℕ
+  pub zs : List ℕ
+  pub is : eventOf call xs zs ≡ e

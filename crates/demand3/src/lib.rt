@@ -1,0 +1,1 @@
+// No code: demand 3, both halves as one theorem.

@@ -1,0 +1,106 @@
+-- Histories of three members in which every hypothesis of the theorems is met, by computation.
+use mathlib.Core.Path.{_≡_, refl}
+use mathlib.Core.Bool.{Bool, true, false, _&&_}
+use mathlib.Core.List.{List, [], _∷_, _++_}
+use Prim.Native.Nat.{ℕ}
+use lib.ListN.{replicate}
+use Rattle.laws.specs.Words.{bit}
+use Rattle.laws.specs.Tests.{and-left, and-right}
+use Rattle.sets.specs.Sets.{has, with, without, size, lowest}
+use Rattle.maps.specs.Map.{sound, cleanFrom, spare, room}
+use Rattle.state.specs.declared.Mode.{Mode}
+use Rattle.state.specs.declared.Brought.{Brought}
+use Rattle.state.specs.declared.Reply.{Reply}
+use Rattle.roster.specs.declared.Kind.{Kind}
+use Rattle.roster.specs.Roster.{idsOf}
+use Rattle.changes.specs.Changes.{entered, left, failed, went, removing}
+use Rattle.run.specs.Run as run
+use Rattle.run.specs.Still.{possible}
+use Rattle.recovery.specs.Cases as cases
+use Rattle.recovery.specs.Recovery.{posted, tried}
+use Rattle.rules.specs.Rules.{rosterOk, allAsked, oneAsked, runOk, validPool}
+use Rattle.joins.specs.Joins.{joinTold, createRefusal, created, createDone, joinCreate, setBars, assembleRefusal, assembled, assembleDone, joinAssemble}
+use Rattle.enables.specs.Enables.{enables, enableRefusal, enableDone, enable, maintenanceRefusal, maintenanceDone, maintenance}
+use Rattle.links.specs.Links.{drops, downRefusal, dropped, downDone, linkDown, checks, checkRefusal, checkDone, storeCheck}
+use Rattle.writes.specs.Writes.{reachBars, writeRefusal, missStep, missed, marks, writeDone, writeEnded}
+use Rattle.removal.specs.Removal.{due, freedFrom, onward, departed, started}
+use Rattle.removal.specs.Remove.{removeRefusal, remove}
+use Rattle.answers.specs.Answers.{answerRefusal, movedOn, answer}
+use Rattle.client.specs.declared.Client.{Client}
+use Rattle.client.specs.Client.{fresh, removeTurn, writeTurn, answerTurn}
+use Rattle.events.specs.Events.{Event, outOf, next, isAccepted}
+use Rattle.events.specs.Demand2.{Reached}
+use Rattle.events.specs.Said.{Accepts, membersOf, versionOf}
+
+-- ---- histories
+
+abbrev after : List Event → Client → Client
+after [] c = c
+after (e ∷ es) c = after es (next e c)
+
+-- every event of it is accepted
+abbrev accepted : List Event → Client → Bool
+accepted [] c = true
+accepted (e ∷ es) c = isAccepted (outOf e c .answer) && accepted es (next e c)
+
+-- So each is an accepted event at a reached client.
+accepts : (es : List Event) (e : Event) (rest : List Event) (c : Client) → Reached c → accepted (es ++ (e ∷ rest)) c ≡ true → Accepts (after es c) e
+accepts [] e rest c r d = record { reached = r; done = and-left (isAccepted (outOf e c .answer)) (accepted rest (next e c)) d }
+accepts (f ∷ es) e rest c r d = accepts es e rest (next f c) (Reached.then c f r) (and-right (isAccepted (outOf f c .answer)) (accepted (es ++ (e ∷ rest)) (next f c)) d)
+
+-- ---- three members
+
+abbrev zeros : List ℕ
+zeros = replicate 8192 0
+
+abbrev pool : Client
+pool = fresh false 4096
+
+abbrev good : ℕ → Event
+good number = Event.answer zeros number (Reply.Good Brought.Nothing)
+
+-- 0, 1 and 2 created and enabled
+abbrev three : List Event
+three = Event.joinCreate 0 ∷ Event.joinCreate 1 ∷ Event.joinCreate 2 ∷ Event.enable 0 ∷ Event.enable 1 ∷ Event.enable 2 ∷ []
+
+-- A write reaches 1 alone, 0 is checked and a run begins, an answer is taken, the link of 1 goes down; 1 is checked, is the source of the next run and becomes NORMAL.
+abbrev fails : List Event
+fails = three ++ (Event.write zeros 7 2 ∷ Event.storeCheck 0 ∷ good 1 ∷ Event.linkDown 1 ∷ Event.storeCheck 1 ∷ good 3 ∷ [])
+
+-- 2 goes into maintenance, fails, is checked, leaves maintenance, and is brought back; then a write reaches none.
+abbrev mends : List Event
+mends = three ++ (Event.maintenance 2 ∷ Event.linkDown 2 ∷ Event.storeCheck 2 ∷ Event.enable 2 ∷ good 1 ∷ good 2 ∷ good 3 ∷ Event.write zeros 7 0 ∷ [])
+
+-- 1 is deleted: it leaves, the link of 0, awaited, goes down; the deletion starts over and tells 2.
+abbrev leaves : List Event
+leaves = three ++ (Event.remove zeros 1 Mode.Delete ∷ good 1 ∷ Event.linkDown 0 ∷ Event.remove zeros 1 Mode.Delete ∷ good 3 ∷ [])
+
+-- a node assembled on an empty membership fails and is removed: nothing is due
+abbrev alone : List Event
+alone = Event.joinAssemble 2 4 9 ∷ Event.linkDown 2 ∷ Event.remove zeros 2 Mode.Disassemble ∷ []
+
+-- What they leave: the version, and who is NORMAL, marked, flagged or present.
+abbrev Left : Type 0
+Left = ℕ × ℕ × ℕ × ℕ × ℕ
+
+abbrev left-by : List Event → Left
+left-by es = (
+  versionOf (after es pool),
+  idsOf Kind.Normals (after es pool .pool .roster),
+  idsOf Kind.Marked (after es pool .pool .roster),
+  idsOf Kind.Maintained (after es pool .pool .roster),
+  idsOf Kind.Present (after es pool .pool .roster),
+)
+
+worked :
+    (accepted fails pool ≡ true)
+    × (accepted mends pool ≡ true)
+    × (accepted leaves pool ≡ true)
+    × (accepted alone pool ≡ true)
+    × (left-by fails ≡ (4, 2, 0, 0, 7))
+    × (left-by mends ≡ (4, 0, 4, 0, 7))
+    × (left-by leaves ≡ (2, 4, 0, 0, 5))
+    × (membersOf (after leaves pool) ≡ 5)
+    × (left-by alone ≡ (9, 0, 0, 0, 0))
+unfolding bit has with without size lowest sound cleanFrom spare room idsOf entered left failed went removing run.receiver run.failedAnswer run.good run.awaitedIn possible cases.caseOf cases.begun posted tried rosterOk allAsked oneAsked runOk validPool joinTold createRefusal created createDone joinCreate setBars assembleRefusal assembled assembleDone joinAssemble enables enableRefusal enableDone enable maintenanceRefusal maintenanceDone maintenance drops downRefusal dropped downDone linkDown checks checkRefusal checkDone storeCheck reachBars writeRefusal missStep missed marks writeDone writeEnded due freedFrom onward departed started removeRefusal remove answerRefusal movedOn answer removeTurn writeTurn answerTurn
+worked = (refl, refl, refl, refl, refl, refl, refl, refl, refl)

@@ -1,0 +1,465 @@
+-- What the events of a removal leave of its session, of the member and of the client map; and that no other event frees a session or takes a member out.
+use mathlib.Core.Path.{_≡_, refl, sym, ap, _∙_, subst}
+use mathlib.Core.Logic.{_≢_}
+use mathlib.Core.Bool.{Bool, true, false, not, _&&_}
+use mathlib.Core.List.{List}
+use Prim.Native.Nat.{ℕ, _<_}
+use native.Mathlib.Decide.{ℕ-discrete}
+use native.Mathlib.Omega.{arith}
+use lib.Dec.{eqb, ltb}
+use borrow.Author.Tests.{eqb-true, eq-eqb, ne-eqb, ltb-true, ltb-false}
+use Rattle.laws.specs.Words.{pick}
+use Rattle.laws.specs.Tests.{by-cases, clash, and-left, and-right, and-false}
+use Rattle.sets.specs.Sets.{has, with, without, countTo, size, lowest}
+use Rattle.sets.proofs.Laws.{has-below, has-none, has-with-same, has-with-other, has-without-same, has-without-other, countTo-same, countTo-none, size-some, lowest-in, lowest-le, lowest-nobody}
+use Rattle.maps.specs.Map.{zeroRow, zeroed}
+use Rattle.state.specs.declared.Mode.{Mode}
+use Rattle.state.specs.declared.State.{State}
+use Rattle.state.specs.declared.Session.{Session}
+use Rattle.state.specs.declared.Roster.{Roster}
+use Rattle.state.specs.declared.Stage.{Stage}
+use Rattle.state.specs.declared.Removal.{Removal}
+use Rattle.state.specs.declared.Job.{Job}
+use Rattle.state.specs.declared.Pool.{Pool}
+use Rattle.state.specs.declared.Reply.{Reply}
+use Rattle.state.specs.declared.Effect.{Effect}
+use Rattle.state.specs.declared.Turn.{Turn}
+use Rattle.state.specs.Session.{isFree, isNormal, isRemoving, isDelete, isDeleting, isOwed, isTold, free}
+use Rattle.state.specs.Table.{legal}
+use Rattle.roster.specs.declared.Kind.{Kind}
+use Rattle.roster.specs.Roster.{sessionAt}
+use Rattle.changes.specs.declared.Way.{Way}
+use Rattle.changes.specs.Changes.{owes, removing}
+use Rattle.run.specs.declared.Who.{Who}
+use Rattle.run.specs.Run.{takes}
+use Rattle.keeps.specs.Ids.{Long, ids-has}
+use Rattle.keeps.specs.Pools.{Valid, RemovalOk, removal-facts}
+use Rattle.keeps.specs.Changes.{removing-at}
+use Rattle.keeps.specs.Records.{entered-numbers, left-numbers}
+use Rattle.keeps.specs.Tried.{tried-roster}
+use Rattle.recovery.specs.Recovery.{withRoster}
+use Rattle.exits.proofs.Laws.{turned}
+use Rattle.joins.specs.Joins.{createRefusal, createDone, joinCreate, assembleRefusal, assembled, assembleDone, joinAssemble}
+use Rattle.joins.proofs.Kept.{created-numbers, assembled-numbers}
+use Rattle.enables.specs.Enables.{enableRefusal, enable, maintenanceRefusal, maintenanceDone, maintenance}
+use Rattle.enables.proofs.Kept.{enable-passed, enabled-numbers, maintenance-passed}
+use Rattle.links.specs.Links.{downRefusal, dropped, downDone, linkDown, checkRefusal, storeCheck, tryRefusal, tryRun}
+use Rattle.links.proofs.Kept.{down-roster, normal-dropped, other-dropped, checked-numbers}
+use Rattle.writes.specs.Writes.{writeRefusal, writeEnded}
+use Rattle.writes.proofs.Kept.{write-passed, write-roster, missed-does, synced-same}
+use Rattle.removal.specs.Removal as removal
+use Rattle.removal.specs.declared.Gone.{Gone}
+use Rattle.removal.specs.Remove.{removeRefusal, removeBegun, gone, remove}
+use Rattle.removal.proofs.Steps.{Goes, isDue, isOut, departed-goes, started-goes, told-goes, paid-at, paid-other, paid-long, paid-numbers, removing-other, removing-numbers, removing-long, Removable, remove-passed}
+use Rattle.client.specs.declared.Client.{Client}
+use Rattle.client.specs.Client.{carried, soundFor, removeTurn, writeTurn, answerTurn, syncedTurn, cleanTo}
+use Rattle.answers.specs.Answers.{answerRefusal, enteredBy, answered, answer}
+use Rattle.answers.proofs.Kept.{run-roster}
+use Rattle.events.specs.Events.{Event, outOf, next, isAccepted, Lent, mapLeft}
+use Rattle.events.specs.Demand2.{recordOf, stateOf, isSync, nobodyLeft}
+use Rattle.events.specs.Said.{membersOf, versionOf, jobOf, Part, answerPart, partOf, isGood, isLeave, notOwed, isLater, nothingDue, frees, takesOut, rowsAfter}
+use Rattle.events.proofs.States.{and-true, removing-lives, not-told, owes-is, mode-same}
+use Rattle.events.proofs.Fates.{isPart, Fate, kept-stands, event-fate}
+use Rattle.events.proofs.Shape.{taken}
+
+-- ---- what is due
+
+-- nobody of a set is left, said of its ids
+none-lowest : (set : ℕ) (p : ℕ → Bool) → ((j : ℕ) → j < 16 → has set j ≡ p j) → not (ltb (lowest set) 16) ≡ eqb (countTo p 16) 0
+unfolding size
+none-lowest set p same =
+    by-cases (ltb (lowest set) 16)
+    (λ l. let b = ltb-true (lowest set) 16 l in
+    let n = size-some set (lowest set) (lowest-in set b) in
+    rw (l, ← countTo-same (has set) p 16 same) (sym (ne-eqb (countTo (has set) 16) 0 (λ z. absurd (let y : ⊥ = omega (arith, n, z) in y)))))
+    (λ l. let e : lowest set ≡ 16 = omega (arith, lowest-le set, ltb-false (lowest set) 16 l) in
+    rw (l, ← countTo-same (has set) p 16 same) (sym (eq-eqb (countTo (has set) 16) 0 (countTo-none (has set) 16 (λ j h. lowest-nobody set e j)))))
+
+told-has : (st : Stage) (ro : Roster) → Long ro → (j : ℕ) → j < 16 → has (removal.tellable st ro) j ≡ (isTold (sessionAt ro j .state) && isLater st j)
+told-has Stage.Leave ro l j h = ids-has Kind.Told ro l j h ∙ sym (and-true (isTold (sessionAt ro j .state)))
+told-has (Stage.Info peer) ro l j h = ids-has (Kind.Later peer) ro l j h
+
+-- in a pool whose other sessions are those of c, and whose own session is told nothing
+due-is : (c : Client) (id : ℕ) (st : Stage) (ro : Roster) → Long ro → ro .sync ≡ isSync c → isTold (sessionAt ro id .state) ≡ false → ((j : ℕ) → j ≢ id → sessionAt ro j ≡ recordOf c j)
+    → not (isDue st ro) ≡ nothingDue c id st
+unfolding removal.due
+due-is c id st ro l kind own others = at (ro .sync) refl
+  where
+    same : (j : ℕ) → j < 16 → has (removal.tellable st ro) j ≡ (isTold (stateOf c j) && (isLater st j && not (eqb j id)))
+    same j h =
+        told-has st ro l j h
+        ∙ elim (ℕ-discrete j id) [
+          | yes e ↦ rw (e, own, eq-eqb id id refl, and-false (isLater st id)) (sym (and-false (isTold (stateOf c id))))
+          | no d ↦ rw (others j d, ne-eqb j id d, and-true (isLater st j)) refl
+        ]
+
+    at : (b : Bool) → ro .sync ≡ b → not (ltb (pick b 16 (lowest (removal.tellable st ro))) 16) ≡ nothingDue c id st
+    at true e = rw (sym kind ∙ e) refl
+    at false e = rw (sym kind ∙ e) (none-lowest (removal.tellable st ro) (λ j. isTold (stateOf c j) && (isLater st j && not (eqb j id))) same)
+
+-- ---- the events of a removal
+
+-- what one leaves: whether the session is freed, and whether the member is taken out
+pub record Leaves (c : Client) (id : ℕ) (t : Turn) (freed out : Bool) : Type 0 where
+  pub own : isFree (sessionAt (t .pool .roster) id .state) ≡ freed
+  pub others : (j : ℕ) → j ≢ id → sessionAt (t .pool .roster) j ≡ recordOf c j
+  pub held : t .pool .roster .members ≡ pick (out && not (isSync c)) (without (membersOf c) id) (membersOf c)
+  pub effect : t .effect ≡ pick (freed && (nobodyLeft (t .pool .roster) && not (isSync c))) Effect.ZeroAll (pick (out && not (isSync c)) (Effect.ZeroRow id) Effect.Keep)
+
+-- from a removal's own step, g, at a pool p whose other sessions and membership are those of c, and whose own session is REMOVING
+leaves-of : (c : Client) (id : ℕ) (p : Pool) (g : Gone) (freed freed′ out : Bool) (members : ℕ) (e : Effect) → Goes p id g freed members e
+    → isRemoving (sessionAt (p .roster) id .state) ≡ true → ((j : ℕ) → j ≢ id → sessionAt (p .roster) j ≡ recordOf c j) → p .roster .sync ≡ isSync c
+    → freed ≡ freed′ → members ≡ pick (out && not (isSync c)) (without (membersOf c) id) (membersOf c) → e ≡ pick (out && not (isSync c)) (Effect.ZeroRow id) Effect.Keep
+    → Leaves c id (gone (c .pool) g) freed′ out
+leaves-of c id p g freed freed′ out members e s own others kind f m d =
+    record {
+      own = ap (λ (x : Session). isFree (x .state)) (s .own) ∙ (is-free freed ∙ f);
+      others = λ j ne. s .others j ne ∙ others j ne;
+      held = s .numbers .held ∙ m;
+      effect = s .effect ∙ rw (f, d, kind) refl;
+    }
+  where
+    is-free : (b : Bool) → isFree (pick b free (sessionAt (p .roster) id) .state) ≡ b
+    is-free true = refl
+    is-free false = removing-lives (sessionAt (p .roster) id .state) own
+
+pick-not : (n d : Bool) → pick (not n) false d ≡ (n && d)
+pick-not true d = refl
+pick-not false d = refl
+
+pick-out {ℓ} : {A : Type ℓ} (n d s : Bool) (w m : A) → pick (not n) m (pick (d && s) w m) ≡ pick ((d && n) && s) w m
+pick-out true true s w m = refl
+pick-out true false s w m = refl
+pick-out false true s w m = refl
+pick-out false false s w m = refl
+
+module _ (c : Client) (id : ℕ) (mode : Mode) (v : Valid (c .pool)) (h : Removable (c .pool) id mode) where
+  -- the sessions with this one REMOVING
+  here : sessionAt (removing (c .pool .roster) id mode) id .state ≡ State.Removing mode (owes (stateOf c id))
+  here = ap (λ (s : Session). s .state) (removing-at (c .pool .roster) id mode (v .ok .long) (h .below))
+
+  kind : removing (c .pool .roster) id mode .sync ≡ isSync c
+  kind = removing-numbers (c .pool .roster) id mode (isSync c) refl .kind
+
+  held : removing (c .pool .roster) id mode .members ≡ membersOf c
+  held = removing-numbers (c .pool .roster) id mode (isSync c) refl .held
+
+  owed : isOwed (sessionAt (removing (c .pool .roster) id mode) id .state) ≡ not (notOwed (stateOf c id))
+  owed = ap isOwed here ∙ owes-is (stateOf c id)
+
+  out : isOut (withRoster (c .pool) (removing (c .pool .roster) id mode)) id ≡ (isDelete mode && not (isSync c))
+  out = ap (λ (st : State). isDeleting st && not (removing (c .pool .roster) id mode .sync)) here ∙ ap (λ (b : Bool). isDelete mode && not b) (kind)
+
+  due : not (isDue Stage.Leave (removing (c .pool .roster) id mode)) ≡ nothingDue c id Stage.Leave
+  due =
+      due-is c id Stage.Leave (removing (c .pool .roster) id mode) (removing-long (c .pool .roster) id mode (v .ok .long)) (kind) (ap isTold here)
+      (λ j ne. removing-other (c .pool .roster) id j mode ne)
+
+  freed-is : pick (isOwed (sessionAt (removing (c .pool .roster) id mode) id .state)) false (not (isDue Stage.Leave (removing (c .pool .roster) id mode))) ≡ frees (Part.remove id mode) c id
+  freed-is =
+      ap (λ (b : Bool). pick b false (not (isDue Stage.Leave (removing (c .pool .roster) id mode)))) owed
+      ∙ (pick-not (notOwed (stateOf c id)) (not (isDue Stage.Leave (removing (c .pool .roster) id mode)))
+      ∙ (ap (λ (b : Bool). notOwed (stateOf c id) && b) due ∙ sym (ap (λ (b : Bool). b && (notOwed (stateOf c id) && nothingDue c id Stage.Leave)) (eq-eqb id id refl))))
+
+  remove-leaves : Leaves c id (gone (c .pool) (removeBegun (c .pool) id mode)) (notOwed (stateOf c id) && nothingDue c id Stage.Leave) (isDelete mode && notOwed (stateOf c id))
+  remove-leaves =
+      leaves-of c id (withRoster (c .pool) (removing (c .pool .roster) id mode)) (removeBegun (c .pool) id mode) _ _ (isDelete mode && notOwed (stateOf c id)) _ _
+      (started-goes (withRoster (c .pool) (removing (c .pool .roster) id mode)) id (removing-long (c .pool .roster) id mode (v .ok .long)) (h .below))
+      (ap isRemoving here) (λ j ne. removing-other (c .pool .roster) id j mode ne) (kind)
+      (freed-is ∙ ap (λ (b : Bool). b && (notOwed (stateOf c id) && nothingDue c id Stage.Leave)) (eq-eqb id id refl))
+      (rw (owed, out, held) (pick-out (notOwed (stateOf c id)) (isDelete mode) (not (isSync c)) (without (membersOf c) id) (membersOf c)))
+      (rw (owed, out) (pick-out (notOwed (stateOf c id)) (isDelete mode) (not (isSync c)) (Effect.ZeroRow id) Effect.Keep))
+
+-- ---- answers
+
+-- LEAVE_POOL is answered well
+left-leaves : (c : Client) (id : ℕ) → Valid (c .pool) → id < 16 → isRemoving (stateOf c id) ≡ true
+    → Leaves c id (gone (c .pool) (removal.departed (removal.paid (c .pool) id) id)) (nothingDue c id Stage.Leave) (isDeleting (stateOf c id))
+left-leaves c id v h m =
+    let q = removal.paid (c .pool) id in
+    let n = paid-numbers (c .pool) id in
+    let l = paid-long (c .pool) id (v .ok .long) in
+    let here = ap (λ (s : Session). s .state) (paid-at (c .pool) id (v .ok .long) h) in
+    let out : isOut q id ≡ (isDeleting (stateOf c id) && not (isSync c)) = ap (λ (st : State). isDeleting st && not (q .roster .sync)) here ∙ (ap (λ (b : Bool). isDelete (removal.modeOf (stateOf c id)) && not b) (n .kind) ∙ ap (λ (b : Bool). b && not (isSync c)) (mode-same (stateOf c id))) in
+    leaves-of c id q (removal.departed q id) _ (nothingDue c id Stage.Leave) (isDeleting (stateOf c id)) _ _ (departed-goes q id l h)
+    (ap isRemoving here) (λ j ne. paid-other (c .pool) id j ne) (n .kind)
+    (due-is c id Stage.Leave (q .roster) l (n .kind) (ap isTold here) (λ j ne. paid-other (c .pool) id j ne))
+    (rw (out, n .held) refl) (rw out refl)
+
+-- a POOL_INFO is
+told-leaves : (c : Client) (id peer : ℕ) → Valid (c .pool) → id < 16 → isRemoving (stateOf c id) ≡ true
+    → Leaves c id (gone (c .pool) (removal.wellAnswered (Stage.Info peer) (c .pool) id)) (nothingDue c id (Stage.Info peer)) false
+told-leaves c id peer v h m =
+    leaves-of c id (c .pool) (removal.wellAnswered (Stage.Info peer) (c .pool) id) _ (nothingDue c id (Stage.Info peer)) false _ _ (told-goes (c .pool) id peer (v .ok .long) h)
+    m (λ j ne. refl) refl
+    (due-is c id (Stage.Info peer) (c .pool .roster) (v .ok .long) refl (not-told (stateOf c id) m) (λ j ne. refl)) refl refl
+
+leaves-as : (c : Client) (id : ℕ) (t : Turn) (f f′ o o′ : Bool) → f ≡ f′ → o ≡ o′ → Leaves c id t f o → Leaves c id t f′ o′
+leaves-as c id t f f′ o o′ p q s = rw (← p, ← q) s
+
+well-leaves : (st : Stage) (c : Client) (id : ℕ) → Valid (c .pool) → id < 16 → isRemoving (stateOf c id) ≡ true
+    → Leaves c id (gone (c .pool) (removal.wellAnswered st (c .pool) id)) (nothingDue c id st) (isDeleting (stateOf c id) && isLeave st)
+well-leaves Stage.Leave c id v h m =
+    leaves-as c id _ (nothingDue c id Stage.Leave) _ (isDeleting (stateOf c id)) _ refl (sym (and-true (isDeleting (stateOf c id)))) (left-leaves c id v h m)
+well-leaves (Stage.Info peer) c id v h m =
+    leaves-as c id _ (nothingDue c id (Stage.Info peer)) _ false _ refl (sym (and-false (isDeleting (stateOf c id)))) (told-leaves c id peer v h m)
+
+answered-leaves : (m : Removal) (c : Client) (a : Reply) → Valid (c .pool) → RemovalOk (c .pool .roster) m
+    → Leaves c (m .id) (answered (Job.Removing m) (c .pool) a) (isGood a && nothingDue c (m .id) (m .stage)) (isDeleting (stateOf c (m .id)) && (isGood a && isLeave (m .stage)))
+answered-leaves m c Reply.Failed v h =
+    record {
+      own = removing-lives (stateOf c (m .id)) (h .removing);
+      others = λ j ne. refl;
+      held = rw (and-false (isDeleting (stateOf c (m .id)))) refl;
+      effect = rw (and-false (isDeleting (stateOf c (m .id)))) refl;
+    }
+answered-leaves m c (Reply.Good b) v h = well-leaves (m .stage) c (m .id) v (h .below) (h .removing)
+
+-- ---- what that says of each session, of each member and of the map
+
+module _ (c : Client) (i : ℕ) (t : Turn) (freed out : Bool) (s : Leaves c i t freed out) where
+  free-at : (id : ℕ) → isFree (stateOf c id) ≡ false → (f : ℕ → Bool) → f i ≡ freed → isFree (sessionAt (t .pool .roster) id .state) ≡ (eqb id i && f id)
+  free-at id was f same = elim (ℕ-discrete id i) [
+    | yes e ↦ rw (e, eq-eqb i i refl) (s .own ∙ sym same)
+    | no d ↦ rw (ne-eqb id i d) (ap (λ (x : Session). isFree (x .state)) (s .others id d) ∙ was)
+  ]
+
+  member-at : Valid (c .pool) → (id : ℕ) → has (membersOf c) id ≡ true → (f : ℕ → Bool) → f i ≡ out → has (t .pool .roster .members) id ≡ not (eqb id i && f id)
+  member-at v id was f same =
+      ap (λ (n : ℕ). has n id) (s .held ∙ ap (λ (b : Bool). pick (out && not b) (without (membersOf c) i) (membersOf c)) plain)
+      ∙ elim (ℕ-discrete id i) [
+        | yes e ↦ rw (e, eq-eqb i i refl, same) (at (rw e at was) out)
+        | no d ↦ rw (ne-eqb id i d) (other d (out && true))
+      ]
+    where
+      plain : isSync c ≡ false
+      plain = by-cases (isSync c) (λ y. clash was (ap (λ (n : ℕ). has n id) (eqb-true (membersOf c) 0 (rw y at (v .ok .none))) ∙ has-none id)) (λ y. y)
+
+      at : has (membersOf c) i ≡ true → (b : Bool) → has (pick (b && true) (without (membersOf c) i) (membersOf c)) i ≡ not b
+      at w true = has-without-same (membersOf c) i
+      at w false = w
+
+      other : id ≢ i → (b : Bool) → has (pick b (without (membersOf c) i) (membersOf c)) id ≡ true
+      other d true = has-without-other (membersOf c) i id d ∙ was
+      other d false = was
+
+  map-at : isSync c ≡ false → (xs : List ℕ) → carried (t .effect) xs ≡ pick (freed && nobodyLeft (t .pool .roster)) (zeroed xs) (pick out (zeroRow i xs) xs)
+  map-at plain xs =
+      ap (λ (e : Effect). carried e xs) (s .effect ∙ ap (λ (b : Bool). pick (freed && (nobodyLeft (t .pool .roster) && not b)) Effect.ZeroAll (pick (out && not b) (Effect.ZeroRow i) Effect.Keep)) plain)
+      ∙ at freed (nobodyLeft (t .pool .roster)) out
+    where
+      at : (f n o : Bool) → carried (pick (f && (n && true)) Effect.ZeroAll (pick (o && true) (Effect.ZeroRow i) Effect.Keep)) xs ≡ pick (f && n) (zeroed xs) (pick o (zeroRow i xs) xs)
+      at true true o = refl
+      at true false true = refl
+      at true false false = refl
+      at false n true = refl
+      at false n false = refl
+
+-- ---- the two events
+
+remove-does : (c : Client) (xs : List ℕ) (id : ℕ) (mode : Mode) → Valid (c .pool) → isAccepted (outOf (Event.remove xs id mode) c .answer) ≡ true
+    → Leaves c id (removeTurn c xs id mode) (notOwed (stateOf c id) && nothingDue c id Stage.Leave) (isDelete mode && notOwed (stateOf c id))
+unfolding remove removeTurn
+remove-does c xs id mode v =
+    taken (λ t. Leaves c id t (notOwed (stateOf c id) && nothingDue c id Stage.Leave) (isDelete mode && notOwed (stateOf c id))) (removeRefusal (c .pool) (soundFor c xs) id mode) (gone (c .pool) (removeBegun (c .pool) id mode)) (c .pool)
+    (λ e. remove-leaves c id mode v (remove-passed (c .pool) (soundFor c xs) id mode e))
+
+answer-does : (c : Client) (xs : List ℕ) (number : ℕ) (a : Reply) (m : Removal) → jobOf c ≡ Job.Removing m → Valid (c .pool) → isAccepted (outOf (Event.answer xs number a) c .answer) ≡ true
+    → Leaves c (m .id) (answerTurn c xs number a) (isGood a && nothingDue c (m .id) (m .stage)) (isDeleting (stateOf c (m .id)) && (isGood a && isLeave (m .stage)))
+unfolding answer answerTurn
+answer-does c xs number a m job v =
+    taken (λ t. Leaves c (m .id) t (isGood a && nothingDue c (m .id) (m .stage)) (isDeleting (stateOf c (m .id)) && (isGood a && isLeave (m .stage)))) (answerRefusal (c .pool) (soundFor c xs) number) (answered (c .pool .job) (c .pool) a) (c .pool)
+    (λ e. subst (λ (k : Job). Leaves c (m .id) (answered k (c .pool) a) (isGood a && nothingDue c (m .id) (m .stage)) (isDeleting (stateOf c (m .id)) && (isGood a && isLeave (m .stage)))) (sym job)
+    (answered-leaves m c a v (removal-facts (c .pool .roster) m (v .ok .long) (rw job at (v .job)))))
+
+-- ---- every other event
+
+part-none : (s : Part) (c : Client) (id : ℕ) → isPart s ≡ false → (frees s c id ≡ false) × (takesOut s c id ≡ false)
+part-none Part.none c id e = (refl, refl)
+part-none (Part.remove i mode) c id e = clash refl e
+part-none (Part.answer m a) c id e = clash refl e
+
+legal-some : (sync : Bool) (from to : State) → legal sync from to ≡ true → isFree to ≡ false
+legal-some sync from State.Free e = clash e (none from)
+  where
+    none : (st : State) → legal sync st State.Free ≡ false
+    none State.Free = refl
+    none State.Created = refl
+    none State.Normal = refl
+    none State.Failed = refl
+    none State.Reconnecting = refl
+    none (State.Removing m owed) = refl
+legal-some sync from State.Created e = refl
+legal-some sync from State.Normal e = refl
+legal-some sync from State.Failed e = refl
+legal-some sync from State.Reconnecting e = refl
+legal-some sync from (State.Removing m owed) e = refl
+
+-- a session that is left in a state that is one
+lives : (c′ : Client) (id : ℕ) (s : Session) → recordOf c′ id ≡ s → isFree (s .state) ≡ false → isFree (stateOf c′ id) ≡ false
+lives c′ id s r e = ap (λ (s : Session). isFree (s .state)) r ∙ e
+
+unfreed : (c : Client) (e : Event) (c′ : Client) (id : ℕ) → isPart (partOf e c) ≡ false → isFree (stateOf c id) ≡ false → Fate c e c′ id → isFree (stateOf c′ id) ≡ false
+unfreed c e c′ id p was (Fate.kept k) = ap isFree (kept-stands c c′ id k) ∙ was
+unfreed c e c′ id p was (Fate.begins x st r) = clash (ap isFree st) was
+unfreed c e c′ id p was (Fate.joins set version x plain st r) = clash (ap isFree st) was
+unfreed c e c′ id p was (Fate.goes to l n b r) = lives c′ id _ r (legal-some (isSync c) (stateOf c id) to l)
+unfreed c e c′ id p was (Fate.fails last x n b r) = lives c′ id _ r refl
+unfreed c e c′ id p was (Fate.maintained last x plain n b r) = lives c′ id _ r refl
+unfreed c e c′ id p was (Fate.unflagged x is r) = lives c′ id _ r was
+unfreed c e c′ id p was (Fate.paid mode st r) = lives c′ id _ r refl
+unfreed c e c′ id p was (Fate.freed i m r) = clash i p
+unfreed c e c′ id p was (Fate.removed xs mode x l r) = clash (ap (λ (e : Event). isPart (partOf e c)) x) p
+
+-- ---- the session
+
+freed-part : (e : Event) (c : Client) → Valid (c .pool) → isAccepted (outOf e c .answer) ≡ true → isPart (partOf e c) ≡ true → (id : ℕ) → isFree (stateOf c id) ≡ false → isFree (stateOf (next e c) id) ≡ frees (partOf e c) c id
+freed-part (Event.joinCreate i) c v d p id was = clash p refl
+freed-part (Event.joinAssemble i set version) c v d p id was = clash p refl
+freed-part (Event.enable i) c v d p id was = clash p refl
+freed-part (Event.maintenance i) c v d p id was = clash p refl
+freed-part (Event.linkDown i) c v d p id was = clash p refl
+freed-part (Event.storeCheck i) c v d p id was = clash p refl
+freed-part Event.tryRun c v d p id was = clash p refl
+freed-part (Event.remove xs i mode) c v d p id was =
+    free-at c i (removeTurn c xs i mode) _ _ (remove-does c xs i mode v d) id was (λ j. notOwed (stateOf c j) && nothingDue c j Stage.Leave) refl
+freed-part (Event.write xs chunk reached) c v d p id was = clash p refl
+freed-part (Event.synced xs member chunk) c v d p id was = clash p refl
+freed-part (Event.answer xs number a) c v d p id was = at (c .pool .job) refl p
+  where
+    at : (k : Job) → jobOf c ≡ k → isPart (answerPart k a) ≡ true → isFree (stateOf (next (Event.answer xs number a) c) id) ≡ frees (answerPart (jobOf c) a) c id
+    at Job.Idle job q = clash q refl
+    at (Job.Running r) job q = clash q refl
+    at (Job.Removing m) job q =
+        free-at c (m .id) (answerTurn c xs number a) _ _ (answer-does c xs number a m job v d) id was (λ j. isGood a && nothingDue c j (m .stage)) refl
+        ∙ sym (ap (λ (k : Job). frees (answerPart k a) c id) job)
+
+pub freed-said : (e : Event) (c : Client) → Valid (c .pool) → isAccepted (outOf e c .answer) ≡ true → (id : ℕ) → isFree (stateOf c id) ≡ false → isFree (stateOf (next e c) id) ≡ frees (partOf e c) c id
+freed-said e c v d id was =
+    by-cases (isPart (partOf e c))
+    (λ p. freed-part e c v d p id was)
+    (λ p. unfreed c e (next e c) id p was (event-fate e c id v) ∙ sym (part-none (partOf e c) c id p .0))
+
+-- ---- the member
+
+-- the pool's membership holds id
+abbrev Holds : ℕ → Pool → Type 0
+Holds id q = has (q .roster .members) id ≡ true
+
+-- link down changes no membership
+dropped-members : (ro : Roster) (id : ℕ) → dropped ro id .members ≡ ro .members
+dropped-members ro id =
+    by-cases (not (ro .sync) && isNormal (sessionAt ro id .state))
+    (λ e. normal-dropped ro id (not-true (ro .sync) (and-left (not (ro .sync)) (isNormal (sessionAt ro id .state)) e)) (and-right (not (ro .sync)) (isNormal (sessionAt ro id .state)) e) .held)
+    (λ e. other-dropped ro id e .held)
+  where
+    not-true : (b : Bool) → not b ≡ true → b ≡ false
+    not-true true e = sym e
+    not-true false e = refl
+
+-- no other event takes one out
+stays-member : (e : Event) (c : Client) → Valid (c .pool) → isPart (partOf e c) ≡ false → (id : ℕ) → has (membersOf c) id ≡ true → has (membersOf (next e c)) id ≡ true
+unfolding joinCreate createDone joinAssemble assembleDone enable maintenance maintenanceDone linkDown downDone storeCheck tryRun writeEnded writeTurn syncedTurn answer answerTurn
+stays-member (Event.joinCreate i) c v p id was =
+    turned (Holds id) (createRefusal (c .pool) i) _ (c .pool) was (λ e. ap (λ (n : ℕ). has n id) (created-numbers (c .pool .roster) i .held) ∙ entered (isSync c))
+  where
+    entered : (b : Bool) → has (pick b (membersOf c) (with (membersOf c) i)) id ≡ true
+    entered true = was
+    entered false = elim (ℕ-discrete id i) [ yes e ↦ rw e (has-with-same (membersOf c) i (has-below (membersOf c) i (rw e at was))) | no d ↦ has-with-other (membersOf c) i id d ∙ was ]
+stays-member (Event.joinAssemble i set version) c v p id was =
+    turned (Holds id) (assembleRefusal (c .pool) i set version) _ (c .pool) was
+    (λ e. ap (λ (ro : Roster). has (ro .members) id) (tried-roster (withRoster (c .pool) (assembled (c .pool .roster) i set version)))
+    ∙ (ap (λ (n : ℕ). has n id) (assembled-numbers (c .pool .roster) i set version .held)
+    ∙ by-cases (eqb (membersOf c) 0) (λ z. clash was (ap (λ (n : ℕ). has n id) (eqb-true (membersOf c) 0 z) ∙ has-none id)) (λ z. rw z was)))
+stays-member (Event.enable i) c v p id was =
+    turned (Holds id) (enableRefusal (c .pool) i) _ (c .pool) was (λ e. ap (λ (n : ℕ). has n id) (enabled-numbers (c .pool) i (enable-passed (c .pool) i e .plain) .held) ∙ was)
+stays-member (Event.maintenance i) c v p id was =
+    turned (Holds id) (maintenanceRefusal (c .pool) i) _ (c .pool) was
+    (λ e. ap (λ (n : ℕ). has n id) (left-numbers (c .pool .roster) i Way.Maintenance false (maintenance-passed (c .pool) i e .plain) .held) ∙ was)
+stays-member (Event.linkDown i) c v p id was =
+    turned (Holds id) (downRefusal (c .pool) i) _ (c .pool) was
+    (λ e. ap (λ (ro : Roster). has (ro .members) id) (down-roster (c .pool .job) (c .pool) i) ∙ (ap (λ (n : ℕ). has n id) (dropped-members (c .pool .roster) i) ∙ was))
+stays-member (Event.storeCheck i) c v p id was =
+    turned (Holds id) (checkRefusal (c .pool) i) _ (c .pool) was (λ e. ap (λ (n : ℕ). has n id) (checked-numbers (c .pool) i .held) ∙ was)
+stays-member Event.tryRun c v p id was = turned (Holds id) (tryRefusal (c .pool)) _ (c .pool) was (λ e. ap (λ (ro : Roster). has (ro .members) id) (tried-roster (c .pool)) ∙ was)
+stays-member (Event.remove xs i mode) c v p id was = clash refl p
+stays-member (Event.write xs chunk reached) c v p id was =
+    turned (Holds id) (writeRefusal (c .pool) (soundFor c xs) chunk reached) _ (c .pool) was
+    (λ e. ap (λ (ro : Roster). has (ro .members) id) (write-roster (c .pool) chunk reached)
+    ∙ (ap (λ (n : ℕ). has n id) (missed-does (c .pool .roster) reached (v .ok) (write-passed (c .pool) (soundFor c xs) chunk reached e .plain) .members) ∙ was))
+stays-member (Event.synced xs member chunk) c v p id was = ap (λ (q : Pool). has (q .roster .members) id) (synced-same (c .pool) (soundFor c xs) member chunk (cleanTo xs chunk 16)) ∙ was
+stays-member (Event.answer xs number a) c v p id was =
+    turned (Holds id) (answerRefusal (c .pool) (soundFor c xs) number) _ (c .pool) was (λ e. at (c .pool .job) p)
+  where
+    one : (w : Who) (ro : Roster) → ro ≡ enteredBy w (c .pool .roster) → has (ro .members) id ≡ true
+    one Who.Nobody ro e = ap (λ (x : Roster). has (x .members) id) e ∙ was
+    one (Who.One i) ro e = ap (λ (x : Roster). has (x .members) id) e ∙ (ap (λ (n : ℕ). has n id) (entered-numbers (c .pool .roster) i (isSync c) refl .held) ∙ was)
+
+    at : (k : Job) → isPart (answerPart k a) ≡ false → Holds id (answered k (c .pool) a .pool)
+    at Job.Idle q = was
+    at (Job.Running r) q = let m = takes (membersOf c) (versionOf c) r a in one (m .normal) _ (run-roster (c .pool) m)
+    at (Job.Removing m) q = clash refl q
+
+member-part : (e : Event) (c : Client) → Valid (c .pool) → isAccepted (outOf e c .answer) ≡ true → isPart (partOf e c) ≡ true → (id : ℕ) → has (membersOf c) id ≡ true → has (membersOf (next e c)) id ≡ not (takesOut (partOf e c) c id)
+member-part (Event.joinCreate i) c v d p id was = clash p refl
+member-part (Event.joinAssemble i set version) c v d p id was = clash p refl
+member-part (Event.enable i) c v d p id was = clash p refl
+member-part (Event.maintenance i) c v d p id was = clash p refl
+member-part (Event.linkDown i) c v d p id was = clash p refl
+member-part (Event.storeCheck i) c v d p id was = clash p refl
+member-part Event.tryRun c v d p id was = clash p refl
+member-part (Event.remove xs i mode) c v d p id was =
+    member-at c i (removeTurn c xs i mode) _ _ (remove-does c xs i mode v d) v id was (λ j. isDelete mode && notOwed (stateOf c j)) refl
+member-part (Event.write xs chunk reached) c v d p id was = clash p refl
+member-part (Event.synced xs member chunk) c v d p id was = clash p refl
+member-part (Event.answer xs number a) c v d p id was = at (c .pool .job) refl p
+  where
+    at : (k : Job) → jobOf c ≡ k → isPart (answerPart k a) ≡ true → has (membersOf (next (Event.answer xs number a) c)) id ≡ not (takesOut (answerPart (jobOf c) a) c id)
+    at Job.Idle job q = clash q refl
+    at (Job.Running r) job q = clash q refl
+    at (Job.Removing m) job q =
+        member-at c (m .id) (answerTurn c xs number a) _ _ (answer-does c xs number a m job v d) v id was (λ j. isDeleting (stateOf c j) && (isGood a && isLeave (m .stage))) refl
+        ∙ sym (ap (λ (k : Job). not (takesOut (answerPart k a) c id)) job)
+
+pub members-said : (e : Event) (c : Client) → Valid (c .pool) → isAccepted (outOf e c .answer) ≡ true → (id : ℕ) → has (membersOf c) id ≡ true → has (membersOf (next e c)) id ≡ not (takesOut (partOf e c) c id)
+members-said e c v d id was =
+    by-cases (isPart (partOf e c))
+    (λ p. member-part e c v d p id was)
+    (λ p. stays-member e c v p id was ∙ sym (ap not (part-none (partOf e c) c id p .1)))
+
+-- ---- the client map
+
+own-rows : (c : Client) (c′ : Client) (i : ℕ) (freed out : Bool) (xs : List ℕ) → Lent.some (pick (freed && nobodyLeft (c′ .pool .roster)) (zeroed xs) (pick out (zeroRow i xs) xs))
+    ≡ Lent.some (pick ((eqb i i && freed) && nobodyLeft (c′ .pool .roster)) (zeroed xs) (pick (eqb i i && out) (zeroRow i xs) xs))
+own-rows c c′ i freed out xs = rw (eq-eqb i i refl) refl
+
+pub remove-rows : (c : Client) → Valid (c .pool) → isSync c ≡ false → (xs : List ℕ) (id : ℕ) (mode : Mode) → isAccepted (outOf (Event.remove xs id mode) c .answer) ≡ true
+    → mapLeft (Event.remove xs id mode) c ≡ Lent.some (rowsAfter (Part.remove id mode) c (next (Event.remove xs id mode) c) id xs)
+remove-rows c v plain xs id mode d =
+    ap Lent.some (map-at c id (removeTurn c xs id mode) _ _ (remove-does c xs id mode v d) plain xs)
+    ∙ own-rows c (next (Event.remove xs id mode) c) id (notOwed (stateOf c id) && nothingDue c id Stage.Leave) (isDelete mode && notOwed (stateOf c id)) xs
+
+pub answer-rows : (c : Client) → Valid (c .pool) → isSync c ≡ false → (xs : List ℕ) (number : ℕ) (a : Reply) (m : Removal) → jobOf c ≡ Job.Removing m → isAccepted (outOf (Event.answer xs number a) c .answer) ≡ true
+    → mapLeft (Event.answer xs number a) c ≡ Lent.some (rowsAfter (Part.answer m a) c (next (Event.answer xs number a) c) (m .id) xs)
+answer-rows c v plain xs number a m job d =
+    ap Lent.some (map-at c (m .id) (answerTurn c xs number a) _ _ (answer-does c xs number a m job v d) plain xs)
+    ∙ own-rows c (next (Event.answer xs number a) c) (m .id) (isGood a && nothingDue c (m .id) (m .stage)) (isDeleting (stateOf c (m .id)) && (isGood a && isLeave (m .stage))) xs
+
+-- ---- remove begins
+
+pub begun-said : (c : Client) (xs : List ℕ) (id : ℕ) (mode : Mode) → Valid (c .pool) → isAccepted (outOf (Event.remove xs id mode) c .answer) ≡ true
+    → stateOf (next (Event.remove xs id mode) c) id ≡ pick (frees (Part.remove id mode) c id) State.Free (State.Removing mode (not (notOwed (stateOf c id))))
+unfolding remove removeTurn
+begun-said c xs id mode v =
+    taken (λ t. sessionAt (t .pool .roster) id .state ≡ pick (frees (Part.remove id mode) c id) State.Free (State.Removing mode (not (notOwed (stateOf c id)))))
+    (removeRefusal (c .pool) (soundFor c xs) id mode) (gone (c .pool) (removeBegun (c .pool) id mode)) (c .pool)
+    (λ e. let h = remove-passed (c .pool) (soundFor c xs) id mode e in
+    let g = started-goes (withRoster (c .pool) (removing (c .pool .roster) id mode)) id (removing-long (c .pool .roster) id mode (v .ok .long)) (h .below) in
+    ap (λ (s : Session). s .state) (g .own)
+    ∙ (ap (λ (k : Bool). pick k free (sessionAt (removing (c .pool .roster) id mode) id) .state) (freed-is c id mode v h)
+    ∙ (split (frees (Part.remove id mode) c id) (sessionAt (removing (c .pool .roster) id mode) id)
+    ∙ ap (λ (st : State). pick (frees (Part.remove id mode) c id) State.Free st) (here c id mode v h ∙ ap (State.Removing mode) (owes-is (stateOf c id))))))
+  where
+    split : (b : Bool) (s : Session) → pick b free s .state ≡ pick b State.Free (s .state)
+    split true s = refl
+    split false s = refl

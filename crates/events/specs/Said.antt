@@ -1,0 +1,297 @@
+-- What document 01 says of the client's events, in its own words and not by the rules' definitions, so that a misreading can't stand in rule and code alike. With each
+-- statement: the wrong rules that it refuses.
+use mathlib.Core.Path.{_≡_}
+use mathlib.Core.Logic.{_≢_}
+use mathlib.Core.Bool.{Bool, true, false, _&&_, _||_, not}
+use mathlib.Core.List.{List}
+use Prim.Native.Nat.{ℕ, _+_, max}
+use lib.Dec.{eqb, ltb}
+use Rattle.laws.specs.Words.{pick}
+use Rattle.sets.specs.Sets.{has, countTo}
+use Rattle.chunks.specs.Chunk.{markedFor}
+use Rattle.maps.specs.Map.{zeroRow, zeroed}
+use Rattle.state.specs.declared.Mode.{Mode}
+use Rattle.state.specs.declared.State.{State}
+use Rattle.state.specs.declared.Stage.{Stage}
+use Rattle.state.specs.declared.Removal.{Removal}
+use Rattle.state.specs.declared.Run.{Run}
+use Rattle.state.specs.declared.Job.{Job}
+use Rattle.state.specs.declared.Message.{Message}
+use Rattle.state.specs.declared.Told.{Told}
+use Rattle.state.specs.declared.Outcome.{Outcome}
+use Rattle.state.specs.declared.Answer.{Answer}
+use Rattle.state.specs.declared.Brought.{Brought}
+use Rattle.state.specs.declared.Reply.{Reply}
+use Rattle.state.specs.Session.{isFree, isCreated, isNormal, isFailed, isReconnecting, isRemoving, isDelete, isDeleting, isOwed, isTold}
+use Rattle.run.specs.declared.Next.{Next}
+use Rattle.run.specs.Run.{awaitedIn}
+use Rattle.recovery.specs.Cases.{begun}
+use Rattle.rules.specs.Jobs.{peerAt}
+use Rattle.client.specs.declared.Client.{Client}
+use Rattle.events.specs.Events.{Event, outOf, next, isAccepted, Lent, mapLeft}
+use Rattle.events.specs.Demand2.{Reached, recordOf, stateOf, isSync, nobodyLeft}
+
+-- ---- words
+
+-- an accepted event at a reached client
+pub record Accepts (c : Client) (e : Event) : Type 0 where
+  pub reached : Reached c
+  pub done : isAccepted (outOf e c .answer) ≡ true
+
+abbrev pub countOf : Client → ℕ
+countOf c = c .pool .roster .count
+
+abbrev pub versionOf : Client → ℕ
+versionOf c = c .pool .roster .version
+
+abbrev pub membersOf : Client → ℕ
+membersOf c = c .pool .roster .members
+
+abbrev pub jobOf : Client → Job
+jobOf c = c .pool .job
+
+-- the last authoritative mark and the maintenance flag of a session, and the states that bear them
+abbrev pub markOf : Client → ℕ → Bool
+markOf c id = recordOf c id .mark
+
+abbrev pub flagOf : Client → ℕ → Bool
+flagOf c id = recordOf c id .maintenance
+
+abbrev pub bears : State → Bool
+bears st = isFailed st || isReconnecting st
+
+-- the answer that reports this and sends these messages, nothing awaited
+abbrev pub sends : Outcome → Told → Answer
+sends outcome told = Answer.Done (record { outcome = outcome; told = told; awaited = Message.Nothing; number = 0 })
+
+-- the job in hand once recovery was tried with the sessions of c: the run that one of the three cases begins, if any
+abbrev pub begins : Next → Job
+begins Next.Over = Job.Idle
+begins (Next.On r) = Job.Running r
+
+abbrev pub recoveryIn : Client → Job
+recoveryIn c = begins (begun (c .pool .roster))
+
+-- ---- sessions
+
+-- "Join, create: new session CREATED"; "Join, assemble: .. The pool version becomes the larger one. CREATED, then RECONNECTING"; in a sync pool "join (create) gives
+-- NORMAL". Refused: a session that begins in another state, the node's version taken over though it is lower.
+abbrev pub JoinBegins : Type 0
+JoinBegins = (c : Client) (id : ℕ)
+    → (Accepts c (Event.joinCreate id) → stateOf (next (Event.joinCreate id) c) id ≡ pick (isSync c) State.Normal State.Created)
+    × ((set version : ℕ) → Accepts c (Event.joinAssemble id set version)
+    → (stateOf (next (Event.joinAssemble id set version) c) id ≡ State.Reconnecting) × (versionOf (next (Event.joinAssemble id set version) c) ≡ max (versionOf c) version))
+
+-- "Store check good: FAILED or CREATED to RECONNECTING." Refused: FAILED straight to NORMAL.
+abbrev pub StoreCheck : Type 0
+StoreCheck = (c : Client) (id : ℕ) → Accepts c (Event.storeCheck id) → isSync c ≡ false → stateOf (next (Event.storeCheck id) c) id ≡ State.Reconnecting
+
+-- id's enabling message: ENABLE_POOL to it, or the MAP_DONE of a spread with enable
+abbrev pub enabling : Message → ℕ → Bool
+enabling Message.Nothing id = false
+enabling (Message.GetVersion to) id = false
+enabling (Message.Ready to keep) id = false
+enabling (Message.Send to receiver) id = false
+enabling (Message.Done to enable version members) id = enable && eqb to id
+enabling (Message.LastIo to chosen) id = false
+enabling (Message.Enable to version members) id = eqb to id
+enabling (Message.Leave to mode) id = false
+enabling (Message.Info to op member) id = false
+
+pub data Becomes (c : Client) (id : ℕ) : Event → Type 0 where
+  enabled : isCreated (stateOf c id) ≡ true → Becomes c id (Event.enable id)
+  answered : (xs : List ℕ) (number : ℕ) (b : Brought) (r : Run) → jobOf c ≡ Job.Running r → enabling (awaitedIn (membersOf c) (versionOf c) r) id ≡ true → Becomes c id (Event.answer xs number (Reply.Good b))
+
+-- "Enable: from CREATED to NORMAL"; "A session becomes NORMAL when its enabling message is answered well": in a pool that is not sync, in no other way. Refused: a store
+-- check, the end of maintenance or a MAP_DONE without enable that makes NORMAL; a session that becomes so for another's message.
+abbrev pub NormalOnly : Type 0
+NormalOnly = (c : Client) → Reached c → isSync c ≡ false → (e : Event) (id : ℕ) → isNormal (stateOf c id) ≡ false → isNormal (stateOf (next e c) id) ≡ true → Becomes c id e
+
+-- ---- the version
+
+-- NORMAL before, FAILED after
+abbrev pub fell : Client → Client → ℕ → Bool
+fell c c′ id = isNormal (stateOf c id) && isFailed (stateOf c′ id)
+
+-- "Leaving NORMAL for FAILED raises the pool version by one"; but for join assemble nothing else changes it, and "a sync pool has no version change". Refused: a link
+-- down or a write that does not raise it, a write that raises it once for all; a removal, a maintenance or an answer that raises it.
+abbrev pub VersionRises : Type 0
+VersionRises = (c : Client) → Reached c → (e : Event) → ((id set version : ℕ) → e ≢ Event.joinAssemble id set version)
+    → versionOf (next e c) ≡ versionOf c + pick (isSync c) 0 (countTo (fell c (next e c)) 16)
+
+-- ---- writes
+
+-- the awaited peer of the removal in hand is NORMAL and was not reached
+abbrev pub missesPeer : Job → Client → ℕ → Bool
+missesPeer Job.Idle c reached = false
+missesPeer (Job.Running r) c reached = false
+missesPeer (Job.Removing m) c reached = isNormal (stateOf c (peerAt (m .stage) (m .id))) && not (has reached (peerAt (m .stage) (m .id)))
+
+-- the sessions and the job after a write
+pub record Wrote (c : Client) (reached : ℕ) (c′ : Client) : Type 0 where
+  pub fails : (id : ℕ) → isNormal (stateOf c id) ≡ true → stateOf c′ id ≡ pick (has reached id) State.Normal State.Failed
+  pub halts : jobOf c′ ≡ pick (missesPeer (jobOf c) c reached) Job.Idle (jobOf c)
+
+-- what a write that reached any marks, and whom it tells
+pub record Marks (c : Client) (xs : List ℕ) (chunk reached : ℕ) (e : Event) : Type 0 where
+  pub list : ℕ
+  pub listed : (id : ℕ) → has list id ≡ (has (membersOf (next e c)) id && (not (isNormal (stateOf (next e c) id)) && not (isDeleting (stateOf (next e c) id))))
+  pub spared : (id : ℕ) → has reached id ≡ true → has list id ≡ false
+  pub answer : outOf e c .answer ≡ sends (Outcome.Written true list) (Told.Marks reached chunk list (versionOf (next e c)))
+  pub map : mapLeft e c ≡ Lent.some (markedFor xs list chunk)
+
+-- one that reached none
+pub record MarksNone (c : Client) (xs : List ℕ) (e : Event) : Type 0 where
+  pub answer : outOf e c .answer ≡ sends (Outcome.Written false 0) Told.Nothing
+  pub map : mapLeft e c ≡ Lent.some xs
+
+-- "NORMAL sessions not reached become FAILED .. If any was reached, the write is acknowledged and the mark list is every member that is not NORMAL, save one being
+-- deleted; client map and each reached node mark it, the node being sent the version after these changes. Reached by none: neither"; "a write that did not reach [the
+-- awaited peer of a removal] is its failed answer." Refused: a reached member marked, one that just failed not marked; the version before the changes; marks sent to
+-- others than the reached; a write acknowledged that reached none; a removal that goes on without its peer.
+abbrev pub WriteMarks : Type 0
+WriteMarks = (c : Client) (xs : List ℕ) (chunk reached : ℕ) → Accepts c (Event.write xs chunk reached)
+    → Wrote c reached (next (Event.write xs chunk reached) c)
+    × (reached ≢ 0 → Marks c xs chunk reached (Event.write xs chunk reached))
+    × (reached ≡ 0 → MarksNone c xs (Event.write xs chunk reached))
+
+-- ---- the last authoritative mark
+
+-- id is NORMAL, and nobody above it is
+abbrev pub lastNormal : Client → ℕ → Bool
+lastNormal c id = isNormal (stateOf c id) && eqb (countTo (λ j. isNormal (stateOf c j) && ltb id j) 16) 0
+
+-- "If leaving for FAILED or maintenance brings the count to 0, that session is marked last authoritative; the mark goes from every session when any enters NORMAL, and
+-- from a session entering REMOVING." So, after any event: while the count is above 0, nobody is marked; if it came to 0, the last that left NORMAL is (the highest,
+-- since a write takes them ascending), unless it is being removed or gone; if it was 0, the mark is where it was, save on one that is REMOVING or gone. Refused: a
+-- mark that appears elsewhere, stays beside a NORMAL session or is given to nobody; a removal that marks.
+abbrev pub LastAuthoritative : Type 0
+LastAuthoritative = (c : Client) → Reached c → isSync c ≡ false → (e : Event) (id : ℕ)
+    → markOf (next e c) id ≡ (eqb (countOf (next e c)) 0 && (bears (stateOf (next e c) id) && pick (eqb (countOf c) 0) (markOf c id) (lastNormal c id)))
+
+-- ---- maintenance, enable
+
+-- "Maintenance: NORMAL to RECONNECTING, flagged; node told by enable 0 .. The flag outlasts a later failure and ends on removal": but for maintenance and enable of the
+-- session itself, it stays while the session is FAILED or RECONNECTING. Refused: no flag, or no message; a link down, a store check or a write that ends maintenance,
+-- a removal that does not.
+abbrev pub Maintenance : Type 0
+Maintenance =
+    ((c : Client) (id : ℕ) → Accepts c (Event.maintenance id)
+    → (stateOf (next (Event.maintenance id) c) id ≡ State.Reconnecting)
+    × (flagOf (next (Event.maintenance id) c) id ≡ true)
+    × (outOf (Event.maintenance id) c .answer ≡ sends Outcome.Plain (Told.Off id)))
+    × ((c : Client) → Reached c → (e : Event) (id : ℕ) → e ≢ Event.maintenance id → e ≢ Event.enable id → flagOf (next e c) id ≡ (flagOf c id && bears (stateOf (next e c) id)))
+
+-- "Enable: from CREATED to NORMAL .. On RECONNECTING in maintenance: maintenance ends and recovery is tried, without 001's enable"; from CREATED it is not tried.
+-- Refused: the end of maintenance that makes NORMAL or leaves the flag; a run that begins after enable from CREATED, or none after the end of maintenance.
+abbrev pub EnableDoes : Type 0
+EnableDoes = (c : Client) (id : ℕ) → Accepts c (Event.enable id)
+    → (isCreated (stateOf c id) ≡ true
+    → (stateOf (next (Event.enable id) c) id ≡ State.Normal) × (jobOf (next (Event.enable id) c) ≡ Job.Idle) × (outOf (Event.enable id) c .answer ≡ sends Outcome.Plain Told.Nothing))
+    × (isCreated (stateOf c id) ≡ false
+    → (stateOf (next (Event.enable id) c) id ≡ State.Reconnecting) × (flagOf (next (Event.enable id) c) id ≡ false) × (jobOf (next (Event.enable id) c) ≡ recoveryIn (next (Event.enable id) c)))
+
+-- ---- link down
+
+-- what an accepted event reports
+abbrev pub reported : Answer → Outcome
+reported (Answer.Refused n) = Outcome.Plain
+reported (Answer.Done s) = s .outcome
+
+-- the session, the run and the removal after a link down
+pub record Dropped (c : Client) (id : ℕ) (e : Event) : Type 0 where
+  pub fails : stateOf (next e c) id ≡ pick (isRemoving (stateOf c id)) (stateOf c id) State.Failed
+  pub idle : jobOf c ≡ Job.Idle → jobOf (next e c) ≡ Job.Idle
+  pub ends : (r : Run) → jobOf c ≡ Job.Running r → (reported (outOf e c .answer) ≡ Outcome.Taken (r .taken)) × (jobOf (next e c) ≡ recoveryIn (next e c))
+  pub halts : (m : Removal) → jobOf c ≡ Job.Removing m → (jobOf (next e c) ≡ pick (eqb (peerAt (m .stage) (m .id)) id) Job.Idle (Job.Removing m)) × (recordOf (next e c) (m .id) ≡ recordOf c (m .id))
+
+-- "Link down: CREATED, NORMAL, RECONNECTING to FAILED"; "An accepted link down during a run ends it .. recovery is tried. The result counts awaited answers taken so far
+-- in the run"; "link down of the awaited peer (a REMOVING one stays so) .. is its failed answer." Refused: a run that survives, or whose count is lost; recovery tried
+-- where there was no run; a removal that goes on without its peer, or a LEAVE_POOL no longer owed.
+abbrev pub LinkDown : Type 0
+LinkDown = (c : Client) (id : ℕ) → Accepts c (Event.linkDown id) → Dropped c id (Event.linkDown id)
+
+-- ---- removal
+
+-- An event's part in a removal: remove, of an id in a mode; an answer, while a removal is in hand; none.
+pub data Part : Type 0 where
+  none : Part
+  remove : ℕ → Mode → Part
+  answer : Removal → Reply → Part
+
+abbrev pub answerPart : Job → Reply → Part
+answerPart Job.Idle a = Part.none
+answerPart (Job.Running r) a = Part.none
+answerPart (Job.Removing m) a = Part.answer m a
+
+abbrev pub partOf : Event → Client → Part
+partOf (Event.joinCreate id) c = Part.none
+partOf (Event.joinAssemble id set version) c = Part.none
+partOf (Event.enable id) c = Part.none
+partOf (Event.maintenance id) c = Part.none
+partOf (Event.linkDown id) c = Part.none
+partOf (Event.storeCheck id) c = Part.none
+partOf Event.tryRun c = Part.none
+partOf (Event.remove xs id mode) c = Part.remove id mode
+partOf (Event.write xs chunk reached) c = Part.none
+partOf (Event.synced xs member chunk) c = Part.none
+partOf (Event.answer xs number a) c = answerPart (jobOf c) a
+
+abbrev pub isGood : Reply → Bool
+isGood Reply.Failed = false
+isGood (Reply.Good b) = true
+
+abbrev pub isLeave : Stage → Bool
+isLeave Stage.Leave = true
+isLeave (Stage.Info peer) = false
+
+-- LEAVE_POOL is not owed: the session was FAILED, or is REMOVING and owes it no longer
+abbrev pub notOwed : State → Bool
+notOwed st = isFailed st || (isRemoving st && not (isOwed st))
+
+-- above the last one told
+abbrev pub isLater : Stage → ℕ → Bool
+isLater Stage.Leave j = true
+isLater (Stage.Info peer) j = ltb peer j
+
+-- no POOL_INFO is due any more: no other session above the last one told is there and not FAILED or REMOVING; a sync pool sends none
+abbrev pub nothingDue : Client → ℕ → Stage → Bool
+nothingDue c id st = isSync c || eqb (countTo (λ j. isTold (stateOf c j) && (isLater st j && not (eqb j id))) 16) 0
+
+-- the event frees id's session
+abbrev pub frees : Part → Client → ℕ → Bool
+frees Part.none c id = false
+frees (Part.remove i mode) c id = eqb id i && (notOwed (stateOf c id) && nothingDue c id Stage.Leave)
+frees (Part.answer m a) c id = eqb id (m .id) && (isGood a && nothingDue c id (m .stage))
+
+-- "Remove (delete or disassemble): any state to REMOVING. Awaited in turn: LEAVE_POOL to it (not owed if it was FAILED)": in this mode, LEAVE_POOL owed or not; unless it
+-- is freed at once. Refused: a session that is not REMOVING, or in the other mode; LEAVE_POOL owed by a FAILED one, or once more after it was done.
+abbrev pub RemoveBegins : Type 0
+RemoveBegins = (c : Client) (xs : List ℕ) (id : ℕ) (mode : Mode) → Accepts c (Event.remove xs id mode)
+    → stateOf (next (Event.remove xs id mode) c) id ≡ pick (frees (Part.remove id mode) c id) State.Free (State.Removing mode (not (notOwed (stateOf c id))))
+
+-- "After the last success (at once if none is due) the session is freed." Refused: a session freed before its last message is answered, by a failed answer or by
+-- another event; or not freed then.
+abbrev pub Freed : Type 0
+Freed = (c : Client) (e : Event) → Accepts c e → (id : ℕ) → isFree (stateOf c id) ≡ false → isFree (stateOf (next e c) id) ≡ frees (partOf e c) c id
+
+-- the event takes the member out: a deletion, once LEAVE_POOL is done or not owed
+abbrev pub takesOut : Part → Client → ℕ → Bool
+takesOut Part.none c id = false
+takesOut (Part.remove i mode) c id = eqb id i && (isDelete mode && notOwed (stateOf c id))
+takesOut (Part.answer m a) c id = eqb id (m .id) && (isDeleting (stateOf c id) && (isGood a && isLeave (m .stage)))
+
+-- the client map after the event
+abbrev pub rowsAfter : Part → Client → Client → ℕ → List ℕ → List ℕ
+rowsAfter s c c′ id xs = pick (frees s c id && nobodyLeft (c′ .pool .roster)) (zeroed xs) (pick (takesOut s c id) (zeroRow id xs) xs)
+
+-- "When LEAVE is done or not owed, delete takes out member entry and client row .. if none is left the client map is zeroed": exactly then, and no other event takes a
+-- member out. Refused: a member taken out by disassemble, before LEAVE_POOL is answered or by its failed answer; a row zeroed at another time, or of another member; a
+-- map zeroed while a session is left.
+abbrev pub DeleteTakesOut : Type 0
+DeleteTakesOut =
+    ((c : Client) (e : Event) → Accepts c e → (id : ℕ) → has (membersOf c) id ≡ true → has (membersOf (next e c)) id ≡ not (takesOut (partOf e c) c id))
+    × ((c : Client) (xs : List ℕ) (id : ℕ) (mode : Mode) → Accepts c (Event.remove xs id mode) → isSync c ≡ false
+    → mapLeft (Event.remove xs id mode) c ≡ Lent.some (rowsAfter (Part.remove id mode) c (next (Event.remove xs id mode) c) id xs))
+    × ((c : Client) (xs : List ℕ) (number : ℕ) (a : Reply) (m : Removal) → Accepts c (Event.answer xs number a) → isSync c ≡ false → jobOf c ≡ Job.Removing m
+    → mapLeft (Event.answer xs number a) c ≡ Lent.some (rowsAfter (Part.answer m a) c (next (Event.answer xs number a) c) (m .id) xs))

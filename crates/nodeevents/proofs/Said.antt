@@ -1,0 +1,375 @@
+-- What an accepted event leaves of map, staging and kept chunks is what document 01 says.
+use mathlib.Core.Path.{_≡_, refl, sym, ap, _∙_, subst}
+use mathlib.Core.Logic.{_≢_}
+use mathlib.Core.Bool.{Bool, true, false, _&&_}
+use mathlib.Core.List.{List, [], _∷_, _++_}
+use Prim.Native.Nat.{ℕ, zero, suc, _+_, _-_, _/_, _≤_, _<_, min, max}
+use native.Mathlib.Decide.{ℕ-discrete, decLt}
+use native.Mathlib.Omega.{arith}
+use lib.Dec.{leb, ltb}
+use lib.ListN.{length, getD, drop, replicate, length-drop, length-append}
+use lib.Seq.{getD-drop, drop-drop}
+use borrow.Author.Tests.{ltb-true, ltb-false, leb-true, le-leb}
+use Rattle.laws.specs.Words.{pick, one}
+use Rattle.laws.specs.Tests.{by-cases, clash, and-left, and-right, and-both}
+use Rattle.sets.specs.Sets.{has, with}
+use Rattle.sets.proofs.Laws.{has-below, has-with-same, has-with-other, has-none, has-without-same, has-without-other, still}
+use Rattle.chunks.specs.Chunk.{there, dirty, cleared, markedFor}
+use Rattle.chunks.proofs.Laws.{dirty-lt}
+use Rattle.maps.specs.Map.{sound, zeroed, rowsKept, zeroRow, orIn}
+use Rattle.maps.proofs.Chunks.{same, same-yes, same-no, hit-yes, hit-no, dirty-markedFor, dirty-cleared, dirty-or}
+use Rattle.maps.proofs.Sound.{Sound, sound-fact, sound-cleared, sound-markedFor, sound-or, sound-kept, sound-zeroRow}
+use Rattle.maps.proofs.Rows.{copied-all, zeroed-all}
+use Rattle.state.specs.declared.Op.{Op}
+use Rattle.nodestate.specs.declared.State.{State}
+use Rattle.nodestate.specs.declared.OnMap.{OnMap}
+use Rattle.nodestate.specs.declared.Transfer.{Transfer}
+use Rattle.nodestate.specs.declared.Node.{Node}
+use Rattle.nodestate.specs.States.{isNoIo, inHand}
+use Rattle.nodestate.specs.declared.Turn.{Turn}
+use Rattle.nodestate.specs.Change.{wentTo, equipped, takenOver, memberEntered, memberDropped, storedVersion, keptChunk, forgotten, transferred, endedTransfer, instructed}
+use Rattle.nodestate.specs.StateRules.{isKept, keptOk, standing}
+use Rattle.nodestate.proofs.Tables.{gives, given}
+use Rattle.nodestate.proofs.Valid.{Valid, kept-below, at-node}
+use Rattle.noderegister.specs.Register.{registeredCreate, registeredAdd, wiped, unregistered, dropsStaging}
+use Rattle.nodejoins.specs.Join.{joinedCreate, left}
+use Rattle.nodeenables.specs.Enable.{enabled, disabled}
+use Rattle.nodewrites.specs.Write.{written}
+use Rattle.nodewrites.specs.Info.{informed}
+use Rattle.nodeserve.specs.Serve.{readied}
+use Rattle.nodehand.specs.Hand.{mapTaken, committed}
+use Rattle.nodemaps.specs.Carry.{mapAfter, stagingAfter, takenIn}
+use Rattle.nodemaps.proofs.Bytes.{past-end, kept-in, kept-out, zeroed-in, zeroed-out}
+use Rattle.nodemaps.proofs.Sound.{sound-map}
+use Rattle.nodemaps.proofs.Rows.{dirty-nowhere, keptIn, kept-yes, kept-no, due, lastIos-chunk}
+use Rattle.nodewrites.proofs.Keeps.{write-chunk}
+use Rattle.node.specs.Events.{Event, third}
+use Rattle.node.specs.Face.{answers, lentTo, soundThird, mapBy, stagingBy, stagingWith}
+use Rattle.node.specs.Held.{Held}
+use Rattle.node.proofs.Theorems.{shape, Accepted, accepted-done}
+use Rattle.nodeevents.specs.Said.{Accepts, Zeroed, Rows, Marked, Cleared, Ored, keptChunks, AmongKept, LastIos, SaidOfStaging, StagingAsSaid, SaidOfTransfer, TransferAsSaid, In, SaidOfMap, MapAsSaid, lastSixteen, SaidOfKept, KeptAsSaid}
+use Rattle.nodeevents.proofs.Demand2.{taken-plain}
+
+-- ---- an accepted event
+
+-- the turn that it does
+abbrev doneAt : Event → Held → Turn
+doneAt e w = shape e (w .at .node) (lentTo (third e) (w .at .node) (w .map) (w .staging)) .done
+
+abbrev pub Known : Event → Held → Type 0
+Known e w = Accepted e (w .at) (w .map) (w .staging)
+
+pub known : (e : Event) (w : Held) → Accepts e w → Known e w
+known e w a = accepted-done e (w .at) (w .map) (w .staging) (taken-plain (answers e (w .at) (w .map) (w .staging) .answer) a)
+
+module _ (e : Event) (w : Held) (d : Known e w) where
+  pub third-sound : soundThird (w .at .node .chunks) (third e) ≡ true
+  third-sound = and-left (soundThird (w .at .node .chunks) (third e)) _ (d .sure)
+
+  both-sound : (sound (w .at .node .chunks) (w .map) && sound (w .at .node .chunks) (w .staging)) ≡ true
+  both-sound = and-right (soundThird (w .at .node .chunks) (third e)) _ (d .sure)
+
+  map-sound : Sound (w .at .node .chunks) (w .map)
+  map-sound = sound-fact _ _ (and-left (sound (w .at .node .chunks) (w .map)) _ both-sound)
+
+  pub staging-sound : Sound (w .at .node .chunks) (w .staging)
+  staging-sound = sound-fact _ _ (and-right (sound (w .at .node .chunks) (w .map)) _ both-sound)
+
+-- ---- what becomes of a map
+
+-- zeroed whole
+all-zero : (xs : List ℕ) → length xs ≡ 8192 → Zeroed (zeroed xs)
+all-zero xs e = zeroed-all xs ∙ ap (λ (n : ℕ). replicate n 0) e
+
+-- a fact of every bit: where there is one, and where both sides are 0
+pub each-bit : (xs : List ℕ) (m c x : ℕ) → (m < 16 → c < 4096 → dirty xs m c ≡ x) → (there m c ≡ false → x ≡ 0) → dirty xs m c ≡ x
+each-bit xs m c x f g =
+    by-cases (there m c)
+    (λ t. f (ltb-true m 16 (and-left (ltb m 16) (ltb c 4096) t)) (ltb-true c 4096 (and-right (ltb m 16) (ltb c 4096) t)))
+    (λ t. dirty-nowhere xs m c t ∙ sym (g t))
+
+not-true : (b : Bool) → ¬ (b ≡ true) → b ≡ false
+not-true true d = absurd (d refl)
+not-true false d = refl
+
+module _ (n : ℕ) (xs : List ℕ) (s : Sound n xs) where
+  -- the rows of a set
+  set-rows : (set : ℕ) → Rows (In set) xs (rowsKept set xs)
+  set-rows set =
+      record {
+        size = sound-kept n set xs s .len;
+        those = λ k h. kept-in n set xs s k h;
+        others = λ k h. kept-out n set xs s k (not-true (has set (k / 512)) h);
+      }
+
+  -- one row alone
+  own-row : (id : ℕ) → Rows (λ m. m ≡ id) xs (rowsKept (with 0 id) xs)
+  own-row id =
+      record {
+        size = sound-kept n (with 0 id) xs s .len;
+        those = own;
+        others = λ k d. kept-out n (with 0 id) xs s k (has-with-other 0 id (k / 512) d ∙ has-none (k / 512));
+      }
+    where
+      own : (k : ℕ) → k / 512 ≡ id → getD (rowsKept (with 0 id) xs) k 0 ≡ getD xs k 0
+      own k q = elim (decLt id 16) [
+        | yes h ↦ kept-in n (with 0 id) xs s k (ap (has (with 0 id)) q ∙ has-with-same 0 id h)
+        | no h ↦ past-end (rowsKept (with 0 id) xs) k (sound-kept n (with 0 id) xs s .len) (omega arith) ∙ sym (past-end xs k (s .len) (omega arith))
+      ]
+
+  -- all rows but one
+  other-rows : (member : ℕ) → Rows (λ m. m ≢ member) xs (zeroRow member xs)
+  other-rows member =
+      record {
+        size = sound-zeroRow n member xs s .len;
+        those = λ k d. zeroed-out member xs (s .len) k d;
+        others = λ k d. elim (ℕ-discrete (k / 512) member) [ yes q ↦ zeroed-in member xs (s .len) k q | no d′ ↦ absurd (d d′) ];
+      }
+
+  marks : (set chunk : ℕ) → chunk < n → n ≤ 4096 → Marked (In set) chunk xs (markedFor xs set chunk)
+  marks set chunk l f =
+      record {
+        size = sound-markedFor n set chunk xs s l .len;
+        those = λ m h. dirty-markedFor xs set chunk m chunk (s .len) (has-below set m h) (omega arith) (omega arith) ∙ rw (h, same-yes chunk chunk refl) (omega (arith, dirty-lt xs m chunk));
+        others = λ m c d. each-bit (markedFor xs set chunk) m c (dirty xs m c) (λ hm hc. dirty-markedFor xs set chunk m c (s .len) hm (omega arith) hc ∙ rest m c d) (dirty-nowhere xs m c);
+      }
+    where
+      rest : (m c : ℕ) → ¬ (In set m × (c ≡ chunk)) → max (dirty xs m c) (min (one (has set m)) (same chunk c)) ≡ dirty xs m c
+      rest m c d =
+          by-cases (has set m)
+          (λ h. rw (same-no chunk c (λ q. d (h, sym q))) (omega arith))
+          (λ h. rw h (omega arith))
+
+  clears : (member chunk : ℕ) → Cleared member chunk xs (cleared xs member chunk)
+  clears member chunk =
+      record {
+        size = sound-cleared n xs member chunk s .len;
+        that = each-bit (cleared xs member chunk) member chunk 0 (λ hm hc. dirty-cleared xs member chunk member chunk (s .len) hm hc hm hc ∙ rw (hit-yes member chunk member chunk refl refl) (omega arith)) (λ t. refl);
+        others = λ m c d. by-cases (there member chunk) (λ t. apart m c d t) (λ t. nothing m c t);
+      }
+    where
+      apart : (m c : ℕ) → ¬ ((m ≡ member) × (c ≡ chunk)) → there member chunk ≡ true → dirty (cleared xs member chunk) m c ≡ dirty xs m c
+      apart m c d t =
+          each-bit (cleared xs member chunk) m c (dirty xs m c)
+          (λ hm hc. dirty-cleared xs member chunk m c (s .len) (ltb-true member 16 (and-left (ltb member 16) (ltb chunk 4096) t)) (ltb-true chunk 4096 (and-right (ltb member 16) (ltb chunk 4096) t)) hm hc ∙ rw (hit-no member chunk m c (λ p q. d (sym p, sym q))) (omega (arith, dirty-lt xs m c)))
+          (dirty-nowhere xs m c)
+
+      nothing : (m c : ℕ) → there member chunk ≡ false → dirty (cleared xs member chunk) m c ≡ dirty xs m c
+      nothing m c t = unfold cleared in rw t refl
+
+  ors : (zs : List ℕ) → Sound n zs → Ored xs zs (orIn xs zs)
+  ors zs r =
+      record {
+        size = sound-or n xs zs s r .len;
+        bits = λ m c. each-bit (orIn xs zs) m c (max (dirty xs m c) (dirty zs m c)) (λ hm hc. dirty-or xs zs m c (s .len) (r .len) hm hc) (λ t. rw (dirty-nowhere xs m c t, dirty-nowhere zs m c t) (omega arith));
+      }
+
+-- ---- staging
+
+-- unregister drops it in NO_IO alone
+dropped : (s : State) (xs ys : List ℕ) → length ys ≡ 8192 → (s ≡ State.NoIo → Zeroed (stagingAfter (dropsStaging s) xs ys)) × (s ≢ State.NoIo → stagingAfter (dropsStaging s) xs ys ≡ ys)
+unfolding stagingAfter
+dropped State.Empty xs ys e = (λ q. cc q, λ d. refl)
+dropped State.Registered xs ys e = (λ q. cc q, λ d. refl)
+dropped State.Created xs ys e = (λ q. cc q, λ d. refl)
+dropped State.Normal xs ys e = (λ q. cc q, λ d. refl)
+dropped State.NoIo xs ys e = (λ q. all-zero ys e, λ d. absurd (d refl))
+
+staging-done : (e : Event) (w : Held) → Known e w → SaidOfStaging e w (stagingWith (third e) (doneAt e w .effect .staging) (stagingBy (doneAt e w) (w .map) (w .staging)))
+unfolding shape stagingBy mapBy stagingAfter mapAfter takenIn
+staging-done Event.registerCreate w d = refl
+staging-done (Event.registerAdd set version) w d = refl
+staging-done (Event.unregister delete) w d = dropped (w .at .node .state) _ (w .staging) (staging-sound (Event.unregister delete) w d .len)
+staging-done (Event.joinCreate set) w d = refl
+staging-done Event.assemble w d = refl
+staging-done (Event.leave delete) w d = all-zero (w .staging) (staging-sound (Event.leave delete) w d .len)
+staging-done (Event.enable1 version set) w d = all-zero (w .staging) (staging-sound (Event.enable1 version set) w d .len)
+staging-done Event.enable0 w d = all-zero (w .staging) (staging-sound Event.enable0 w d .len)
+staging-done Event.fault w d = refl
+staging-done (Event.write chunk set version) w d = refl
+staging-done (Event.synced member chunk) w d = refl
+staging-done (Event.poolInfo op member) w d = refl
+staging-done (Event.mapReady true) w d = copied-all (w .staging) (w .map) (staging-sound (Event.mapReady true) w d .len ∙ sym (map-sound (Event.mapReady true) w d .len))
+staging-done (Event.mapReady false) w d = all-zero (w .staging) (staging-sound (Event.mapReady false) w d .len)
+staging-done Event.give w d = refl
+staging-done (Event.take zs) w d = ors (w .at .node .chunks) (w .staging) (staging-sound (Event.take zs) w d) zs (sound-fact _ _ (third-sound (Event.take zs) w d))
+staging-done (Event.mapDone enabling version set) w d = all-zero (w .staging) (staging-sound (Event.mapDone enabling version set) w d .len)
+staging-done Event.mapDisable w d = all-zero (w .staging) (staging-sound Event.mapDisable w d .len)
+staging-done Event.mapGetVer w d = refl
+staging-done (Event.lastIoToMap chosen) w d = refl
+
+pub staging-as-said : StagingAsSaid
+staging-as-said e w a =
+    let d = known e w a in
+    subst (λ (t : Turn). SaidOfStaging e w (stagingWith (third e) (t .effect .staging) (stagingBy t (w .map) (w .staging)))) (sym (d .turn)) (staging-done e w d)
+
+-- ---- the map
+
+few-held : (n : Node) → Valid n → n .held ≤ 16
+unfolding keptOk
+few-held n v = leb-true (n .held) 16 (and-left (leb (n .held) 16) _ (v .keeps))
+
+-- LAST_IO_TO_MAP
+module _ (n : Node) (chosen : ℕ) (ys xs : List ℕ) (v : Valid n) (s : Sound (n .chunks) xs) (r : Sound (n .chunks) ys) where
+  marked : List ℕ
+  marked = mapAfter (OnMap.LastIos chosen) n ys xs
+
+  -- a kept chunk and its place
+  at-place : (i : ℕ) → i < n .held → isKept n (16 - n .held + i) ≡ true
+  at-place i l = le-leb (16 - (16 - n .held + i)) (n .held) (omega (arith, few-held n v))
+
+  has-place : (c : ℕ) → AmongKept n c → keptIn n 16 0 c ≡ 1
+  has-place c (i, l, e) = kept-yes n 16 0 c (16 - n .held + i) (omega arith) (omega (arith, few-held n v)) (at-place i l) (sym (getD-drop (16 - n .held) (n .kept) i 0) ∙ e)
+
+  no-place : (c : ℕ) → ¬ (AmongKept n c) → keptIn n 16 0 c ≡ 0
+  no-place c d =
+      kept-no n 16 0 c (λ j a b k e.
+      let h : 16 - j ≤ n .held = leb-true (16 - j) (n .held) k in
+      let q : 16 - n .held + (j - (16 - n .held)) ≡ j = omega arith in
+      d (j - (16 - n .held), omega (arith, few-held n v), getD-drop (16 - n .held) (n .kept) (j - (16 - n .held)) 0 ∙ rw q e))
+
+  kept-lt : (c : ℕ) → AmongKept n c → c < 4096
+  kept-lt c (i, l, e) =
+      let q = kept-below n (v .keeps) (16 - n .held + i) (omega (arith, few-held n v)) (at-place i l) in
+      omega (arith, sym (getD-drop (16 - n .held) (n .kept) i 0) ∙ e, v .few)
+
+  bit-is : (m c : ℕ) → m < 16 → c < 4096 → dirty marked m c ≡ max (dirty xs m c) (min (keptIn n 16 0 c) (due n chosen xs m c))
+  unfolding marked
+  bit-is m c hm hc = lastIos-chunk n chosen ys xs m c v s hm hc
+
+  -- a bit that is not due is as it was
+  bit-stays : (m c : ℕ) → (m < 16 → c < 4096 → min (keptIn n 16 0 c) (due n chosen xs m c) ≡ 0) → dirty marked m c ≡ dirty xs m c
+  bit-stays m c f = each-bit marked m c (dirty xs m c) (λ hm hc. let z = f hm hc in bit-is m c hm hc ∙ rw z (omega arith)) (dirty-nowhere xs m c)
+
+  last-ios : LastIos n chosen xs marked
+  unfolding marked
+  last-ios =
+      record {
+        size = sound-map (OnMap.LastIos chosen) n ys xs (v .keeps) r s .len;
+        never = λ c. bit-stays chosen c (λ hm hc. rw (has-without-same (n .members) chosen) (omega arith));
+        those = λ m c k z i d. bit-is m c (has-below (n .members) m i) (kept-lt c k) ∙ rw (has-place c k, z, has-without-other (n .members) chosen m d, i) (omega (arith, dirty-lt xs m c));
+        passed = λ m c z. bit-stays m c (λ hm hc. rw z (omega arith));
+        stay = λ m c e. each-bit marked m c 1 (λ hm hc. omega (arith, bit-is m c hm hc, dirty-lt marked m c)) (λ t. sym e ∙ dirty-nowhere xs m c t);
+        others = λ m c d. bit-stays m c (λ hm hc. by-cases (has (n .members) m) (λ h. rw (no-place c (λ k. d (k, h))) (omega arith)) (λ h. rw (not-true _ (λ q. clash (still (n .members) chosen m q .0) h)) (omega arith)));
+      }
+
+map-done : (e : Event) (w : Held) → Known e w → SaidOfMap e w (mapBy (doneAt e w) (w .map) (w .staging))
+unfolding shape mapBy mapAfter
+map-done Event.registerCreate w d = all-zero (w .map) (map-sound Event.registerCreate w d .len)
+map-done (Event.registerAdd set version) w d = refl
+map-done (Event.unregister true) w d = all-zero (w .map) (map-sound (Event.unregister true) w d .len)
+map-done (Event.unregister false) w d = refl
+map-done (Event.joinCreate set) w d = own-row (w .at .node .chunks) (w .map) (map-sound (Event.joinCreate set) w d) (w .at .node .id)
+map-done Event.assemble w d = refl
+map-done (Event.leave true) w d = own-row (w .at .node .chunks) (w .map) (map-sound (Event.leave true) w d) (w .at .node .id)
+map-done (Event.leave false) w d = refl
+map-done (Event.enable1 version set) w d = set-rows (w .at .node .chunks) (w .map) (map-sound (Event.enable1 version set) w d) set
+map-done Event.enable0 w d = refl
+map-done Event.fault w d = refl
+map-done (Event.write chunk set version) w d = marks (w .at .node .chunks) (w .map) (map-sound (Event.write chunk set version) w d) set chunk (ltb-true _ _ (write-chunk (w .at .node) _ chunk set version (d .none))) (d .rules .few)
+map-done (Event.synced member chunk) w d = clears (w .at .node .chunks) (w .map) (map-sound (Event.synced member chunk) w d) member chunk
+map-done (Event.poolInfo Op.AddCreate member) w d = other-rows (w .at .node .chunks) (w .map) (map-sound (Event.poolInfo Op.AddCreate member) w d) member
+map-done (Event.poolInfo Op.AddAssemble member) w d = refl
+map-done (Event.poolInfo Op.RemoveDelete member) w d = other-rows (w .at .node .chunks) (w .map) (map-sound (Event.poolInfo Op.RemoveDelete member) w d) member
+map-done (Event.poolInfo Op.RemoveDisassemble member) w d = refl
+map-done (Event.mapReady keep) w d = refl
+map-done Event.give w d = refl
+map-done (Event.take zs) w d = refl
+map-done (Event.mapDone enabling version set) w d =
+    let e : Event = Event.mapDone enabling version set in
+    let s : Sound (w .at .node .chunks) (w .staging) = staging-sound e w d in
+    rw (copied-all (w .map) (w .staging) (map-sound e w d .len ∙ sym (s .len))) (set-rows (w .at .node .chunks) (w .staging) s set)
+map-done Event.mapDisable w d = refl
+map-done Event.mapGetVer w d = refl
+map-done (Event.lastIoToMap chosen) w d =
+    let e : Event = Event.lastIoToMap chosen in
+    unfold marked in last-ios (w .at .node) chosen (w .staging) (w .map) (d .rules) (map-sound e w d) (staging-sound e w d)
+
+pub map-as-said : MapAsSaid
+map-as-said e w a = let d = known e w a in subst (λ (t : Turn). SaidOfMap e w (mapBy t (w .map) (w .staging))) (sym (d .turn)) (map-done e w d)
+
+-- ---- the kept chunks after a write
+
+drop-front : (i : ℕ) (xs ys : List ℕ) → i ≤ length xs → drop i (xs ++ ys) ≡ drop i xs ++ ys
+drop-front zero xs ys h = refl
+drop-front (suc i) [] ys h = absurd (let z : ⊥ = omega arith in z)
+drop-front (suc i) (x ∷ xs) ys h = drop-front i xs ys (omega arith)
+
+-- the seventeenth pushes the first out
+one-more : (k : List ℕ) (held c : ℕ) → length k ≡ 16 → held ≤ 16 → drop (16 - pick (ltb held 16) (held + 1) 16) (drop 1 k ++ (c ∷ [])) ≡ lastSixteen (drop (16 - held) k ++ (c ∷ []))
+one-more k held c e h = at (ltb held 16) refl
+  where
+    long : length (drop (16 - held) k ++ (c ∷ [])) ≡ held + 1
+    long = length-append (drop (16 - held) k) (c ∷ []) ∙ (rw (length-drop (16 - held) k, e) (omega arith))
+
+    at : (b : Bool) → ltb held 16 ≡ b → drop (16 - pick b (held + 1) 16) (drop 1 k ++ (c ∷ [])) ≡ lastSixteen (drop (16 - held) k ++ (c ∷ []))
+    at true q =
+        let l : held < 16 = ltb-true held 16 q in
+        let a : 1 + (16 - (held + 1)) ≡ 16 - held = omega arith in
+        let b : length (drop (16 - held) k ++ (c ∷ [])) - 16 ≡ 0 = omega (arith, long) in
+        drop-front (16 - (held + 1)) (drop 1 k) (c ∷ []) (omega (arith, length-drop 1 k)) ∙ rw (drop-drop (16 - (held + 1)) 1 k, a, b)
+    at false q =
+        let l : 16 ≤ held = ltb-false held 16 q in
+        let a : 16 - held ≡ 0 = omega arith in
+        let b : length (drop (16 - held) k ++ (c ∷ [])) - 16 ≡ 1 = omega (arith, long) in
+        rw (b, a) (sym (drop-front 1 k (c ∷ []) (omega arith)))
+
+-- ---- transfer and kept chunks
+
+-- a transfer is in hand only in NO_IO
+is-no-io : (s : State) → isNoIo s ≡ true → s ≡ State.NoIo
+is-no-io State.Empty e = clash e refl
+is-no-io State.Registered e = clash e refl
+is-no-io State.Created e = clash e refl
+is-no-io State.Normal e = clash e refl
+is-no-io State.NoIo e = refl
+
+in-no-io : (n : Node) → Valid n → inHand (n .transfer) ≡ true → n .state ≡ State.NoIo
+in-no-io n v h =
+    is-no-io (n .state) (given _ _ (at-node (λ s store create t own. gives (standing s store create t own && inHand t) (isNoIo s)) refl n) (and-both (v .stand) h))
+
+none-else : (n : Node) → Valid n → n .state ≢ State.NoIo → Transfer.Nothing ≡ n .transfer
+none-else n v d = at (n .transfer) refl
+  where
+    at : (t : Transfer) → n .transfer ≡ t → Transfer.Nothing ≡ n .transfer
+    at Transfer.Nothing e = sym e
+    at Transfer.Ready e = absurd (d (in-no-io n v (ap inHand e)))
+    at Transfer.Taken e = absurd (d (in-no-io n v (ap inHand e)))
+
+node-done : (e : Event) (w : Held) → Known e w
+    → SaidOfTransfer e (w .at .node .state) (w .at .node .transfer) (doneAt e w .node .transfer)
+    × (length (w .at .node .kept) ≡ 16 → SaidOfKept e (keptChunks (w .at .node)) (keptChunks (doneAt e w .node)))
+unfolding shape wentTo equipped takenOver memberEntered memberDropped storedVersion keptChunk forgotten transferred endedTransfer instructed registeredCreate registeredAdd unregistered wiped joinedCreate left enabled disabled informed readied mapTaken committed written
+node-done Event.registerCreate w d = (refl, λ h. refl)
+node-done (Event.registerAdd set version) w d = (refl, λ h. refl)
+node-done (Event.unregister true) w d = ((λ q. refl, λ s. none-else (w .at .node) (d .rules) s), λ h. refl)
+node-done (Event.unregister false) w d = ((λ q. refl, λ s. none-else (w .at .node) (d .rules) s), λ h. refl)
+node-done (Event.joinCreate set) w d = (refl, λ h. refl)
+node-done Event.assemble w d = (refl, λ h. refl)
+node-done (Event.leave delete) w d = (refl, λ h. refl)
+node-done (Event.enable1 version set) w d = (refl, λ h. refl)
+node-done Event.enable0 w d = (refl, λ h. refl)
+node-done Event.fault w d = (refl, λ h. refl)
+node-done (Event.write chunk set version) w d = (refl, λ h. one-more (w .at .node .kept) (w .at .node .held) chunk h (few-held (w .at .node) (d .rules)))
+node-done (Event.synced member chunk) w d = (refl, λ h. refl)
+node-done (Event.poolInfo Op.AddCreate member) w d = (refl, λ h. refl)
+node-done (Event.poolInfo Op.AddAssemble member) w d = (refl, λ h. refl)
+node-done (Event.poolInfo Op.RemoveDelete member) w d = (refl, λ h. refl)
+node-done (Event.poolInfo Op.RemoveDisassemble member) w d = (refl, λ h. refl)
+node-done (Event.mapReady keep) w d = (refl, λ h. refl)
+node-done Event.give w d = (refl, λ h. refl)
+node-done (Event.take zs) w d = (refl, λ h. refl)
+node-done (Event.mapDone enabling version set) w d = (refl, λ h. refl)
+node-done Event.mapDisable w d = (refl, λ h. refl)
+node-done Event.mapGetVer w d = (refl, λ h. refl)
+node-done (Event.lastIoToMap chosen) w d = (refl, λ h. refl)
+
+pub transfer-as-said : TransferAsSaid
+transfer-as-said e w a =
+    let d = known e w a in
+    subst (λ (t : Turn). SaidOfTransfer e (w .at .node .state) (w .at .node .transfer) (t .node .transfer)) (sym (d .turn)) (node-done e w d .0)
+
+pub kept-as-said : KeptAsSaid
+kept-as-said e w h a =
+    let d = known e w a in
+    subst (λ (t : Turn). SaidOfKept e (keptChunks (w .at .node)) (keptChunks (t .node))) (sym (d .turn)) (node-done e w d .1 h)
