@@ -1,7 +1,7 @@
 #!/usr/bin/env python3
 """The table of docs/TRUST.md that says what to read, from the definitions themselves.
 
-What is followed: every contract (the definitions that a function of src/ cites) and every statement (all of specs/ of the crates of theorems), and from each definition
+What is followed: every contract (the definitions that a function of src/ cites) and every statement (all of specs/ of the crates that have some), and from each definition
 the ones that it is made of, through the imports. Crates of laws are read only where a contract or a statement rests on a definition there; the table names those.
 
   scripts/trust.py page    writes the table into the page
@@ -16,14 +16,14 @@ ROOT = os.path.dirname(os.path.dirname(os.path.abspath(__file__)))
 PAGE = os.path.join(ROOT, "docs", "TRUST.md")
 START, END = "| layer | files | lines, comments and imports with them |\n", "\n## What the definitions were compared with"
 LAYERS = {
-    "ground": "numbers refusals sets chunks maps rows",
+    "ground": "numbers refusals sets chunks maps rows versions",
     "client": "state roster changes run recovery rules exits joins enables links writes removal answers client",
     "node": "nodestate noderegister nodejoins nodeenables nodewrites nodeserve nodehand nodemaps node",
     "theorems": "order events bounds table nodeevents world honest demand3",
     "lab": "text names lines forms eventlines commands say sayclient saynode sayrow post lending anyclient anynode lendclient lendnode bench delivery reading history lab matrix",
 }
 LAWS = "laws keeps"  # crates of laws: what they say is proved of the others; only the definitions named in the table change what a contract or statement means
-THEOREMS = set(LAYERS["theorems"].split())
+THEOREMS = set((LAYERS["theorems"] + " versions").split())  # crates with statements in specs/
 
 HEAD = re.compile(r"^(?:(?:abbrev|unfoldable) )?(?:pub )?(?:(?:record|data) ([^\s(){}:;]+)|([^\s(){}:;]+)(?: \{[^}]*\})? :)")
 USE = re.compile(r"^(?:ghost )?use Rattle·(\w+?)(?:·specs\.specs|\.specs)\.([\w.]+?)(?:\.\{([^}]*)\}| as (\w[\w-]*));?$")
