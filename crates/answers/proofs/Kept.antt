@@ -7,7 +7,7 @@ use native.Mathlib.Omega.{arith}
 use lib.Dec.{eqb, ltb}
 use borrow.Author.Tests.{eqb-true}
 use Rattle.laws.specs.Words.{pick}
-use Rattle.laws.specs.Tests.{by-cases, clash, and-left, and-right}
+use Rattle.laws.specs.Tests.{by-cases, clash, and-left, and-right, either}
 use Rattle.refusals.specs.Limits.{chunkLimit, answerLimit, versionLimit}
 use Rattle.sets.specs.Sets.{has, lowest}
 use Rattle.sets.proofs.Laws.{has-without-same, lowest-in, lowest-zero, still}
@@ -104,18 +104,10 @@ failed-moves : (ro : Roster) (r : Run) → Ok ro → RunOk ro r → Steps ro (fa
 unfolding failedAnswer
 failed-moves ro r k v = fails (r .phase) ro r k v (v .source)
 
-moves-pick : (ro : Roster) (b : Bool) (x y : Move) → Steps ro x → Steps ro y → Steps ro (pick b x y)
-moves-pick ro true x y p q = p
-moves-pick ro false x y p q = q
-
-either : (P : ℕ → Type 0) (b : Bool) (x y : ℕ) → P x → P y → P (pick b x y)
-either P true x y p q = p
-either P false x y p q = q
-
 brings : (best version : ℕ) (ro : Roster) (r : Run) (b : Brought) → Ok ro → RunOk ro r → Some r → Asking ro (r .source) → Steps ro (versionBrought (ro .members) version best r b)
 brings best version ro r Brought.Nothing k v h q = failed-moves ro r k v
 brings best version ro r (Brought.Version w) k v h q =
-    moves-pick ro (ltb version w) (failedAnswer r) _ (failed-moves ro r k v)
+    either (Steps ro) (ltb version w) (failedAnswer r) _ (failed-moves ro r k v)
     (on-moves ro r _ k (v .plain)
     (versions-sound ro (k .long) r (pick (ltb best w) (hand r) (r .source))
     (record { none = q .none; all-able = q .all-able; member = either (λ (x : ℕ). has (ro .members) x ≡ true) (ltb best w) (hand r) (r .source) (members-of ro r k v (hand r) (lowest-in (r .left) (h .1))) (q .member) })
@@ -128,8 +120,8 @@ enters ro r id left k v c a out n =
     record {
       ok = candidate-enters ro id k (v .plain) (v .limit) (candidate-below ro id (k .long) c) c;
       sound = spread-sound (entered ro id) r left (λ j h. at j h (ℕ-discrete j id)) n;
-      same-members = entered-members ro id (v .plain);
-      same-version = entered-version ro id (v .plain);
+      same-members = entered-members ro id;
+      same-version = entered-version ro id;
       plain = entered-sync ro id (v .plain);
       able = λ j e. let q : id ≡ j = cc e in rw (← q) c;
     }

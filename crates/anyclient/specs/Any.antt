@@ -43,10 +43,10 @@ ownLeft (forms.Event.Maintenance id) c xs = xs
 ownLeft (forms.Event.LinkDown id) c xs = xs
 ownLeft (forms.Event.StoreCheck id) c xs = xs
 ownLeft forms.Event.Try c xs = xs
-ownLeft (forms.Event.Remove id mode) c xs = carried (removeTurn c xs id mode .effect) xs
-ownLeft (forms.Event.Write chunk reached) c xs = carried (writeTurn c xs chunk reached .effect) xs
+ownLeft (forms.Event.Remove id mode) c xs = carried (removeTurn (c .pool) xs id mode .effect) xs
+ownLeft (forms.Event.Write chunk reached) c xs = carried (writeTurn (c .pool) xs chunk reached .effect) xs
 ownLeft (forms.Event.Synced member chunk n) c xs = xs
-ownLeft (forms.Event.Answer number a) c xs = carried (answerTurn c xs number a .effect) xs
+ownLeft (forms.Event.Answer number a) c xs = carried (answerTurn (c .pool) xs number a .effect) xs
 
 -- every event of the theorems is that of a call
 pub record Called (e : Event) : Type 0 where

@@ -10,7 +10,6 @@ use lib.ListN.{length}
 use borrow.Author.Tests.{eqb-true, eq-eqb}
 use Rattle.laws.specs.Words.{pick, one}
 use Rattle.laws.specs.Tests.{clash, and-false}
-use Rattle.refusals.specs.Refusals.{applies}
 use Rattle.maps.specs.Map.{sound}
 use Rattle.state.specs.declared.Roster.{Roster}
 use Rattle.state.specs.declared.Run.{Run}
@@ -26,7 +25,7 @@ use Rattle.run.specs.declared.Move.{Move}
 use Rattle.run.specs.Run as run
 use Rattle.run.specs.Still.{possible}
 use Rattle.run.proofs.Bound.{counted-one, stillIn, Carries, Lowers, taken-well, lowers}
-use Rattle.recovery.specs.Recovery.{withRoster, jobEnded, posted, goneOn}
+use Rattle.recovery.specs.Recovery.{withRoster, runEnded, posted, goneOn}
 use Rattle.exits.specs.Exit.{refused}
 use Rattle.keeps.specs.Pools.{Valid, valid-of}
 use Rattle.keeps.specs.Runs.{RunOk, run-facts, entered-members}
@@ -35,13 +34,13 @@ use Rattle.answers.specs.Answers as answers
 use Rattle.answers.proofs.Kept.{fit-of}
 use Rattle.client.specs.declared.Client.{Client}
 use Rattle.client.specs.Client.{soundFor, answerTurn}
-use Rattle.events.specs.Events.{Event, turnOf, next, isAccepted}
-use Rattle.events.specs.Tests.{testsOf}
+use Rattle.events.specs.Events.{Event, turnOf, next, isAccepted, testsOf, isAnswer, isDown}
 use Rattle.order.proofs.Order.{none-applies}
 use Rattle.events.proofs.Shape.{whyNot}
+use Rattle.events.proofs.Law.{law}
 use Rattle.events.proofs.Demand1.{refused-turn}
-use Rattle.events.proofs.Keeps.{event-keeps}
-use Rattle.bounds.specs.Demand3.{isAnswer, isDown, through, awaitedAnswers, countOf, lastCount, anyCut, lastsPast, during, Stands, replied}
+use Rattle.events.proofs.Every.{event-keeps}
+use Rattle.bounds.specs.Demand3.{through, awaitedAnswers, countOf, lastCount, anyCut, lastsPast, during, Stands, replied}
 
 -- ---- the course
 
@@ -118,7 +117,7 @@ raised c r h =
 -- a session that becomes NORMAL leaves the membership as it was
 same-members : (w : Who) (ro : Roster) → ro .sync ≡ false → answers.enteredBy w ro .members ≡ ro .members
 same-members Who.Nobody ro e = refl
-same-members (Who.One id) ro e = entered-members ro id e
+same-members (Who.One id) ro e = entered-members ro id
 
 abbrev Ahead : List Event → Type 0
 Ahead es = (c : Client) (r : Run) → InHand c r → Course (during es c) c (r .taken) (possible (c .pool .roster .members) r)
@@ -238,23 +237,9 @@ refused-passes : (es : List Event) → Ahead es → (e : Event) (c : Client) (r 
 refused-passes es rec e c r h z =
     whole e es c _ true _ _ (refused-turn e c z) (refused-lasts e c r (h .job) z) (passes (isAnswer e) (isDown e) es c (whyNot e c) _ _ (rec c r h))
 
--- the sixth test of every event but answers and link down holds while a run is in hand
-pub six : (c : Client) (r : Run) → c .pool .job ≡ Job.Running r → (e : Event) → isAnswer e ≡ false → isDown e ≡ false → applies 6 (testsOf e c) ≡ true
-six c r q (Event.joinCreate id) a d = ap (λ (j : Job). not (isIdle j)) q
-six c r q (Event.joinAssemble id set version) a d = ap (λ (j : Job). not (isIdle j)) q
-six c r q (Event.enable id) a d = ap (λ (j : Job). not (isIdle j)) q
-six c r q (Event.maintenance id) a d = ap (λ (j : Job). not (isIdle j)) q
-six c r q (Event.linkDown id) a d = clash refl d
-six c r q (Event.storeCheck id) a d = ap (λ (j : Job). not (isIdle j)) q
-six c r q Event.tryRun a d = ap (λ (j : Job). not (isIdle j)) q
-six c r q (Event.remove xs id mode) a d = ap (λ (j : Job). not (isIdle j)) q
-six c r q (Event.write xs chunk reached) a d = ap isRunning q
-six c r q (Event.synced xs member chunk) a d = ap isRunning q
-six c r q (Event.answer xs number x) a d = clash refl a
-
 -- so none of them is accepted
 barred-out {ℓ} : {A : Type ℓ} (c : Client) (r : Run) → c .pool .job ≡ Job.Running r → (e : Event) → isAnswer e ≡ false → isDown e ≡ false → eqb (whyNot e c) 0 ≡ true → A
-barred-out c r q e a d z = clash (six c r q e a d) (none-applies (testsOf e c) (eqb-true (whyNot e c) 0 z) 5 (omega arith))
+barred-out c r q e a d z = clash (law e c .six r q a d) (none-applies (testsOf e c) (eqb-true (whyNot e c) 0 z) 6 refl)
 
 -- one that is accepted
 accepted-course : (es : List Event) → Ahead es → (e : Event) (c : Client) (r : Run) → InHand c r → eqb (whyNot e c) 0 ≡ true → Course (during (e ∷ es) c) c (r .taken) (possible (c .pool .roster .members) r)
@@ -289,7 +274,7 @@ course (e ∷ es) c r h = step es (course es) e c r h (eqb (whyNot e c) 0) refl
 -- ---- replies under the awaited numbers
 
 -- with a sound map, an answer under the awaited number is not refused
-pub not-refused : (c : Client) (r : Run) (xs : List ℕ) (a : Reply) → InHand c r → soundFor c xs ≡ true → whyNot (Event.answer xs (c .pool .number) a) c ≡ 0
+pub not-refused : (c : Client) (r : Run) (xs : List ℕ) (a : Reply) → InHand c r → soundFor (c .pool) xs ≡ true → whyNot (Event.answer xs (c .pool .number) a) c ≡ 0
 not-refused c r xs a h s = simp (valid-of (c .pool) (h .valid), s, h .job, eq-eqb (c .pool .number) (c .pool .number) refl)
 
 -- where nothing is awaited, replies change nothing
@@ -302,7 +287,7 @@ idle-next c xs a e = at (eqb (whyNot (Event.answer xs (c .pool .number) a) c) 0)
     at : (b : Bool) → eqb (whyNot (Event.answer xs (c .pool .number) a) c) 0 ≡ b → next (Event.answer xs (c .pool .number) a) c .pool .job ≡ Job.Idle
     at true z =
         clash (ap (λ (j : Job). not (not (isIdle j) && eqb n n)) e)
-        (none-applies (testsOf (Event.answer xs n a) c) (eqb-true (whyNot (Event.answer xs n a) c) 0 z) 12 (omega arith))
+        (none-applies (testsOf (Event.answer xs n a) c) (eqb-true (whyNot (Event.answer xs n a) c) 0 z) 13 refl)
     at false z = ap (λ (u : Turn). u .pool .job) (refused-turn (Event.answer xs n a) c z) ∙ e
 
 idle-stays : (xs : List ℕ) (rs : List Reply) (c : Client) → c .pool .job ≡ Job.Idle → replied xs rs c .pool .job ≡ Job.Idle
@@ -310,16 +295,16 @@ idle-stays xs [] c e = e
 idle-stays xs (a ∷ rs) c e = idle-stays xs rs (next (Event.answer xs (c .pool .number) a) c) (idle-next c xs a e)
 
 abbrev Ending : List ℕ → List Reply → Type 0
-Ending xs rs = (c : Client) (r : Run) → InHand c r → soundFor c xs ≡ true → possible (c .pool .roster .members) r ≤ length rs → replied xs rs c .pool .job ≡ Job.Idle
+Ending xs rs = (c : Client) (r : Run) → InHand c r → soundFor (c .pool) xs ≡ true → possible (c .pool .roster .members) r ≤ length rs → replied xs rs c .pool .job ≡ Job.Idle
 
 same-chunks : (n : Next) (p : Pool) → goneOn n p .pool .chunks ≡ p .chunks
 unfolding posted
 same-chunks Next.Over p = refl
 same-chunks (Next.On r) p = refl
 
-on-ending : (xs : List ℕ) (rs : List Reply) → Ending xs rs → (n : Next) (p : Pool) → Valid (goneOn n p .pool) → soundFor (of (goneOn n p .pool)) xs ≡ true → stillIn (p .roster .members) n ≤ length rs
+on-ending : (xs : List ℕ) (rs : List Reply) → Ending xs rs → (n : Next) (p : Pool) → Valid (goneOn n p .pool) → soundFor (goneOn n p .pool) xs ≡ true → stillIn (p .roster .members) n ≤ length rs
     → replied xs rs (of (goneOn n p .pool)) .pool .job ≡ Job.Idle
-on-ending xs rs rec Next.Over p v s l = idle-stays xs rs (of (jobEnded p)) refl
+on-ending xs rs rec Next.Over p v s l = idle-stays xs rs (of (runEnded p)) refl
 on-ending xs rs rec (Next.On r) p v s l =
     rec (of (goneOn (Next.On r) p .pool)) r (in-hand r p v) s
     (subst (λ (ro : Roster). possible (ro .members) r ≤ length rs) (sym (posted-roster r p)) l)

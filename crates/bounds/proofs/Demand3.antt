@@ -18,20 +18,22 @@ use Rattle.run.specs.declared.Next.{Next}
 use Rattle.run.specs.Run.{receiver}
 use Rattle.run.specs.Still.{possible}
 use Rattle.recovery.specs.Cases.{begun}
-use Rattle.recovery.specs.Recovery.{withRoster, jobEnded, tried, disablingBut}
+use Rattle.recovery.specs.Recovery.{withRoster, jobless, tried, disablingBut}
 use Rattle.exits.specs.Exit.{numberOf}
 use Rattle.keeps.specs.Tried.{tried-roster}
 use Rattle.links.specs.Links.{downAt}
 use Rattle.client.specs.declared.Client.{Client}
-use Rattle.events.specs.Events.{Event, turnOf, outOf, next, isAccepted}
+use Rattle.events.specs.Events.{Event, turnOf, outOf, next, isAccepted, isAnswer}
 use Rattle.events.specs.Demand1.{Verdict}
 use Rattle.events.specs.Demand2.{Reached}
 use Rattle.events.proofs.Shape.{whyNot}
+use Rattle.events.proofs.Law.{law}
+use Rattle.events.proofs.Tries.{ByTrial}
 use Rattle.events.proofs.Demand1.{demand-1, refused-turn}
 use Rattle.events.proofs.Demand2.{reached-valid}
-use Rattle.bounds.specs.Demand3.{isAnswer, cutsOff, through, awaitedAnswers, lastCount, during, most, Begins, triedIn, Afresh, Barred, Bounded, AtMost, NoneLost, Enough, cutPool, CutOff}
-use Rattle.bounds.proofs.Begin.{ByTrial, trial-run, event-tries, answer-calm, begun-most}
-use Rattle.bounds.proofs.Course.{Course, InHand, course, stands-on, took-turn, cut-turn, six, not-refused, ends}
+use Rattle.bounds.specs.Demand3.{cutsOff, through, awaitedAnswers, lastCount, during, most, Begins, triedIn, Afresh, Barred, Bounded, AtMost, NoneLost, Enough, cutPool, CutOff}
+use Rattle.bounds.proofs.Begin.{trial-run, answer-calm, begun-most}
+use Rattle.bounds.proofs.Course.{Course, InHand, course, stands-on, took-turn, cut-turn, not-refused, ends}
 
 -- ---- how it begins
 
@@ -76,7 +78,7 @@ afresh c e r b =
     }
   where
     t : ByTrial (c .pool) (turnOf e c)
-    t = event-tries e c (no-answer c e r b) (accepts c e r b) (ap isRunning (b .run))
+    t = law e c .tries (no-answer c e r b) (accepts c e r b) (ap isRunning (b .run))
 
     pool : next e c .pool ≡ tried (t .after) .pool
     pool = ap (λ (u : Turn). u .pool) (t .turn)
@@ -85,7 +87,7 @@ afresh c e r b =
     roster = sym (tried-roster (t .after)) ∙ sym (ap (λ (p : Pool). p .roster) pool)
 
     same : t .after ≡ triedIn e c
-    same = t .idle ∙ ap (λ (ro : Roster). jobEnded (withRoster (c .pool) ro)) roster
+    same = t .idle ∙ ap (λ (ro : Roster). jobless (withRoster (c .pool) ro)) roster
 
     case : begun (next e c .pool .roster) ≡ Next.On r
     case = sym (ap begun roster) ∙ trial-run (t .after) r (ap (λ (p : Pool). isRunning (p .job)) (t .idle)) (sym (ap (λ (p : Pool). p .job) pool) ∙ b .run)
@@ -97,7 +99,7 @@ barred c r q e a d = at (demand-1 e c)
   where
     at : Verdict e c → (isAccepted (outOf e c .answer) ≡ false) × (next e c ≡ c)
     at (Verdict.refused n p h) = (ap isAccepted p, h .client)
-    at (Verdict.done s p h) = clash (six c r q e a d) (h 5 (omega arith))
+    at (Verdict.done s p h) = clash (law e c .six r q a d) (h 6 refl)
 
 begin-hand : (c : Client) (e : Event) (r : Run) → Begins c e r → InHand (next e c) r
 begin-hand c e r b = record { valid = reached-valid (next e c) (Reached.then c e (b .reached)); job = b .run }

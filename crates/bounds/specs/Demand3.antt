@@ -21,41 +21,15 @@ use Rattle.rules.specs.Jobs.{isRunning}
 use Rattle.run.specs.declared.Next.{Next}
 use Rattle.run.specs.Run.{receiver}
 use Rattle.recovery.specs.Cases.{begun}
-use Rattle.recovery.specs.Recovery.{withRoster, jobEnded, tried, disablingBut}
+use Rattle.recovery.specs.Recovery.{withRoster, jobless, runEnded, tried, disablingBut}
 use Rattle.exits.specs.Exit.{numberOf}
 use Rattle.links.specs.Links.{dropped}
 use Rattle.client.specs.declared.Client.{Client}
 use Rattle.client.specs.Client.{soundFor}
-use Rattle.events.specs.Events.{Event, outOf, next, isAccepted}
+use Rattle.events.specs.Events.{Event, outOf, next, isAccepted, isAnswer, isDown}
 use Rattle.events.specs.Demand2.{Reached}
 
 -- ---- events one after the other
-
-abbrev pub isAnswer : Event → Bool
-isAnswer (Event.joinCreate id) = false
-isAnswer (Event.joinAssemble id set version) = false
-isAnswer (Event.enable id) = false
-isAnswer (Event.maintenance id) = false
-isAnswer (Event.linkDown id) = false
-isAnswer (Event.storeCheck id) = false
-isAnswer Event.tryRun = false
-isAnswer (Event.remove xs id mode) = false
-isAnswer (Event.write xs chunk reached) = false
-isAnswer (Event.synced xs member chunk) = false
-isAnswer (Event.answer xs number a) = true
-
-abbrev pub isDown : Event → Bool
-isDown (Event.joinCreate id) = false
-isDown (Event.joinAssemble id set version) = false
-isDown (Event.enable id) = false
-isDown (Event.maintenance id) = false
-isDown (Event.linkDown id) = true
-isDown (Event.storeCheck id) = false
-isDown Event.tryRun = false
-isDown (Event.remove xs id mode) = false
-isDown (Event.write xs chunk reached) = false
-isDown (Event.synced xs member chunk) = false
-isDown (Event.answer xs number a) = false
 
 -- an awaited answer: one that is accepted, good or failed
 abbrev pub isAwaited : Event → Client → Bool
@@ -120,7 +94,7 @@ pub record Begins (c : Client) (e : Event) (r : Run) : Type 0 where
 
 -- the pool in which an event that tries recovery tries it: the sessions as the event leaves them, no job in hand
 abbrev pub triedIn : Event → Client → Pool
-triedIn e c = jobEnded (withRoster (c .pool) (next e c .pool .roster))
+triedIn e c = jobless (withRoster (c .pool) (next e c .pool .roster))
 
 -- The event is an accepted one, and no answer; the run is that of one of the three cases for the sessions as they then are, with no answer taken; the next pool,
 -- the awaited message and its number are those of recovery tried.
@@ -178,7 +152,7 @@ AtMost = (c : Client) (e : Event) (r : Run) → Begins c e r → (es : List Even
 
 -- While a run is in hand at a reached client, an answer under the awaited number with a sound map is never refused, whatever it says.
 abbrev pub NoneLost : Type 0
-NoneLost = (c : Client) → Reached c → (r : Run) → c .pool .job ≡ Job.Running r → (xs : List ℕ) → soundFor c xs ≡ true → (a : Reply)
+NoneLost = (c : Client) → Reached c → (r : Run) → c .pool .job ≡ Job.Running r → (xs : List ℕ) → soundFor (c .pool) xs ≡ true → (a : Reply)
     → isAwaited (Event.answer xs (c .pool .number) a) c ≡ true
 
 -- the client after these replies, each handed in under the awaited number with the map xs
@@ -188,14 +162,14 @@ replied xs (a ∷ rs) c = replied xs rs (next (Event.answer xs (c .pool .number)
 
 -- So as many replies as the bound says end the run, whatever they say.
 abbrev pub Enough : Type 0
-Enough = (c : Client) (e : Event) (r : Run) → Begins c e r → (xs : List ℕ) → soundFor (next e c) xs ≡ true → (rs : List Reply) → most (next e c .pool .roster) ≤ length rs
+Enough = (c : Client) (e : Event) (r : Run) → Begins c e r → (xs : List ℕ) → soundFor (next e c .pool) xs ≡ true → (rs : List Reply) → most (next e c .pool .roster) ≤ length rs
     → replied xs rs (next e c) .pool .job ≡ Job.Idle
 
 -- ---- a link down
 
 -- the pool whose run a link down ended: its session dropped, no job in hand
 abbrev pub cutPool : ℕ → Client → Pool
-cutPool id c = jobEnded (withRoster (c .pool) (dropped (c .pool .roster) id))
+cutPool id c = runEnded (withRoster (c .pool) (dropped (c .pool .roster) id))
 
 -- The run r is ended at once, and recovery is tried in the ended pool: the next pool, the awaited message and its number are those of the trial, so the run is not kept,
 -- and one that is in hand afterwards is new, with no answer taken. The result counts the answers taken in the ended run. MAP_DISABLE goes to the receiver in hand,

@@ -11,6 +11,7 @@ use Rattle.maps.specs.Map.{zeroRow, zeroed, sound}
 use Rattle.state.specs.declared.Mode.{Mode}
 use Rattle.state.specs.declared.Reply.{Reply}
 use Rattle.state.specs.declared.Job.{Job}
+use Rattle.state.specs.declared.Pool.{Pool}
 use Rattle.state.specs.declared.Effect.{Effect}
 use Rattle.state.specs.declared.Turn.{Turn}
 use Rattle.state.specs.Session.{free}
@@ -46,17 +47,17 @@ carried Effect.ZeroAll xs = zeroed xs
 
 -- ---- the events that a map is lent to: what they do, judged by the lent map's soundness
 
-abbrev pub soundFor : Client → List ℕ → Bool
-soundFor c xs = sound (c .pool .chunks) xs
+abbrev pub soundFor : Pool → List ℕ → Bool
+soundFor p xs = sound (p .chunks) xs
 
-unfoldable pub removeTurn : Client → List ℕ → ℕ → Mode → Turn
-removeTurn c xs id mode = remove (c .pool) (soundFor c xs) id mode
+unfoldable pub removeTurn : Pool → List ℕ → ℕ → Mode → Turn
+removeTurn p xs id mode = remove p (soundFor p xs) id mode
 
-unfoldable pub writeTurn : Client → List ℕ → ℕ → ℕ → Turn
-writeTurn c xs chunk reached = writeEnded (c .pool) (soundFor c xs) chunk reached
+unfoldable pub writeTurn : Pool → List ℕ → ℕ → ℕ → Turn
+writeTurn p xs chunk reached = writeEnded p (soundFor p xs) chunk reached
 
-unfoldable pub answerTurn : Client → List ℕ → ℕ → Reply → Turn
-answerTurn c xs number a = answer (c .pool) (soundFor c xs) number a
+unfoldable pub answerTurn : Pool → List ℕ → ℕ → Reply → Turn
+answerTurn p xs number a = answer p (soundFor p xs) number a
 
 -- the ids below m for which chunk c is clean in a map
 unfoldable pub cleanTo : List ℕ → ℕ → ℕ → ℕ
@@ -64,5 +65,5 @@ cleanTo xs c zero = 0
 cleanTo xs c (suc m) = pick (eqb (dirty xs m c) 1) (cleanTo xs c m) (with (cleanTo xs c m) m)
 
 -- the map lent to synced is a NORMAL node's, and is only read
-unfoldable pub syncedTurn : Client → List ℕ → ℕ → ℕ → Turn
-syncedTurn c xs member chunk = synced (c .pool) (soundFor c xs) member chunk (cleanTo xs chunk 16)
+unfoldable pub syncedTurn : Pool → List ℕ → ℕ → ℕ → Turn
+syncedTurn p xs member chunk = synced p (soundFor p xs) member chunk (cleanTo xs chunk 16)

@@ -136,8 +136,8 @@ impl Client {
     }
 
     pub fn remove(self, map: &mut [u8], id: u64, mode: Mode) -> Out
-        ensures { λ r. ⌜ r ≡ handed (removeTurn self (now (map .entry)) id mode) ⌝ }
-        ensures { λ r. ⌜ now (map .exit) ≡ carried (removeTurn self (now (map .entry)) id mode .effect) (now (map .entry)) ⌝ }
+        ensures { λ r. ⌜ r ≡ handed (removeTurn (self .pool) (now (map .entry)) id mode) ⌝ }
+        ensures { λ r. ⌜ now (map .exit) ≡ carried (removeTurn (self .pool) (now (map .entry)) id mode .effect) (now (map .entry)) ⌝ }
     {
         let p = self.pool;
         let sound = maps::is_sound(map, p.chunks);
@@ -148,8 +148,8 @@ impl Client {
     }
 
     pub fn write(mut self, map: &mut [u8], chunk: u64, reached: u64) -> Out
-        ensures { λ r. ⌜ r ≡ handed (writeTurn self (now (map .entry)) chunk reached) ⌝ }
-        ensures { λ r. ⌜ now (map .exit) ≡ carried (writeTurn self (now (map .entry)) chunk reached .effect) (now (map .entry)) ⌝ }
+        ensures { λ r. ⌜ r ≡ handed (writeTurn (self .pool) (now (map .entry)) chunk reached) ⌝ }
+        ensures { λ r. ⌜ now (map .exit) ≡ carried (writeTurn (self .pool) (now (map .entry)) chunk reached .effect) (now (map .entry)) ⌝ }
     {
         let p = self.pool;
         let sound = maps::is_sound(map, p.chunks);
@@ -167,7 +167,7 @@ impl Client {
 
     // The map lent is a NORMAL node's; it is only read.
     pub fn synced(self, map: &[u8], member: u64, chunk: u64) -> Out
-        ensures { λ r. ⌜ r ≡ handed (syncedTurn self (now (map .entry)) member chunk) ⌝ }
+        ensures { λ r. ⌜ r ≡ handed (syncedTurn (self .pool) (now (map .entry)) member chunk) ⌝ }
     {
         let p = self.pool;
         let sound = maps::is_sound(map, p.chunks);
@@ -176,8 +176,8 @@ impl Client {
     }
 
     pub fn answer(mut self, map: &mut [u8], number: u64, a: Reply) -> Out
-        ensures { λ r. ⌜ r ≡ handed (answerTurn self (now (map .entry)) number a) ⌝ }
-        ensures { λ r. ⌜ now (map .exit) ≡ carried (answerTurn self (now (map .entry)) number a .effect) (now (map .entry)) ⌝ }
+        ensures { λ r. ⌜ r ≡ handed (answerTurn (self .pool) (now (map .entry)) number a) ⌝ }
+        ensures { λ r. ⌜ now (map .exit) ≡ carried (answerTurn (self .pool) (now (map .entry)) number a .effect) (now (map .entry)) ⌝ }
     {
         let p = self.pool;
         let sound = maps::is_sound(map, p.chunks);

@@ -17,7 +17,7 @@ use Rattle.client.specs.declared.Client.{Client}
 use Rattle.events.specs.Events.{turnOf, isAccepted}
 use Rattle.events.proofs.Demand2.{sound-stays}
 use Rattle.bounds.specs.Demand3.{New}
-use Rattle.bounds.proofs.Begin.{event-tries}
+use Rattle.events.proofs.Law.{law}
 use Rattle.bounds.proofs.Demand3.{afresh}
 use Rattle.nodestate.specs.Change.{endedTransfer, transferred}
 use Rattle.nodestate.specs.Turns.{settled}
@@ -107,4 +107,4 @@ heard-leaves w e r b snd = (
     n = afresh (of w) e r b
 
     effect : turnOf e (of w) .effect ≡ Effect.Keep
-    effect = ap (λ (u : Turn). u .effect) (event-tries e (of w) (n .event) (ap isAccepted (n .accepted)) (ap isRunning (b .run)) .turn)
+    effect = ap (λ (u : Turn). u .effect) (law e (of w) .tries (n .event) (ap isAccepted (n .accepted)) (ap isRunning (b .run)) .turn)

@@ -3,21 +3,20 @@ use mathlib.Core.Path.{_≡_, refl, ap, _∙_}
 use mathlib.Core.Bool.{Bool, true, false}
 use lib.Dec.{eqb}
 use borrow.Author.Tests.{eqb-true, eqb-false}
-use Rattle.laws.specs.Words.{pick}
 use Rattle.laws.specs.Tests.{clash}
-use Rattle.state.specs.declared.Pool.{Pool}
-use Rattle.state.specs.declared.Sent.{Sent}
+use Rattle.laws.specs.Words.{pick}
+use Rattle.order.proofs.Order.{first-applies, none-applies}
 use Rattle.state.specs.declared.Answer.{Answer}
 use Rattle.state.specs.declared.Effect.{Effect}
+use Rattle.state.specs.declared.Pool.{Pool}
+use Rattle.state.specs.declared.Sent.{Sent}
 use Rattle.state.specs.declared.Turn.{Turn}
 use Rattle.exits.specs.Exit.{refused}
 use Rattle.client.specs.declared.Client.{Client}
-use Rattle.client.specs.Client.{carried}
-use Rattle.events.specs.Events.{Event, turnOf, isAccepted, Lent, lentTo, mapLeft}
-use Rattle.events.specs.Tests.{testsOf}
 use Rattle.events.specs.Demand1.{Refuses, Verdict, Demand1}
-use Rattle.order.proofs.Order.{first-applies, none-applies}
-use Rattle.events.proofs.Shape.{whyNot, shape}
+use Rattle.events.specs.Events.{Event, turnOf, isAccepted, testsOf}
+use Rattle.events.proofs.Law.{law}
+use Rattle.events.proofs.Shape.{whyNot}
 
 record Sends (a : Answer) : Type 0 where
   what : Sent
@@ -27,26 +26,12 @@ sends : (a : Answer) → isAccepted a ≡ true → Sends a
 sends (Answer.Refused n) e = clash e refl
 sends (Answer.Done s) e = record { what = s; is = refl }
 
--- where nothing is done to the map, it is left as it was lent
-left-same : (e : Event) (c : Client) → turnOf e c .effect ≡ Effect.Keep → mapLeft e c ≡ lentTo e
-left-same (Event.joinCreate id) c q = refl
-left-same (Event.joinAssemble id set version) c q = refl
-left-same (Event.enable id) c q = refl
-left-same (Event.maintenance id) c q = refl
-left-same (Event.linkDown id) c q = refl
-left-same (Event.storeCheck id) c q = refl
-left-same Event.tryRun c q = refl
-left-same (Event.remove xs id mode) c q = ap (λ (ef : Effect). Lent.some (carried ef xs)) q
-left-same (Event.write xs chunk reached) c q = ap (λ (ef : Effect). Lent.some (carried ef xs)) q
-left-same (Event.synced xs member chunk) c q = refl
-left-same (Event.answer xs number a) c q = ap (λ (ef : Effect). Lent.some (carried ef xs)) q
-
 -- an event that is refused, and one that is not
 pub refused-turn : (e : Event) (c : Client) → eqb (whyNot e c) 0 ≡ false → turnOf e c ≡ refused (c .pool) (whyNot e c)
-refused-turn e c z = shape e c .same ∙ ap (λ (b : Bool). pick b (shape e c .does) (refused (c .pool) (whyNot e c))) z
+refused-turn e c z = law e c .same ∙ ap (λ (b : Bool). pick b (law e c .does) (refused (c .pool) (whyNot e c))) z
 
-pub done-turn : (e : Event) (c : Client) → eqb (whyNot e c) 0 ≡ true → turnOf e c ≡ shape e c .does
-done-turn e c z = shape e c .same ∙ ap (λ (b : Bool). pick b (shape e c .does) (refused (c .pool) (whyNot e c))) z
+pub done-turn : (e : Event) (c : Client) → eqb (whyNot e c) 0 ≡ true → turnOf e c ≡ law e c .does
+done-turn e c z = law e c .same ∙ ap (λ (b : Bool). pick b (law e c .does) (refused (c .pool) (whyNot e c))) z
 
 refuses : (e : Event) (c : Client) → eqb (whyNot e c) 0 ≡ false → Refuses e c (whyNot e c)
 refuses e c z =
@@ -56,7 +41,7 @@ refuses e c z =
       first = first-applies (testsOf e c) (eqb-false (whyNot e c) 0 z);
       client = ap (λ (t : Turn). of (t .pool)) q;
       effect = k;
-      map = left-same e c k;
+      map = law e c .same-map k;
     }
   where
     of : Pool → Client
@@ -67,7 +52,7 @@ demand-1 e c = at (eqb (whyNot e c) 0) refl
   where
     at : (b : Bool) → eqb (whyNot e c) 0 ≡ b → Verdict e c
     at true z =
-        let q : turnOf e c .answer ≡ shape e c .does .answer = ap (λ (t : Turn). t .answer) (done-turn e c z) in
-        let s = sends (shape e c .does .answer) (shape e c .plain (eqb-true (whyNot e c) 0 z)) in
+        let q : turnOf e c .answer ≡ law e c .does .answer = ap (λ (t : Turn). t .answer) (done-turn e c z) in
+        let s = sends (law e c .does .answer) (law e c .plain (eqb-true (whyNot e c) 0 z)) in
         Verdict.done (s .what) (q ∙ s .is) (none-applies (testsOf e c) (eqb-true (whyNot e c) 0 z))
     at false z = Verdict.refused (whyNot e c) (ap (λ (t : Turn). t .answer) (refused-turn e c z)) (refuses e c z)

@@ -1,27 +1,23 @@
 -- Demand 2 for the client: what holds of every reached client, and of every event there.
-use mathlib.Core.Path.{_≡_, refl, sym, ap, _∙_}
+use mathlib.Core.Path.{_≡_, refl, ap, _∙_, sym}
 use mathlib.Core.Bool.{Bool, true, false, not}
 use Prim.Native.Nat.{ℕ}
 use Rattle.laws.specs.Tests.{clash}
 use Rattle.refusals.specs.Refusals.{applies}
-use Rattle.state.specs.declared.State.{State}
-use Rattle.state.specs.declared.Answer.{Answer}
 use Rattle.state.specs.Table.{legal}
-use Rattle.rules.specs.Rules.{validPool}
+use Rattle.state.specs.declared.Answer.{Answer}
+use Rattle.state.specs.declared.State.{State}
 use Rattle.keeps.specs.Pools.{Valid, valid-of}
 use Rattle.client.specs.declared.Client.{Client}
-use Rattle.events.specs.Events.{Event, outOf, next}
-use Rattle.events.specs.Tests.{testsOf}
 use Rattle.events.specs.Demand1.{Verdict}
-use Rattle.events.specs.Demand2.{Reached, RulesKept, NeverOne, stateOf, isSync, Change, ByTheTable, VersionNeverFalls, OthersStay, MapOnly, SoundStays}
-use Rattle.events.proofs.States.{normal-is}
+use Rattle.events.specs.Demand2.{Reached, RulesKept, NeverOne, Change, ByTheTable, VersionNeverFalls, OthersStay, MapOnly, SoundStays}
+use Rattle.events.specs.Events.{Event, testsOf, outOf, next, stateOf, isSync}
 use Rattle.events.proofs.Demand1.{demand-1}
-use Rattle.events.proofs.Keeps.{fresh-valid, event-keeps}
-use Rattle.events.proofs.Others.{event-others}
-use Rattle.events.proofs.Fates.{Fate, state-of, kept-stands, event-fate}
-use Rattle.events.proofs.Versions.{event-kind, event-never-falls}
-use Rattle.events.proofs.Touches.{event-touches}
-use Rattle.events.proofs.Sound.{event-same, event-sound}
+use Rattle.events.proofs.Every.{event-keeps, event-touches, event-same, event-sound, event-others, event-fate, event-kind, event-never-falls}
+use Rattle.events.proofs.Fates.{Fate, state-of, kept-stands}
+use Rattle.events.proofs.Keeps.{fresh-valid}
+use Rattle.events.proofs.Law.{law}
+use Rattle.events.proofs.States.{normal-is}
 
 pub reached-valid : (c : Client) → Reached c → Valid (c .pool)
 reached-valid _ (Reached.start sync chunks a b) = fresh-valid sync chunks a b
@@ -29,20 +25,6 @@ reached-valid _ (Reached.then c e r) = event-keeps e c (reached-valid c r)
 
 pub rules-kept : RulesKept
 rules-kept c r = valid-of (c .pool) (reached-valid c r)
-
--- refusal 1 applies where the rules are broken
-one-applies : (e : Event) (c : Client) → applies 1 (testsOf e c) ≡ not (validPool (c .pool))
-one-applies (Event.joinCreate id) c = refl
-one-applies (Event.joinAssemble id set version) c = refl
-one-applies (Event.enable id) c = refl
-one-applies (Event.maintenance id) c = refl
-one-applies (Event.linkDown id) c = refl
-one-applies (Event.storeCheck id) c = refl
-one-applies Event.tryRun c = refl
-one-applies (Event.remove xs id mode) c = refl
-one-applies (Event.write xs chunk reached) c = refl
-one-applies (Event.synced xs member chunk) c = refl
-one-applies (Event.answer xs number a) c = refl
 
 -- the refusal that was given
 refusal-of : (e : Event) (c : Client) (n : ℕ) → outOf e c .answer ≡ Answer.Refused n → applies n (testsOf e c) ≡ true
@@ -55,7 +37,7 @@ refusal-of e c n q = at (demand-1 e c)
 pub never-one : NeverOne
 never-one c r e n q z =
     let a : applies 1 (testsOf e c) ≡ true = ap (λ (k : ℕ). applies k (testsOf e c)) (sym z) ∙ refusal-of e c n q in
-    clash a (one-applies e c ∙ ap not (rules-kept c r))
+    clash a (law e c .one ∙ ap not (rules-kept c r))
 
 -- a fate is a change by the table
 from-normal : (sync : Bool) → sync ≡ false → legal sync State.Normal State.Reconnecting ≡ true

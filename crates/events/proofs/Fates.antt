@@ -1,5 +1,5 @@
 -- What an event makes of the record of each session, and why.
-use mathlib.Core.Path.{_≡_, refl, sym, ap, _∙_}
+use mathlib.Core.Path.{_≡_, refl, ap, _∙_, sym}
 use mathlib.Core.Logic.{_≢_}
 use mathlib.Core.Bool.{Bool, true, false, not, _&&_, _||_}
 use mathlib.Core.List.{List}
@@ -7,79 +7,63 @@ use Prim.Native.Nat.{ℕ, _-_, _<_}
 use native.Mathlib.Omega.{arith}
 use lib.Dec.{eqb, ltb}
 use borrow.Author.Tests.{eqb-true, eq-eqb, ltb-true}
+use Rattle.laws.specs.Tests.{clash, by-cases, and-left}
 use Rattle.laws.specs.Words.{pick}
-use Rattle.laws.specs.Tests.{by-cases, clash, and-left}
-use Rattle.sets.specs.Sets.{has, countTo}
 use Rattle.sets.proofs.Laws.{countTo-none}
-use Rattle.state.specs.declared.Mode.{Mode}
-use Rattle.state.specs.declared.State.{State}
-use Rattle.state.specs.declared.Session.{Session}
-use Rattle.state.specs.declared.Roster.{Roster}
-use Rattle.state.specs.declared.Phase.{Phase}
-use Rattle.state.specs.declared.Step.{Step}
-use Rattle.state.specs.declared.Stage.{Stage}
-use Rattle.state.specs.declared.Run.{Run}
-use Rattle.state.specs.declared.Job.{Job}
-use Rattle.state.specs.declared.Pool.{Pool}
-use Rattle.state.specs.declared.Brought.{Brought}
-use Rattle.state.specs.declared.Reply.{Reply}
+use Rattle.sets.specs.Sets.{has, countTo}
 use Rattle.state.specs.Session.{isFree, isCreated, isNormal, isFailed, isReconnecting, isRemoving, isOwed, free, newSession, moved, flagged, marked}
 use Rattle.state.specs.Table.{legal}
+use Rattle.state.specs.declared.Brought.{Brought}
+use Rattle.state.specs.declared.Job.{Job}
+use Rattle.state.specs.declared.Mode.{Mode}
+use Rattle.state.specs.declared.Phase.{Phase}
+use Rattle.state.specs.declared.Pool.{Pool}
+use Rattle.state.specs.declared.Reply.{Reply}
+use Rattle.state.specs.declared.Roster.{Roster}
+use Rattle.state.specs.declared.Run.{Run}
+use Rattle.state.specs.declared.Session.{Session}
+use Rattle.state.specs.declared.Stage.{Stage}
+use Rattle.state.specs.declared.State.{State}
+use Rattle.state.specs.declared.Step.{Step}
 use Rattle.roster.specs.Roster.{sessionAt}
-use Rattle.changes.specs.declared.Way.{Way}
 use Rattle.changes.specs.Changes.{owes, removing}
-use Rattle.rules.specs.Rules.{jobOk}
-use Rattle.run.specs.declared.Who.{Who}
+use Rattle.changes.specs.declared.Way.{Way}
 use Rattle.run.specs.Run.{hand, failedAt, failedAnswer, versionBrought, goodAt, good, awaitedAt, awaitedIn}
+use Rattle.run.specs.declared.Who.{Who}
 use Rattle.recovery.specs.Recovery.{withRoster}
 use Rattle.exits.proofs.Laws.{turned}
-use Rattle.keeps.specs.Pools.{Valid, removal-facts}
-use Rattle.keeps.specs.Runs.{RunOk, run-facts}
-use Rattle.keeps.specs.Links.{counted}
+use Rattle.rules.specs.Rules.{jobOk}
 use Rattle.keeps.specs.Changes.{moved-plain, removing-at}
+use Rattle.keeps.specs.Links.{counted}
+use Rattle.keeps.specs.Pools.{Valid, removal-facts}
 use Rattle.keeps.specs.Records.{isLast, bare, entered-at, left-at, left-other, left-numbers, normal-below}
+use Rattle.keeps.specs.Runs.{RunOk, run-facts}
 use Rattle.keeps.specs.Tried.{tried-roster}
-use Rattle.joins.specs.Joins.{createRefusal, createDone, joinCreate, assembleRefusal, assembled, assembleDone, joinAssemble}
 use Rattle.joins.proofs.Kept.{create-passed, created-at, assemble-passed, assembled-at}
-use Rattle.enables.specs.Enables.{enables, enableRefusal, enable, maintenanceRefusal, maintenanceDone, maintenance}
+use Rattle.joins.specs.Joins.{createRefusal, createDone, joinCreate, assembleRefusal, assembled, assembleDone, joinAssemble}
 use Rattle.enables.proofs.Kept.{enable-passed, enabled-at, maintenance-passed}
-use Rattle.links.specs.Links.{drops, downRefusal, dropped, downDone, linkDown, checks, checkRefusal, storeCheck}
+use Rattle.enables.specs.Enables.{enables, enableRefusal, enable, maintenanceRefusal, maintenanceDone, maintenance}
 use Rattle.links.proofs.Kept.{Drops, down-passed, down-roster, dropped-at, dropped-other, normal-dropped, check-passed, checked-at}
-use Rattle.writes.specs.Writes.{missed, writeRefusal, writeEnded}
-use Rattle.writes.proofs.Kept.{misses, write-passed, write-roster, missed-does}
+use Rattle.links.specs.Links.{drops, downRefusal, dropped, downDone, linkDown, checks, checkRefusal, storeCheck}
+use Rattle.removal.proofs.Steps.{isDue, departed-goes, started-goes, told-goes, paid-at, paid-long, removing-long, Removable, remove-passed}
 use Rattle.removal.specs.Removal as removal
 use Rattle.removal.specs.Remove.{otherMode, removeRefusal, remove}
-use Rattle.removal.proofs.Steps.{isDue, departed-goes, started-goes, told-goes, paid-at, paid-long, removing-long, Removable, remove-passed}
-use Rattle.answers.specs.Answers.{answerRefusal, enteredBy, reported, answered, answer}
+use Rattle.writes.proofs.Kept.{misses, write-passed, write-roster, missed-does}
+use Rattle.writes.specs.Writes.{missed, writeRefusal, writeEnded}
 use Rattle.answers.proofs.Kept.{candidate-below, run-able, run-roster}
-use Rattle.client.specs.declared.Client.{Client}
+use Rattle.answers.specs.Answers.{answerRefusal, enteredBy, answered, answer, reported}
 use Rattle.client.specs.Client.{soundFor, removeTurn, writeTurn, answerTurn}
-use Rattle.events.specs.Events.{Event, next}
-use Rattle.events.specs.Demand2.{recordOf, stateOf, isSync, isOne, answerConcerns, concerns, Kept}
-use Rattle.events.specs.Said.{countOf, jobOf, membersOf, versionOf, enabling, Becomes, Part, answerPart, partOf}
-use Rattle.events.proofs.States.{and-true, free-is, created-is, reconnecting-is, unborne, mode-same}
-use Rattle.events.proofs.Keeps.{event-keeps}
-use Rattle.events.proofs.Others.{event-others}
+use Rattle.client.specs.declared.Client.{Client}
+use Rattle.events.specs.Demand2.{Kept}
+use Rattle.events.specs.Events.{Event, next, stateOf, isSync, recordOf, isOne, answerConcerns, jobOf, Part, answerPart, partOf, raises}
+use Rattle.events.specs.Said.{countOf, membersOf, versionOf, enabling, Becomes}
+use Rattle.events.proofs.States.{and-true, free-is, created-is, reconnecting-is, unborne}
 
 -- ---- the statement
 
 -- nobody NORMAL stands above id
 abbrev pub noneAbove : Client → ℕ → Bool
 noneAbove c id = eqb (countTo (λ j. isNormal (stateOf c j) && ltb id j) 16) 0
-
--- the events that may raise the version
-abbrev pub raises : Event → Bool
-raises (Event.joinCreate id) = false
-raises (Event.joinAssemble id set version) = true
-raises (Event.enable id) = false
-raises (Event.maintenance id) = false
-raises (Event.linkDown id) = true
-raises (Event.storeCheck id) = false
-raises Event.tryRun = false
-raises (Event.remove xs id mode) = false
-raises (Event.write xs chunk reached) = true
-raises (Event.synced xs member chunk) = false
-raises (Event.answer xs number a) = false
 
 -- part of a removal
 abbrev pub isPart : Part → Bool
@@ -137,14 +121,14 @@ alone c c′ id v v′ plain zero others =
 
 -- ---- joins
 
-create-fate : (c : Client) (id : ℕ) → Valid (c .pool) → Fate c (Event.joinCreate id) (next (Event.joinCreate id) c) id
+pub create-fate : (c : Client) (id : ℕ) → Valid (c .pool) → Fate c (Event.joinCreate id) (next (Event.joinCreate id) c) id
 unfolding joinCreate createDone
 create-fate c id v =
     turned (Has c (Event.joinCreate id) id) (createRefusal (c .pool) id) _ (c .pool) (stays c (Event.joinCreate id) id)
     (λ e. let h = create-passed (c .pool) id e in
     Fate.begins refl (free-is (stateOf c id) (h .none)) (created-at (c .pool .roster) id (v .ok .long) (h .below)))
 
-assemble-fate : (c : Client) (id set version : ℕ) → Valid (c .pool) → Fate c (Event.joinAssemble id set version) (next (Event.joinAssemble id set version) c) id
+pub assemble-fate : (c : Client) (id set version : ℕ) → Valid (c .pool) → Fate c (Event.joinAssemble id set version) (next (Event.joinAssemble id set version) c) id
 unfolding joinAssemble assembleDone
 assemble-fate c id set version v =
     turned (Has c (Event.joinAssemble id set version) id) (assembleRefusal (c .pool) id set version) _ (c .pool) (stays c (Event.joinAssemble id set version) id)
@@ -154,7 +138,7 @@ assemble-fate c id set version v =
 
 -- ---- enable, maintenance
 
-enable-fate : (c : Client) (id : ℕ) → Valid (c .pool) → Fate c (Event.enable id) (next (Event.enable id) c) id
+pub enable-fate : (c : Client) (id : ℕ) → Valid (c .pool) → Fate c (Event.enable id) (next (Event.enable id) c) id
 unfolding enable enables
 enable-fate c id v =
     turned (Has c (Event.enable id) id) (enableRefusal (c .pool) id) _ (c .pool) (stays c (Event.enable id) id)
@@ -165,7 +149,7 @@ enable-fate c id v =
     Fate.goes State.Normal (rw is refl) (λ n. clash n (rw is refl)) (λ n s. Becomes.enabled b) (rw b at r))
     (λ b. Fate.unflagged refl (and-left (isReconnecting (stateOf c id)) (recordOf c id .maintenance) (rw b at (h .may))) (rw b at r)))
 
-maintenance-fate : (c : Client) (id : ℕ) → Valid (c .pool) → Valid (next (Event.maintenance id) c .pool) → Fate c (Event.maintenance id) (next (Event.maintenance id) c) id
+pub maintenance-fate : (c : Client) (id : ℕ) → Valid (c .pool) → Valid (next (Event.maintenance id) c .pool) → Fate c (Event.maintenance id) (next (Event.maintenance id) c) id
 unfolding maintenance maintenanceDone
 maintenance-fate c id v =
     turned (λ q. Valid q → Has c (Event.maintenance id) id q) (maintenanceRefusal (c .pool) id) _ (c .pool) (λ w. stays c (Event.maintenance id) id)
@@ -205,7 +189,7 @@ down-does c id v h q w same =
         rw (plain, eq-eqb (c .pool .roster .count - 1) 0 (sym (k .counted) ∙ (sym (ap (λ (ro : Roster). ro .count) same) ∙ z)))
         (sym (alone c (record { pool = q }) id v w (ap (λ (ro : Roster). ro .sync) same ∙ (k .kind ∙ plain)) z (λ j ne. ap (λ (ro : Roster). sessionAt ro j) same ∙ dropped-other (c .pool .roster) id j ne)))
 
-down-fate : (c : Client) (id : ℕ) → Valid (c .pool) → Valid (next (Event.linkDown id) c .pool) → Fate c (Event.linkDown id) (next (Event.linkDown id) c) id
+pub down-fate : (c : Client) (id : ℕ) → Valid (c .pool) → Valid (next (Event.linkDown id) c .pool) → Fate c (Event.linkDown id) (next (Event.linkDown id) c) id
 unfolding linkDown downDone
 down-fate c id v =
     turned (λ q. Valid q → Has c (Event.linkDown id) id q) (downRefusal (c .pool) id) _ (c .pool) (λ w. stays c (Event.linkDown id) id)
@@ -228,7 +212,7 @@ back-plain {ℓ} : {A : Type ℓ} (sync : Bool) → isNormal (back sync) ≡ tru
 back-plain true n e = clash refl e
 back-plain false n e = clash n refl
 
-check-fate : (c : Client) (id : ℕ) → Valid (c .pool) → Fate c (Event.storeCheck id) (next (Event.storeCheck id) c) id
+pub check-fate : (c : Client) (id : ℕ) → Valid (c .pool) → Fate c (Event.storeCheck id) (next (Event.storeCheck id) c) id
 unfolding storeCheck checks
 check-fate c id v =
     turned (Has c (Event.storeCheck id) id) (checkRefusal (c .pool) id) _ (c .pool) (stays c (Event.storeCheck id) id)
@@ -271,22 +255,22 @@ remove-does c xs id mode v h q false r =
     (λ m. Fate.kept (Kept.equal (r ∙ again c id (State.Removing mode (owes (stateOf c id))) v (h .below) m refl (same-mode (stateOf c id) mode m (h .mode-same)))))
     (λ m. Fate.goes (State.Removing mode (owes (stateOf c id))) (to-removing (isSync c) (stateOf c id) mode (owes (stateOf c id)) (h .some) m) (λ n. refl) (λ n s. clash n refl) r)
 
-remove-fate : (c : Client) (xs : List ℕ) (id : ℕ) (mode : Mode) → Valid (c .pool) → Fate c (Event.remove xs id mode) (next (Event.remove xs id mode) c) id
+pub remove-fate : (c : Client) (xs : List ℕ) (id : ℕ) (mode : Mode) → Valid (c .pool) → Fate c (Event.remove xs id mode) (next (Event.remove xs id mode) c) id
 unfolding remove removeTurn
 remove-fate c xs id mode v =
-    turned (Has c (Event.remove xs id mode) id) (removeRefusal (c .pool) (soundFor c xs) id mode) _ (c .pool) (stays c (Event.remove xs id mode) id)
-    (λ e. let h = remove-passed (c .pool) (soundFor c xs) id mode e in
+    turned (Has c (Event.remove xs id mode) id) (removeRefusal (c .pool) (soundFor (c .pool) xs) id mode) _ (c .pool) (stays c (Event.remove xs id mode) id)
+    (λ e. let h = remove-passed (c .pool) (soundFor (c .pool) xs) id mode e in
     let g = started-goes (withRoster (c .pool) (removing (c .pool .roster) id mode)) id (removing-long (c .pool .roster) id mode (v .ok .long)) (h .below) in
     let b = pick (isOwed (sessionAt (removing (c .pool .roster) id mode) id .state)) false (not (isDue Stage.Leave (removing (c .pool .roster) id mode))) in
     remove-does c xs id mode v h _ b (g .own ∙ ap (λ (s : Session). pick b free s) (removing-at (c .pool .roster) id mode (v .ok .long) (h .below))))
 
 -- ---- write
 
-write-fate : (c : Client) (xs : List ℕ) (chunk reached id : ℕ) → Valid (c .pool) → misses reached id (c .pool .roster) ≡ true → Fate c (Event.write xs chunk reached) (next (Event.write xs chunk reached) c) id
+pub write-fate : (c : Client) (xs : List ℕ) (chunk reached id : ℕ) → Valid (c .pool) → misses reached id (c .pool .roster) ≡ true → Fate c (Event.write xs chunk reached) (next (Event.write xs chunk reached) c) id
 unfolding writeEnded writeTurn
 write-fate c xs chunk reached id v miss =
-    turned (Has c (Event.write xs chunk reached) id) (writeRefusal (c .pool) (soundFor c xs) chunk reached) _ (c .pool) (stays c (Event.write xs chunk reached) id)
-    (λ e. let d = missed-does (c .pool .roster) reached (v .ok) (write-passed (c .pool) (soundFor c xs) chunk reached e .plain) in
+    turned (Has c (Event.write xs chunk reached) id) (writeRefusal (c .pool) (soundFor (c .pool) xs) chunk reached) _ (c .pool) (stays c (Event.write xs chunk reached) id)
+    (λ e. let d = missed-does (c .pool .roster) reached (v .ok) (write-passed (c .pool) (soundFor (c .pool) xs) chunk reached e .plain) in
     let same = write-roster (c .pool) chunk reached in
     let was = and-left (isNormal (stateOf c id)) (not (has reached id)) miss in
     Fate.fails (eqb (missed (c .pool .roster) reached .count) 0 && noneAbove c id) refl was
@@ -387,26 +371,8 @@ answered-fate (Job.Removing m) c xs number (Reply.Good b) id job v o n =
     let h = removal-facts (c .pool .roster) m (v .ok .long) o in
     rw (eqb-true id (m .id) n) (well-fate (m .stage) c (Event.answer xs number (Reply.Good b)) (m .id) (ap (λ (k : Job). isPart (answerPart k (Reply.Good b))) job) v (h .below) (h .removing))
 
-answer-fate : (c : Client) (xs : List ℕ) (number : ℕ) (a : Reply) (id : ℕ) → Valid (c .pool) → answerConcerns (c .pool .job) c a id ≡ true → Fate c (Event.answer xs number a) (next (Event.answer xs number a) c) id
+pub answer-fate : (c : Client) (xs : List ℕ) (number : ℕ) (a : Reply) (id : ℕ) → Valid (c .pool) → answerConcerns (c .pool .job) c a id ≡ true → Fate c (Event.answer xs number a) (next (Event.answer xs number a) c) id
 unfolding answer answerTurn
 answer-fate c xs number a id v n =
-    turned (Has c (Event.answer xs number a) id) (answerRefusal (c .pool) (soundFor c xs) number) _ (c .pool) (stays c (Event.answer xs number a) id)
+    turned (Has c (Event.answer xs number a) id) (answerRefusal (c .pool) (soundFor (c .pool) xs) number) _ (c .pool) (stays c (Event.answer xs number a) id)
     (λ e. answered-fate (c .pool .job) c xs number a id refl v (v .job) n)
-
--- ---- every event
-
-concerned : (e : Event) (c : Client) (j : ℕ) → Valid (c .pool) → concerns e c j ≡ true → Fate c e (next e c) j
-concerned (Event.joinCreate id) c j v n = rw (eqb-true j id n) (create-fate c id v)
-concerned (Event.joinAssemble id set version) c j v n = rw (eqb-true j id n) (assemble-fate c id set version v)
-concerned (Event.enable id) c j v n = rw (eqb-true j id n) (enable-fate c id v)
-concerned (Event.maintenance id) c j v n = rw (eqb-true j id n) (maintenance-fate c id v (event-keeps (Event.maintenance id) c v))
-concerned (Event.linkDown id) c j v n = rw (eqb-true j id n) (down-fate c id v (event-keeps (Event.linkDown id) c v))
-concerned (Event.storeCheck id) c j v n = rw (eqb-true j id n) (check-fate c id v)
-concerned Event.tryRun c j v n = clash n refl
-concerned (Event.remove xs id mode) c j v n = rw (eqb-true j id n) (remove-fate c xs id mode v)
-concerned (Event.write xs chunk reached) c j v n = write-fate c xs chunk reached j v n
-concerned (Event.synced xs member chunk) c j v n = clash n refl
-concerned (Event.answer xs number a) c j v n = answer-fate c xs number a j v n
-
-pub event-fate : (e : Event) (c : Client) (j : ℕ) → Valid (c .pool) → Fate c e (next e c) j
-event-fate e c j v = by-cases (concerns e c j) (concerned e c j v) (λ n. Fate.kept (event-others e c j v n))

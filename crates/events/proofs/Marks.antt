@@ -1,33 +1,33 @@
 -- Who bears the last authoritative mark after an event, and who the maintenance flag.
-use mathlib.Core.Path.{_≡_, refl, sym, ap, _∙_}
+use mathlib.Core.Path.{_≡_, refl, ap, _∙_, sym}
 use mathlib.Core.Logic.{_≢_}
 use mathlib.Core.Bool.{Bool, true, false, _&&_, _||_}
 use Prim.Native.Nat.{ℕ, _<_}
-use native.Mathlib.Decide.{decLt}
 use native.Mathlib.Omega.{arith}
 use lib.Dec.{eqb}
 use lib.ListN.{List·getD-eq-default}
 use borrow.Author.Tests.{eqb-true, eqb-false}
+use Rattle.laws.specs.Tests.{clash, by-cases, and-false}
 use Rattle.laws.specs.Words.{pick}
-use Rattle.laws.specs.Tests.{by-cases, clash, and-false}
-use Rattle.sets.specs.Sets.{size}
 use Rattle.sets.proofs.Laws.{size-zero}
-use Rattle.state.specs.declared.State.{State}
-use Rattle.state.specs.declared.Session.{Session}
+use Rattle.sets.specs.Sets.{size}
 use Rattle.state.specs.Session.{isNormal, free}
-use Rattle.roster.specs.declared.Kind.{Kind}
+use Rattle.state.specs.declared.Session.{Session}
+use Rattle.state.specs.declared.State.{State}
 use Rattle.roster.specs.Roster.{idsOf}
+use Rattle.roster.specs.declared.Kind.{Kind}
 use Rattle.keeps.specs.Ids.{ids-none}
-use Rattle.keeps.specs.Rosters.{count-is}
-use Rattle.keeps.specs.Pools.{Valid}
 use Rattle.keeps.specs.Links.{counted}
-use Rattle.keeps.specs.Records.{placed, normal-below}
+use Rattle.keeps.specs.Pools.{Valid}
+use Rattle.keeps.specs.Records.{normal-below, placed}
+use Rattle.keeps.specs.Rosters.{count-is}
 use Rattle.client.specs.declared.Client.{Client}
-use Rattle.events.specs.Events.{Event}
-use Rattle.events.specs.Demand2.{recordOf, stateOf, isSync, Kept}
+use Rattle.events.specs.Demand2.{Kept}
+use Rattle.events.specs.Events.{Event, stateOf, isSync, recordOf}
 use Rattle.events.specs.Said.{countOf, markOf, flagOf, bears, lastNormal}
-use Rattle.events.proofs.States.{reconnecting-not, unborne}
 use Rattle.events.proofs.Fates.{Fate}
+use Rattle.events.proofs.States.{reconnecting-not, unborne}
+use native.Mathlib.Decide.{decLt}
 
 and-swap : (a b : Bool) → (a && b) ≡ (b && a)
 and-swap true true = refl

@@ -1,48 +1,50 @@
 -- The sessions that an event is not about keep their records, save that a mark goes when a session enters NORMAL.
-use mathlib.Core.Path.{_≡_, refl, sym, ap, _∙_}
+use mathlib.Core.Path.{_≡_, refl, ap, _∙_, sym}
 use mathlib.Core.Logic.{_≢_}
 use mathlib.Core.Bool.{true, false}
+use mathlib.Core.List.{List}
 use Prim.Native.Nat.{ℕ, _<_}
 use borrow.Author.Tests.{eqb-false, eq-eqb}
-use Rattle.laws.specs.Tests.{by-cases, clash}
-use Rattle.state.specs.declared.Session.{Session}
-use Rattle.state.specs.declared.Roster.{Roster}
-use Rattle.state.specs.declared.Stage.{Stage}
-use Rattle.state.specs.declared.Removal.{Removal}
-use Rattle.state.specs.declared.Job.{Job}
-use Rattle.state.specs.declared.Pool.{Pool}
-use Rattle.state.specs.declared.Reply.{Reply}
+use Rattle.laws.specs.Tests.{clash, by-cases}
 use Rattle.state.specs.Session.{isCreated, isNormal, candidate}
+use Rattle.state.specs.declared.Job.{Job}
+use Rattle.state.specs.declared.Mode.{Mode}
+use Rattle.state.specs.declared.Pool.{Pool}
+use Rattle.state.specs.declared.Removal.{Removal}
+use Rattle.state.specs.declared.Reply.{Reply}
+use Rattle.state.specs.declared.Roster.{Roster}
+use Rattle.state.specs.declared.Session.{Session}
+use Rattle.state.specs.declared.Stage.{Stage}
 use Rattle.roster.specs.Roster.{sessionAt}
-use Rattle.changes.specs.declared.Way.{Way}
 use Rattle.changes.specs.Changes.{removing}
-use Rattle.rules.specs.Rules.{jobOk}
-use Rattle.run.specs.declared.Who.{Who}
+use Rattle.changes.specs.declared.Way.{Way}
 use Rattle.run.specs.Run.{takes}
+use Rattle.run.specs.declared.Who.{Who}
 use Rattle.recovery.specs.Recovery.{withRoster}
 use Rattle.exits.proofs.Laws.{turned}
+use Rattle.rules.specs.Rules.{jobOk}
 use Rattle.keeps.specs.Ids.{Long}
 use Rattle.keeps.specs.Pools.{Valid, removal-facts}
-use Rattle.keeps.specs.Runs.{run-facts, candidate-normal, entered-other}
 use Rattle.keeps.specs.Records.{entered-at, left-other}
+use Rattle.keeps.specs.Runs.{run-facts, candidate-normal, entered-other}
 use Rattle.keeps.specs.Tried.{tried-roster}
-use Rattle.joins.specs.Joins.{createRefusal, createDone, joinCreate, assembleRefusal, assembled, assembleDone, joinAssemble}
 use Rattle.joins.proofs.Kept.{created-other, assembled-other}
-use Rattle.enables.specs.Enables.{enableRefusal, enableDone, enable, maintenanceRefusal, maintenanceDone, maintenance}
-use Rattle.enables.proofs.Kept.{Enables, enable-passed, enabled-at, enabled-other}
-use Rattle.links.specs.Links.{downRefusal, downDone, linkDown, checkRefusal, storeCheck, tryRefusal, tryRun}
+use Rattle.joins.specs.Joins.{createRefusal, createDone, joinCreate, assembleRefusal, assembled, assembleDone, joinAssemble}
+use Rattle.enables.proofs.Kept.{enable-passed, enabled-at, Enables, enabled-other}
+use Rattle.enables.specs.Enables.{enableRefusal, enable, maintenanceRefusal, maintenanceDone, enableDone, maintenance}
 use Rattle.links.proofs.Kept.{down-roster, dropped-other, checked-other}
-use Rattle.writes.specs.Writes.{writeRefusal, writeEnded}
-use Rattle.writes.proofs.Kept.{write-passed, write-roster, missed-does, synced-same}
+use Rattle.links.specs.Links.{downRefusal, downDone, linkDown, checkRefusal, storeCheck, tryRefusal, tryRun}
+use Rattle.removal.proofs.Steps.{departed-goes, started-goes, told-goes, paid-long, removing-long, remove-passed, paid-other, removing-other}
 use Rattle.removal.specs.Removal as removal
 use Rattle.removal.specs.Remove.{removeRefusal, remove}
-use Rattle.removal.proofs.Steps.{departed-goes, started-goes, told-goes, paid-other, paid-long, removing-other, removing-long, remove-passed}
-use Rattle.answers.specs.Answers.{answerRefusal, enteredBy, reported, answered, answer}
+use Rattle.writes.proofs.Kept.{write-passed, write-roster, missed-does, synced-same}
+use Rattle.writes.specs.Writes.{writeRefusal, writeEnded}
 use Rattle.answers.proofs.Kept.{candidate-below, run-able, run-roster}
-use Rattle.client.specs.declared.Client.{Client}
+use Rattle.answers.specs.Answers.{answerRefusal, enteredBy, answered, answer, reported}
 use Rattle.client.specs.Client.{soundFor, removeTurn, writeTurn, answerTurn, syncedTurn, cleanTo}
-use Rattle.events.specs.Events.{Event, next}
-use Rattle.events.specs.Demand2.{isOne, answerConcerns, concerns, Kept}
+use Rattle.client.specs.declared.Client.{Client}
+use Rattle.events.specs.Demand2.{Kept}
+use Rattle.events.specs.Events.{Event, next, isOne, answerConcerns, concerns}
 use Rattle.events.proofs.States.{created-not}
 
 -- the record of j is kept in a pool that an event leaves
@@ -97,34 +99,64 @@ answered-kept (Job.Removing m) c a j v o n =
 
 -- ---- every event
 
-pub event-others : (e : Event) (c : Client) (j : ℕ) → Valid (c .pool) → concerns e c j ≡ false → Kept c (next e c) j
+pub create-others : (id : ℕ) (c : Client) (j : ℕ) → Valid (c .pool) → concerns (Event.joinCreate id) c j ≡ false → Kept c (next (Event.joinCreate id) c) j
 unfolding joinCreate createDone joinAssemble assembleDone enable maintenance maintenanceDone linkDown downDone storeCheck tryRun remove removeTurn writeEnded writeTurn syncedTurn answer answerTurn
-event-others (Event.joinCreate id) c j v n =
+create-others id c j v n =
     turned (Keeps c j) (createRefusal (c .pool) id) _ (c .pool) (Kept.equal refl) (λ e. Kept.equal (created-other (c .pool .roster) id j (eqb-false j id n)))
-event-others (Event.joinAssemble id set version) c j v n =
+
+pub assemble-others : (id set version : ℕ) (c : Client) (j : ℕ) → Valid (c .pool) → concerns (Event.joinAssemble id set version) c j ≡ false → Kept c (next (Event.joinAssemble id set version) c) j
+unfolding joinCreate createDone joinAssemble assembleDone enable maintenance maintenanceDone linkDown downDone storeCheck tryRun remove removeTurn writeEnded writeTurn syncedTurn answer answerTurn
+assemble-others id set version c j v n =
     turned (Keeps c j) (assembleRefusal (c .pool) id set version) _ (c .pool) (Kept.equal refl)
     (λ e. Kept.equal (ap (λ (ro : Roster). sessionAt ro j) (tried-roster (withRoster (c .pool) (assembled (c .pool .roster) id set version))) ∙ assembled-other (c .pool .roster) id set version j (eqb-false j id n)))
-event-others (Event.enable id) c j v n =
+
+pub enable-others : (id : ℕ) (c : Client) (j : ℕ) → Valid (c .pool) → concerns (Event.enable id) c j ≡ false → Kept c (next (Event.enable id) c) j
+unfolding joinCreate createDone joinAssemble assembleDone enable maintenance maintenanceDone linkDown downDone storeCheck tryRun remove removeTurn writeEnded writeTurn syncedTurn answer answerTurn
+enable-others id c j v n =
     turned (Keeps c j) (enableRefusal (c .pool) id) _ (c .pool) (Kept.equal refl) (λ e. enable-kept c id j v (enable-passed (c .pool) id e) (eqb-false j id n))
-event-others (Event.maintenance id) c j v n =
+
+pub maintenance-others : (id : ℕ) (c : Client) (j : ℕ) → Valid (c .pool) → concerns (Event.maintenance id) c j ≡ false → Kept c (next (Event.maintenance id) c) j
+unfolding joinCreate createDone joinAssemble assembleDone enable maintenance maintenanceDone linkDown downDone storeCheck tryRun remove removeTurn writeEnded writeTurn syncedTurn answer answerTurn
+maintenance-others id c j v n =
     turned (Keeps c j) (maintenanceRefusal (c .pool) id) _ (c .pool) (Kept.equal refl) (λ e. Kept.equal (left-other (c .pool .roster) id Way.Maintenance j (eqb-false j id n)))
-event-others (Event.linkDown id) c j v n =
+
+pub down-others : (id : ℕ) (c : Client) (j : ℕ) → Valid (c .pool) → concerns (Event.linkDown id) c j ≡ false → Kept c (next (Event.linkDown id) c) j
+unfolding joinCreate createDone joinAssemble assembleDone enable maintenance maintenanceDone linkDown downDone storeCheck tryRun remove removeTurn writeEnded writeTurn syncedTurn answer answerTurn
+down-others id c j v n =
     turned (Keeps c j) (downRefusal (c .pool) id) _ (c .pool) (Kept.equal refl)
     (λ e. Kept.equal (ap (λ (ro : Roster). sessionAt ro j) (down-roster (c .pool .job) (c .pool) id) ∙ dropped-other (c .pool .roster) id j (eqb-false j id n)))
-event-others (Event.storeCheck id) c j v n =
+
+pub check-others : (id : ℕ) (c : Client) (j : ℕ) → Valid (c .pool) → concerns (Event.storeCheck id) c j ≡ false → Kept c (next (Event.storeCheck id) c) j
+unfolding joinCreate createDone joinAssemble assembleDone enable maintenance maintenanceDone linkDown downDone storeCheck tryRun remove removeTurn writeEnded writeTurn syncedTurn answer answerTurn
+check-others id c j v n =
     turned (Keeps c j) (checkRefusal (c .pool) id) _ (c .pool) (Kept.equal refl) (λ e. Kept.equal (checked-other (c .pool) id j (eqb-false j id n)))
-event-others Event.tryRun c j v n =
+
+pub try-others : (c : Client) (j : ℕ) → Valid (c .pool) → concerns Event.tryRun c j ≡ false → Kept c (next Event.tryRun c) j
+unfolding joinCreate createDone joinAssemble assembleDone enable maintenance maintenanceDone linkDown downDone storeCheck tryRun remove removeTurn writeEnded writeTurn syncedTurn answer answerTurn
+try-others c j v n =
     turned (Keeps c j) (tryRefusal (c .pool)) _ (c .pool) (Kept.equal refl) (λ e. Kept.equal (ap (λ (ro : Roster). sessionAt ro j) (tried-roster (c .pool))))
-event-others (Event.remove xs id mode) c j v n =
-    turned (Keeps c j) (removeRefusal (c .pool) (soundFor c xs) id mode) _ (c .pool) (Kept.equal refl)
-    (λ e. let h = remove-passed (c .pool) (soundFor c xs) id mode e in
+
+pub remove-others : (xs : List ℕ) (id : ℕ) (mode : Mode) (c : Client) (j : ℕ) → Valid (c .pool) → concerns (Event.remove xs id mode) c j ≡ false → Kept c (next (Event.remove xs id mode) c) j
+unfolding joinCreate createDone joinAssemble assembleDone enable maintenance maintenanceDone linkDown downDone storeCheck tryRun remove removeTurn writeEnded writeTurn syncedTurn answer answerTurn
+remove-others xs id mode c j v n =
+    turned (Keeps c j) (removeRefusal (c .pool) (soundFor (c .pool) xs) id mode) _ (c .pool) (Kept.equal refl)
+    (λ e. let h = remove-passed (c .pool) (soundFor (c .pool) xs) id mode e in
     let ne = eqb-false j id n in
     Kept.equal (started-goes (withRoster (c .pool) (removing (c .pool .roster) id mode)) id (removing-long (c .pool .roster) id mode (v .ok .long)) (h .below) .others j ne ∙ removing-other (c .pool .roster) id j mode ne))
-event-others (Event.write xs chunk reached) c j v n =
-    turned (Keeps c j) (writeRefusal (c .pool) (soundFor c xs) chunk reached) _ (c .pool) (Kept.equal refl)
-    (λ e. let w = write-passed (c .pool) (soundFor c xs) chunk reached e in
+
+pub write-others : (xs : List ℕ) (chunk reached : ℕ) (c : Client) (j : ℕ) → Valid (c .pool) → concerns (Event.write xs chunk reached) c j ≡ false → Kept c (next (Event.write xs chunk reached) c) j
+unfolding joinCreate createDone joinAssemble assembleDone enable maintenance maintenanceDone linkDown downDone storeCheck tryRun remove removeTurn writeEnded writeTurn syncedTurn answer answerTurn
+write-others xs chunk reached c j v n =
+    turned (Keeps c j) (writeRefusal (c .pool) (soundFor (c .pool) xs) chunk reached) _ (c .pool) (Kept.equal refl)
+    (λ e. let w = write-passed (c .pool) (soundFor (c .pool) xs) chunk reached e in
     Kept.equal (ap (λ (ro : Roster). sessionAt ro j) (write-roster (c .pool) chunk reached) ∙ missed-does (c .pool .roster) reached (v .ok) (w .plain) .spares j n))
-event-others (Event.synced xs member chunk) c j v n =
-    Kept.equal (ap (λ (p : Pool). sessionAt (p .roster) j) (synced-same (c .pool) (soundFor c xs) member chunk (cleanTo xs chunk 16)))
-event-others (Event.answer xs number a) c j v n =
-    turned (Keeps c j) (answerRefusal (c .pool) (soundFor c xs) number) _ (c .pool) (Kept.equal refl) (λ e. answered-kept (c .pool .job) c a j v (v .job) n)
+
+pub synced-others : (xs : List ℕ) (member chunk : ℕ) (c : Client) (j : ℕ) → Valid (c .pool) → concerns (Event.synced xs member chunk) c j ≡ false → Kept c (next (Event.synced xs member chunk) c) j
+unfolding joinCreate createDone joinAssemble assembleDone enable maintenance maintenanceDone linkDown downDone storeCheck tryRun remove removeTurn writeEnded writeTurn syncedTurn answer answerTurn
+synced-others xs member chunk c j v n =
+    Kept.equal (ap (λ (p : Pool). sessionAt (p .roster) j) (synced-same (c .pool) (soundFor (c .pool) xs) member chunk (cleanTo xs chunk 16)))
+
+pub answer-others : (xs : List ℕ) (number : ℕ) (a : Reply) (c : Client) (j : ℕ) → Valid (c .pool) → concerns (Event.answer xs number a) c j ≡ false → Kept c (next (Event.answer xs number a) c) j
+unfolding joinCreate createDone joinAssemble assembleDone enable maintenance maintenanceDone linkDown downDone storeCheck tryRun remove removeTurn writeEnded writeTurn syncedTurn answer answerTurn
+answer-others xs number a c j v n =
+    turned (Keeps c j) (answerRefusal (c .pool) (soundFor (c .pool) xs) number) _ (c .pool) (Kept.equal refl) (λ e. answered-kept (c .pool .job) c a j v (v .job) n)

@@ -1,66 +1,65 @@
 -- What the events of a removal leave of its session, of the member and of the client map; and that no other event frees a session or takes a member out.
-use mathlib.Core.Path.{_≡_, refl, sym, ap, _∙_, subst}
+use mathlib.Core.Path.{_≡_, refl, ap, _∙_, sym, subst}
 use mathlib.Core.Logic.{_≢_}
 use mathlib.Core.Bool.{Bool, true, false, not, _&&_}
 use mathlib.Core.List.{List}
 use Prim.Native.Nat.{ℕ, _<_}
-use native.Mathlib.Decide.{ℕ-discrete}
 use native.Mathlib.Omega.{arith}
 use lib.Dec.{eqb, ltb}
-use borrow.Author.Tests.{eqb-true, eq-eqb, ne-eqb, ltb-true, ltb-false}
+use borrow.Author.Tests.{eqb-true, eq-eqb, ltb-true, ne-eqb, ltb-false}
+use Rattle.laws.specs.Tests.{clash, by-cases, and-left, and-right, and-false}
 use Rattle.laws.specs.Words.{pick}
-use Rattle.laws.specs.Tests.{by-cases, clash, and-left, and-right, and-false}
-use Rattle.sets.specs.Sets.{has, with, without, countTo, size, lowest}
-use Rattle.sets.proofs.Laws.{has-below, has-none, has-with-same, has-with-other, has-without-same, has-without-other, countTo-same, countTo-none, size-some, lowest-in, lowest-le, lowest-nobody}
+use Rattle.sets.proofs.Laws.{countTo-none, has-below, has-none, has-with-same, has-with-other, has-without-same, has-without-other, countTo-same, size-some, lowest-in, lowest-le, lowest-nobody}
+use Rattle.sets.specs.Sets.{has, countTo, with, without, size, lowest}
 use Rattle.maps.specs.Map.{zeroRow, zeroed}
-use Rattle.state.specs.declared.Mode.{Mode}
-use Rattle.state.specs.declared.State.{State}
-use Rattle.state.specs.declared.Session.{Session}
-use Rattle.state.specs.declared.Roster.{Roster}
-use Rattle.state.specs.declared.Stage.{Stage}
-use Rattle.state.specs.declared.Removal.{Removal}
-use Rattle.state.specs.declared.Job.{Job}
-use Rattle.state.specs.declared.Pool.{Pool}
-use Rattle.state.specs.declared.Reply.{Reply}
-use Rattle.state.specs.declared.Effect.{Effect}
-use Rattle.state.specs.declared.Turn.{Turn}
-use Rattle.state.specs.Session.{isFree, isNormal, isRemoving, isDelete, isDeleting, isOwed, isTold, free}
+use Rattle.state.specs.Session.{isFree, isNormal, isRemoving, isOwed, free, isDelete, isDeleting, isTold}
 use Rattle.state.specs.Table.{legal}
-use Rattle.roster.specs.declared.Kind.{Kind}
+use Rattle.state.specs.declared.Effect.{Effect}
+use Rattle.state.specs.declared.Job.{Job}
+use Rattle.state.specs.declared.Mode.{Mode}
+use Rattle.state.specs.declared.Pool.{Pool}
+use Rattle.state.specs.declared.Removal.{Removal}
+use Rattle.state.specs.declared.Reply.{Reply}
+use Rattle.state.specs.declared.Roster.{Roster}
+use Rattle.state.specs.declared.Session.{Session}
+use Rattle.state.specs.declared.Stage.{Stage}
+use Rattle.state.specs.declared.State.{State}
+use Rattle.state.specs.declared.Turn.{Turn}
 use Rattle.roster.specs.Roster.{sessionAt}
-use Rattle.changes.specs.declared.Way.{Way}
+use Rattle.roster.specs.declared.Kind.{Kind}
 use Rattle.changes.specs.Changes.{owes, removing}
-use Rattle.run.specs.declared.Who.{Who}
+use Rattle.changes.specs.declared.Way.{Way}
 use Rattle.run.specs.Run.{takes}
-use Rattle.keeps.specs.Ids.{Long, ids-has}
-use Rattle.keeps.specs.Pools.{Valid, RemovalOk, removal-facts}
-use Rattle.keeps.specs.Changes.{removing-at}
-use Rattle.keeps.specs.Records.{entered-numbers, left-numbers}
-use Rattle.keeps.specs.Tried.{tried-roster}
+use Rattle.run.specs.declared.Who.{Who}
 use Rattle.recovery.specs.Recovery.{withRoster}
 use Rattle.exits.proofs.Laws.{turned}
-use Rattle.joins.specs.Joins.{createRefusal, createDone, joinCreate, assembleRefusal, assembled, assembleDone, joinAssemble}
+use Rattle.keeps.specs.Changes.{removing-at}
+use Rattle.keeps.specs.Ids.{Long, ids-has}
+use Rattle.keeps.specs.Pools.{Valid, removal-facts, RemovalOk}
+use Rattle.keeps.specs.Records.{left-numbers, entered-numbers}
+use Rattle.keeps.specs.Tried.{tried-roster}
 use Rattle.joins.proofs.Kept.{created-numbers, assembled-numbers}
+use Rattle.joins.specs.Joins.{createRefusal, createDone, joinCreate, assembleRefusal, assembled, assembleDone, joinAssemble}
+use Rattle.enables.proofs.Kept.{enable-passed, maintenance-passed, enabled-numbers}
 use Rattle.enables.specs.Enables.{enableRefusal, enable, maintenanceRefusal, maintenanceDone, maintenance}
-use Rattle.enables.proofs.Kept.{enable-passed, enabled-numbers, maintenance-passed}
-use Rattle.links.specs.Links.{downRefusal, dropped, downDone, linkDown, checkRefusal, storeCheck, tryRefusal, tryRun}
 use Rattle.links.proofs.Kept.{down-roster, normal-dropped, other-dropped, checked-numbers}
-use Rattle.writes.specs.Writes.{writeRefusal, writeEnded}
-use Rattle.writes.proofs.Kept.{write-passed, write-roster, missed-does, synced-same}
+use Rattle.links.specs.Links.{downRefusal, dropped, downDone, linkDown, checkRefusal, storeCheck, tryRefusal, tryRun}
+use Rattle.removal.proofs.Steps.{isDue, departed-goes, started-goes, told-goes, paid-at, paid-long, removing-long, Removable, remove-passed, paid-other, removing-other, Goes, isOut, paid-numbers, removing-numbers}
 use Rattle.removal.specs.Removal as removal
+use Rattle.removal.specs.Remove.{removeRefusal, remove, removeBegun, gone}
 use Rattle.removal.specs.declared.Gone.{Gone}
-use Rattle.removal.specs.Remove.{removeRefusal, removeBegun, gone, remove}
-use Rattle.removal.proofs.Steps.{Goes, isDue, isOut, departed-goes, started-goes, told-goes, paid-at, paid-other, paid-long, paid-numbers, removing-other, removing-numbers, removing-long, Removable, remove-passed}
-use Rattle.client.specs.declared.Client.{Client}
-use Rattle.client.specs.Client.{carried, soundFor, removeTurn, writeTurn, answerTurn, syncedTurn, cleanTo}
-use Rattle.answers.specs.Answers.{answerRefusal, enteredBy, answered, answer}
+use Rattle.writes.proofs.Kept.{write-passed, write-roster, missed-does, synced-same}
+use Rattle.writes.specs.Writes.{writeRefusal, writeEnded}
 use Rattle.answers.proofs.Kept.{run-roster}
-use Rattle.events.specs.Events.{Event, outOf, next, isAccepted, Lent, mapLeft}
-use Rattle.events.specs.Demand2.{recordOf, stateOf, isSync, nobodyLeft}
-use Rattle.events.specs.Said.{membersOf, versionOf, jobOf, Part, answerPart, partOf, isGood, isLeave, notOwed, isLater, nothingDue, frees, takesOut, rowsAfter}
-use Rattle.events.proofs.States.{and-true, removing-lives, not-told, owes-is, mode-same}
-use Rattle.events.proofs.Fates.{isPart, Fate, kept-stands, event-fate}
+use Rattle.answers.specs.Answers.{answerRefusal, enteredBy, answered, answer}
+use Rattle.client.specs.Client.{carried, soundFor, removeTurn, writeTurn, answerTurn, syncedTurn, cleanTo}
+use Rattle.client.specs.declared.Client.{Client}
+use Rattle.events.specs.Events.{Event, isAccepted, Lent, mapLeft, outOf, next, stateOf, isSync, recordOf, jobOf, Part, answerPart, partOf, nobodyLeft}
+use Rattle.events.specs.Said.{membersOf, versionOf, isGood, isLeave, notOwed, isLater, nothingDue, frees, takesOut, rowsAfter}
+use Rattle.events.proofs.Fates.{isPart, Fate, kept-stands}
 use Rattle.events.proofs.Shape.{taken}
+use Rattle.events.proofs.States.{and-true, removing-lives, not-told, owes-is, mode-same}
+use native.Mathlib.Decide.{ℕ-discrete}
 
 -- ---- what is due
 
@@ -258,23 +257,23 @@ module _ (c : Client) (i : ℕ) (t : Turn) (freed out : Bool) (s : Leaves c i t 
 -- ---- the two events
 
 remove-does : (c : Client) (xs : List ℕ) (id : ℕ) (mode : Mode) → Valid (c .pool) → isAccepted (outOf (Event.remove xs id mode) c .answer) ≡ true
-    → Leaves c id (removeTurn c xs id mode) (notOwed (stateOf c id) && nothingDue c id Stage.Leave) (isDelete mode && notOwed (stateOf c id))
+    → Leaves c id (removeTurn (c .pool) xs id mode) (notOwed (stateOf c id) && nothingDue c id Stage.Leave) (isDelete mode && notOwed (stateOf c id))
 unfolding remove removeTurn
 remove-does c xs id mode v =
-    taken (λ t. Leaves c id t (notOwed (stateOf c id) && nothingDue c id Stage.Leave) (isDelete mode && notOwed (stateOf c id))) (removeRefusal (c .pool) (soundFor c xs) id mode) (gone (c .pool) (removeBegun (c .pool) id mode)) (c .pool)
-    (λ e. remove-leaves c id mode v (remove-passed (c .pool) (soundFor c xs) id mode e))
+    taken (λ t. Leaves c id t (notOwed (stateOf c id) && nothingDue c id Stage.Leave) (isDelete mode && notOwed (stateOf c id))) (removeRefusal (c .pool) (soundFor (c .pool) xs) id mode) (gone (c .pool) (removeBegun (c .pool) id mode)) (c .pool)
+    (λ e. remove-leaves c id mode v (remove-passed (c .pool) (soundFor (c .pool) xs) id mode e))
 
 answer-does : (c : Client) (xs : List ℕ) (number : ℕ) (a : Reply) (m : Removal) → jobOf c ≡ Job.Removing m → Valid (c .pool) → isAccepted (outOf (Event.answer xs number a) c .answer) ≡ true
-    → Leaves c (m .id) (answerTurn c xs number a) (isGood a && nothingDue c (m .id) (m .stage)) (isDeleting (stateOf c (m .id)) && (isGood a && isLeave (m .stage)))
+    → Leaves c (m .id) (answerTurn (c .pool) xs number a) (isGood a && nothingDue c (m .id) (m .stage)) (isDeleting (stateOf c (m .id)) && (isGood a && isLeave (m .stage)))
 unfolding answer answerTurn
 answer-does c xs number a m job v =
-    taken (λ t. Leaves c (m .id) t (isGood a && nothingDue c (m .id) (m .stage)) (isDeleting (stateOf c (m .id)) && (isGood a && isLeave (m .stage)))) (answerRefusal (c .pool) (soundFor c xs) number) (answered (c .pool .job) (c .pool) a) (c .pool)
+    taken (λ t. Leaves c (m .id) t (isGood a && nothingDue c (m .id) (m .stage)) (isDeleting (stateOf c (m .id)) && (isGood a && isLeave (m .stage)))) (answerRefusal (c .pool) (soundFor (c .pool) xs) number) (answered (c .pool .job) (c .pool) a) (c .pool)
     (λ e. subst (λ (k : Job). Leaves c (m .id) (answered k (c .pool) a) (isGood a && nothingDue c (m .id) (m .stage)) (isDeleting (stateOf c (m .id)) && (isGood a && isLeave (m .stage)))) (sym job)
     (answered-leaves m c a v (removal-facts (c .pool .roster) m (v .ok .long) (rw job at (v .job)))))
 
 -- ---- every other event
 
-part-none : (s : Part) (c : Client) (id : ℕ) → isPart s ≡ false → (frees s c id ≡ false) × (takesOut s c id ≡ false)
+pub part-none : (s : Part) (c : Client) (id : ℕ) → isPart s ≡ false → (frees s c id ≡ false) × (takesOut s c id ≡ false)
 part-none Part.none c id e = (refl, refl)
 part-none (Part.remove i mode) c id e = clash refl e
 part-none (Part.answer m a) c id e = clash refl e
@@ -299,7 +298,7 @@ legal-some sync from (State.Removing m owed) e = refl
 lives : (c′ : Client) (id : ℕ) (s : Session) → recordOf c′ id ≡ s → isFree (s .state) ≡ false → isFree (stateOf c′ id) ≡ false
 lives c′ id s r e = ap (λ (s : Session). isFree (s .state)) r ∙ e
 
-unfreed : (c : Client) (e : Event) (c′ : Client) (id : ℕ) → isPart (partOf e c) ≡ false → isFree (stateOf c id) ≡ false → Fate c e c′ id → isFree (stateOf c′ id) ≡ false
+pub unfreed : (c : Client) (e : Event) (c′ : Client) (id : ℕ) → isPart (partOf e c) ≡ false → isFree (stateOf c id) ≡ false → Fate c e c′ id → isFree (stateOf c′ id) ≡ false
 unfreed c e c′ id p was (Fate.kept k) = ap isFree (kept-stands c c′ id k) ∙ was
 unfreed c e c′ id p was (Fate.begins x st r) = clash (ap isFree st) was
 unfreed c e c′ id p was (Fate.joins set version x plain st r) = clash (ap isFree st) was
@@ -313,32 +312,19 @@ unfreed c e c′ id p was (Fate.removed xs mode x l r) = clash (ap (λ (e : Even
 
 -- ---- the session
 
-freed-part : (e : Event) (c : Client) → Valid (c .pool) → isAccepted (outOf e c .answer) ≡ true → isPart (partOf e c) ≡ true → (id : ℕ) → isFree (stateOf c id) ≡ false → isFree (stateOf (next e c) id) ≡ frees (partOf e c) c id
-freed-part (Event.joinCreate i) c v d p id was = clash p refl
-freed-part (Event.joinAssemble i set version) c v d p id was = clash p refl
-freed-part (Event.enable i) c v d p id was = clash p refl
-freed-part (Event.maintenance i) c v d p id was = clash p refl
-freed-part (Event.linkDown i) c v d p id was = clash p refl
-freed-part (Event.storeCheck i) c v d p id was = clash p refl
-freed-part Event.tryRun c v d p id was = clash p refl
-freed-part (Event.remove xs i mode) c v d p id was =
-    free-at c i (removeTurn c xs i mode) _ _ (remove-does c xs i mode v d) id was (λ j. notOwed (stateOf c j) && nothingDue c j Stage.Leave) refl
-freed-part (Event.write xs chunk reached) c v d p id was = clash p refl
-freed-part (Event.synced xs member chunk) c v d p id was = clash p refl
-freed-part (Event.answer xs number a) c v d p id was = at (c .pool .job) refl p
+pub remove-frees : (xs : List ℕ) (i : ℕ) (mode : Mode) (c : Client) → Valid (c .pool) → isAccepted (outOf (Event.remove xs i mode) c .answer) ≡ true → isPart (partOf (Event.remove xs i mode) c) ≡ true → (id : ℕ) → isFree (stateOf c id) ≡ false → isFree (stateOf (next (Event.remove xs i mode) c) id) ≡ frees (partOf (Event.remove xs i mode) c) c id
+remove-frees xs i mode c v d p id was =
+    free-at c i (removeTurn (c .pool) xs i mode) _ _ (remove-does c xs i mode v d) id was (λ j. notOwed (stateOf c j) && nothingDue c j Stage.Leave) refl
+
+pub answer-frees : (xs : List ℕ) (number : ℕ) (a : Reply) (c : Client) → Valid (c .pool) → isAccepted (outOf (Event.answer xs number a) c .answer) ≡ true → isPart (partOf (Event.answer xs number a) c) ≡ true → (id : ℕ) → isFree (stateOf c id) ≡ false → isFree (stateOf (next (Event.answer xs number a) c) id) ≡ frees (partOf (Event.answer xs number a) c) c id
+answer-frees xs number a c v d p id was = at (c .pool .job) refl p
   where
     at : (k : Job) → jobOf c ≡ k → isPart (answerPart k a) ≡ true → isFree (stateOf (next (Event.answer xs number a) c) id) ≡ frees (answerPart (jobOf c) a) c id
     at Job.Idle job q = clash q refl
     at (Job.Running r) job q = clash q refl
     at (Job.Removing m) job q =
-        free-at c (m .id) (answerTurn c xs number a) _ _ (answer-does c xs number a m job v d) id was (λ j. isGood a && nothingDue c j (m .stage)) refl
+        free-at c (m .id) (answerTurn (c .pool) xs number a) _ _ (answer-does c xs number a m job v d) id was (λ j. isGood a && nothingDue c j (m .stage)) refl
         ∙ sym (ap (λ (k : Job). frees (answerPart k a) c id) job)
-
-pub freed-said : (e : Event) (c : Client) → Valid (c .pool) → isAccepted (outOf e c .answer) ≡ true → (id : ℕ) → isFree (stateOf c id) ≡ false → isFree (stateOf (next e c) id) ≡ frees (partOf e c) c id
-freed-said e c v d id was =
-    by-cases (isPart (partOf e c))
-    (λ p. freed-part e c v d p id was)
-    (λ p. unfreed c e (next e c) id p was (event-fate e c id v) ∙ sym (part-none (partOf e c) c id p .0))
 
 -- ---- the member
 
@@ -358,38 +344,64 @@ dropped-members ro id =
     not-true false e = refl
 
 -- no other event takes one out
-stays-member : (e : Event) (c : Client) → Valid (c .pool) → isPart (partOf e c) ≡ false → (id : ℕ) → has (membersOf c) id ≡ true → has (membersOf (next e c)) id ≡ true
+pub create-stays : (i : ℕ) (c : Client) → Valid (c .pool) → isPart (partOf (Event.joinCreate i) c) ≡ false → (id : ℕ) → has (membersOf c) id ≡ true → has (membersOf (next (Event.joinCreate i) c)) id ≡ true
 unfolding joinCreate createDone joinAssemble assembleDone enable maintenance maintenanceDone linkDown downDone storeCheck tryRun writeEnded writeTurn syncedTurn answer answerTurn
-stays-member (Event.joinCreate i) c v p id was =
+create-stays i c v p id was =
     turned (Holds id) (createRefusal (c .pool) i) _ (c .pool) was (λ e. ap (λ (n : ℕ). has n id) (created-numbers (c .pool .roster) i .held) ∙ entered (isSync c))
   where
     entered : (b : Bool) → has (pick b (membersOf c) (with (membersOf c) i)) id ≡ true
     entered true = was
     entered false = elim (ℕ-discrete id i) [ yes e ↦ rw e (has-with-same (membersOf c) i (has-below (membersOf c) i (rw e at was))) | no d ↦ has-with-other (membersOf c) i id d ∙ was ]
-stays-member (Event.joinAssemble i set version) c v p id was =
+
+pub assemble-stays : (i set version : ℕ) (c : Client) → Valid (c .pool) → isPart (partOf (Event.joinAssemble i set version) c) ≡ false → (id : ℕ) → has (membersOf c) id ≡ true → has (membersOf (next (Event.joinAssemble i set version) c)) id ≡ true
+unfolding joinCreate createDone joinAssemble assembleDone enable maintenance maintenanceDone linkDown downDone storeCheck tryRun writeEnded writeTurn syncedTurn answer answerTurn
+assemble-stays i set version c v p id was =
     turned (Holds id) (assembleRefusal (c .pool) i set version) _ (c .pool) was
     (λ e. ap (λ (ro : Roster). has (ro .members) id) (tried-roster (withRoster (c .pool) (assembled (c .pool .roster) i set version)))
     ∙ (ap (λ (n : ℕ). has n id) (assembled-numbers (c .pool .roster) i set version .held)
     ∙ by-cases (eqb (membersOf c) 0) (λ z. clash was (ap (λ (n : ℕ). has n id) (eqb-true (membersOf c) 0 z) ∙ has-none id)) (λ z. rw z was)))
-stays-member (Event.enable i) c v p id was =
+
+pub enable-stays : (i : ℕ) (c : Client) → Valid (c .pool) → isPart (partOf (Event.enable i) c) ≡ false → (id : ℕ) → has (membersOf c) id ≡ true → has (membersOf (next (Event.enable i) c)) id ≡ true
+unfolding joinCreate createDone joinAssemble assembleDone enable maintenance maintenanceDone linkDown downDone storeCheck tryRun writeEnded writeTurn syncedTurn answer answerTurn
+enable-stays i c v p id was =
     turned (Holds id) (enableRefusal (c .pool) i) _ (c .pool) was (λ e. ap (λ (n : ℕ). has n id) (enabled-numbers (c .pool) i (enable-passed (c .pool) i e .plain) .held) ∙ was)
-stays-member (Event.maintenance i) c v p id was =
+
+pub maintenance-stays : (i : ℕ) (c : Client) → Valid (c .pool) → isPart (partOf (Event.maintenance i) c) ≡ false → (id : ℕ) → has (membersOf c) id ≡ true → has (membersOf (next (Event.maintenance i) c)) id ≡ true
+unfolding joinCreate createDone joinAssemble assembleDone enable maintenance maintenanceDone linkDown downDone storeCheck tryRun writeEnded writeTurn syncedTurn answer answerTurn
+maintenance-stays i c v p id was =
     turned (Holds id) (maintenanceRefusal (c .pool) i) _ (c .pool) was
     (λ e. ap (λ (n : ℕ). has n id) (left-numbers (c .pool .roster) i Way.Maintenance false (maintenance-passed (c .pool) i e .plain) .held) ∙ was)
-stays-member (Event.linkDown i) c v p id was =
+
+pub down-stays : (i : ℕ) (c : Client) → Valid (c .pool) → isPart (partOf (Event.linkDown i) c) ≡ false → (id : ℕ) → has (membersOf c) id ≡ true → has (membersOf (next (Event.linkDown i) c)) id ≡ true
+unfolding joinCreate createDone joinAssemble assembleDone enable maintenance maintenanceDone linkDown downDone storeCheck tryRun writeEnded writeTurn syncedTurn answer answerTurn
+down-stays i c v p id was =
     turned (Holds id) (downRefusal (c .pool) i) _ (c .pool) was
     (λ e. ap (λ (ro : Roster). has (ro .members) id) (down-roster (c .pool .job) (c .pool) i) ∙ (ap (λ (n : ℕ). has n id) (dropped-members (c .pool .roster) i) ∙ was))
-stays-member (Event.storeCheck i) c v p id was =
+
+pub check-stays : (i : ℕ) (c : Client) → Valid (c .pool) → isPart (partOf (Event.storeCheck i) c) ≡ false → (id : ℕ) → has (membersOf c) id ≡ true → has (membersOf (next (Event.storeCheck i) c)) id ≡ true
+unfolding joinCreate createDone joinAssemble assembleDone enable maintenance maintenanceDone linkDown downDone storeCheck tryRun writeEnded writeTurn syncedTurn answer answerTurn
+check-stays i c v p id was =
     turned (Holds id) (checkRefusal (c .pool) i) _ (c .pool) was (λ e. ap (λ (n : ℕ). has n id) (checked-numbers (c .pool) i .held) ∙ was)
-stays-member Event.tryRun c v p id was = turned (Holds id) (tryRefusal (c .pool)) _ (c .pool) was (λ e. ap (λ (ro : Roster). has (ro .members) id) (tried-roster (c .pool)) ∙ was)
-stays-member (Event.remove xs i mode) c v p id was = clash refl p
-stays-member (Event.write xs chunk reached) c v p id was =
-    turned (Holds id) (writeRefusal (c .pool) (soundFor c xs) chunk reached) _ (c .pool) was
+
+pub try-stays : (c : Client) → Valid (c .pool) → isPart (partOf Event.tryRun c) ≡ false → (id : ℕ) → has (membersOf c) id ≡ true → has (membersOf (next Event.tryRun c)) id ≡ true
+unfolding joinCreate createDone joinAssemble assembleDone enable maintenance maintenanceDone linkDown downDone storeCheck tryRun writeEnded writeTurn syncedTurn answer answerTurn
+try-stays c v p id was = turned (Holds id) (tryRefusal (c .pool)) _ (c .pool) was (λ e. ap (λ (ro : Roster). has (ro .members) id) (tried-roster (c .pool)) ∙ was)
+
+pub write-stays : (xs : List ℕ) (chunk reached : ℕ) (c : Client) → Valid (c .pool) → isPart (partOf (Event.write xs chunk reached) c) ≡ false → (id : ℕ) → has (membersOf c) id ≡ true → has (membersOf (next (Event.write xs chunk reached) c)) id ≡ true
+unfolding joinCreate createDone joinAssemble assembleDone enable maintenance maintenanceDone linkDown downDone storeCheck tryRun writeEnded writeTurn syncedTurn answer answerTurn
+write-stays xs chunk reached c v p id was =
+    turned (Holds id) (writeRefusal (c .pool) (soundFor (c .pool) xs) chunk reached) _ (c .pool) was
     (λ e. ap (λ (ro : Roster). has (ro .members) id) (write-roster (c .pool) chunk reached)
-    ∙ (ap (λ (n : ℕ). has n id) (missed-does (c .pool .roster) reached (v .ok) (write-passed (c .pool) (soundFor c xs) chunk reached e .plain) .members) ∙ was))
-stays-member (Event.synced xs member chunk) c v p id was = ap (λ (q : Pool). has (q .roster .members) id) (synced-same (c .pool) (soundFor c xs) member chunk (cleanTo xs chunk 16)) ∙ was
-stays-member (Event.answer xs number a) c v p id was =
-    turned (Holds id) (answerRefusal (c .pool) (soundFor c xs) number) _ (c .pool) was (λ e. at (c .pool .job) p)
+    ∙ (ap (λ (n : ℕ). has n id) (missed-does (c .pool .roster) reached (v .ok) (write-passed (c .pool) (soundFor (c .pool) xs) chunk reached e .plain) .members) ∙ was))
+
+pub synced-stays : (xs : List ℕ) (member chunk : ℕ) (c : Client) → Valid (c .pool) → isPart (partOf (Event.synced xs member chunk) c) ≡ false → (id : ℕ) → has (membersOf c) id ≡ true → has (membersOf (next (Event.synced xs member chunk) c)) id ≡ true
+unfolding joinCreate createDone joinAssemble assembleDone enable maintenance maintenanceDone linkDown downDone storeCheck tryRun writeEnded writeTurn syncedTurn answer answerTurn
+synced-stays xs member chunk c v p id was = ap (λ (q : Pool). has (q .roster .members) id) (synced-same (c .pool) (soundFor (c .pool) xs) member chunk (cleanTo xs chunk 16)) ∙ was
+
+pub answer-stays : (xs : List ℕ) (number : ℕ) (a : Reply) (c : Client) → Valid (c .pool) → isPart (partOf (Event.answer xs number a) c) ≡ false → (id : ℕ) → has (membersOf c) id ≡ true → has (membersOf (next (Event.answer xs number a) c)) id ≡ true
+unfolding joinCreate createDone joinAssemble assembleDone enable maintenance maintenanceDone linkDown downDone storeCheck tryRun writeEnded writeTurn syncedTurn answer answerTurn
+answer-stays xs number a c v p id was =
+    turned (Holds id) (answerRefusal (c .pool) (soundFor (c .pool) xs) number) _ (c .pool) was (λ e. at (c .pool .job) p)
   where
     one : (w : Who) (ro : Roster) → ro ≡ enteredBy w (c .pool .roster) → has (ro .members) id ≡ true
     one Who.Nobody ro e = ap (λ (x : Roster). has (x .members) id) e ∙ was
@@ -400,32 +412,19 @@ stays-member (Event.answer xs number a) c v p id was =
     at (Job.Running r) q = let m = takes (membersOf c) (versionOf c) r a in one (m .normal) _ (run-roster (c .pool) m)
     at (Job.Removing m) q = clash refl q
 
-member-part : (e : Event) (c : Client) → Valid (c .pool) → isAccepted (outOf e c .answer) ≡ true → isPart (partOf e c) ≡ true → (id : ℕ) → has (membersOf c) id ≡ true → has (membersOf (next e c)) id ≡ not (takesOut (partOf e c) c id)
-member-part (Event.joinCreate i) c v d p id was = clash p refl
-member-part (Event.joinAssemble i set version) c v d p id was = clash p refl
-member-part (Event.enable i) c v d p id was = clash p refl
-member-part (Event.maintenance i) c v d p id was = clash p refl
-member-part (Event.linkDown i) c v d p id was = clash p refl
-member-part (Event.storeCheck i) c v d p id was = clash p refl
-member-part Event.tryRun c v d p id was = clash p refl
-member-part (Event.remove xs i mode) c v d p id was =
-    member-at c i (removeTurn c xs i mode) _ _ (remove-does c xs i mode v d) v id was (λ j. isDelete mode && notOwed (stateOf c j)) refl
-member-part (Event.write xs chunk reached) c v d p id was = clash p refl
-member-part (Event.synced xs member chunk) c v d p id was = clash p refl
-member-part (Event.answer xs number a) c v d p id was = at (c .pool .job) refl p
+pub remove-takes-out : (xs : List ℕ) (i : ℕ) (mode : Mode) (c : Client) → Valid (c .pool) → isAccepted (outOf (Event.remove xs i mode) c .answer) ≡ true → isPart (partOf (Event.remove xs i mode) c) ≡ true → (id : ℕ) → has (membersOf c) id ≡ true → has (membersOf (next (Event.remove xs i mode) c)) id ≡ not (takesOut (partOf (Event.remove xs i mode) c) c id)
+remove-takes-out xs i mode c v d p id was =
+    member-at c i (removeTurn (c .pool) xs i mode) _ _ (remove-does c xs i mode v d) v id was (λ j. isDelete mode && notOwed (stateOf c j)) refl
+
+pub answer-takes-out : (xs : List ℕ) (number : ℕ) (a : Reply) (c : Client) → Valid (c .pool) → isAccepted (outOf (Event.answer xs number a) c .answer) ≡ true → isPart (partOf (Event.answer xs number a) c) ≡ true → (id : ℕ) → has (membersOf c) id ≡ true → has (membersOf (next (Event.answer xs number a) c)) id ≡ not (takesOut (partOf (Event.answer xs number a) c) c id)
+answer-takes-out xs number a c v d p id was = at (c .pool .job) refl p
   where
     at : (k : Job) → jobOf c ≡ k → isPart (answerPart k a) ≡ true → has (membersOf (next (Event.answer xs number a) c)) id ≡ not (takesOut (answerPart (jobOf c) a) c id)
     at Job.Idle job q = clash q refl
     at (Job.Running r) job q = clash q refl
     at (Job.Removing m) job q =
-        member-at c (m .id) (answerTurn c xs number a) _ _ (answer-does c xs number a m job v d) v id was (λ j. isDeleting (stateOf c j) && (isGood a && isLeave (m .stage))) refl
+        member-at c (m .id) (answerTurn (c .pool) xs number a) _ _ (answer-does c xs number a m job v d) v id was (λ j. isDeleting (stateOf c j) && (isGood a && isLeave (m .stage))) refl
         ∙ sym (ap (λ (k : Job). not (takesOut (answerPart k a) c id)) job)
-
-pub members-said : (e : Event) (c : Client) → Valid (c .pool) → isAccepted (outOf e c .answer) ≡ true → (id : ℕ) → has (membersOf c) id ≡ true → has (membersOf (next e c)) id ≡ not (takesOut (partOf e c) c id)
-members-said e c v d id was =
-    by-cases (isPart (partOf e c))
-    (λ p. member-part e c v d p id was)
-    (λ p. stays-member e c v p id was ∙ sym (ap not (part-none (partOf e c) c id p .1)))
 
 -- ---- the client map
 
@@ -436,13 +435,13 @@ own-rows c c′ i freed out xs = rw (eq-eqb i i refl) refl
 pub remove-rows : (c : Client) → Valid (c .pool) → isSync c ≡ false → (xs : List ℕ) (id : ℕ) (mode : Mode) → isAccepted (outOf (Event.remove xs id mode) c .answer) ≡ true
     → mapLeft (Event.remove xs id mode) c ≡ Lent.some (rowsAfter (Part.remove id mode) c (next (Event.remove xs id mode) c) id xs)
 remove-rows c v plain xs id mode d =
-    ap Lent.some (map-at c id (removeTurn c xs id mode) _ _ (remove-does c xs id mode v d) plain xs)
+    ap Lent.some (map-at c id (removeTurn (c .pool) xs id mode) _ _ (remove-does c xs id mode v d) plain xs)
     ∙ own-rows c (next (Event.remove xs id mode) c) id (notOwed (stateOf c id) && nothingDue c id Stage.Leave) (isDelete mode && notOwed (stateOf c id)) xs
 
 pub answer-rows : (c : Client) → Valid (c .pool) → isSync c ≡ false → (xs : List ℕ) (number : ℕ) (a : Reply) (m : Removal) → jobOf c ≡ Job.Removing m → isAccepted (outOf (Event.answer xs number a) c .answer) ≡ true
     → mapLeft (Event.answer xs number a) c ≡ Lent.some (rowsAfter (Part.answer m a) c (next (Event.answer xs number a) c) (m .id) xs)
 answer-rows c v plain xs number a m job d =
-    ap Lent.some (map-at c (m .id) (answerTurn c xs number a) _ _ (answer-does c xs number a m job v d) plain xs)
+    ap Lent.some (map-at c (m .id) (answerTurn (c .pool) xs number a) _ _ (answer-does c xs number a m job v d) plain xs)
     ∙ own-rows c (next (Event.answer xs number a) c) (m .id) (isGood a && nothingDue c (m .id) (m .stage)) (isDeleting (stateOf c (m .id)) && (isGood a && isLeave (m .stage))) xs
 
 -- ---- remove begins
@@ -452,8 +451,8 @@ pub begun-said : (c : Client) (xs : List ℕ) (id : ℕ) (mode : Mode) → Valid
 unfolding remove removeTurn
 begun-said c xs id mode v =
     taken (λ t. sessionAt (t .pool .roster) id .state ≡ pick (frees (Part.remove id mode) c id) State.Free (State.Removing mode (not (notOwed (stateOf c id)))))
-    (removeRefusal (c .pool) (soundFor c xs) id mode) (gone (c .pool) (removeBegun (c .pool) id mode)) (c .pool)
-    (λ e. let h = remove-passed (c .pool) (soundFor c xs) id mode e in
+    (removeRefusal (c .pool) (soundFor (c .pool) xs) id mode) (gone (c .pool) (removeBegun (c .pool) id mode)) (c .pool)
+    (λ e. let h = remove-passed (c .pool) (soundFor (c .pool) xs) id mode e in
     let g = started-goes (withRoster (c .pool) (removing (c .pool .roster) id mode)) id (removing-long (c .pool .roster) id mode (v .ok .long)) (h .below) in
     ap (λ (s : Session). s .state) (g .own)
     ∙ (ap (λ (k : Bool). pick k free (sessionAt (removing (c .pool .roster) id mode) id) .state) (freed-is c id mode v h)

@@ -2,14 +2,12 @@
 use mathlib.Core.Path.{_∙_}
 use Rattle.events.specs.Events.{next}
 use Rattle.events.specs.Said.{JoinBegins, StoreCheck, NormalOnly, VersionRises, WriteMarks, LastAuthoritative, Maintenance, EnableDoes, LinkDown, RemoveBegins, Freed, DeleteTakesOut}
-use Rattle.events.proofs.Keeps.{event-keeps}
-use Rattle.events.proofs.Fates.{event-fate}
-use Rattle.events.proofs.Versions.{event-kind, event-rises}
+use Rattle.events.proofs.Demand2.{reached-valid}
+use Rattle.events.proofs.Every.{event-keeps, event-fate, event-kind, event-rises, freed-said, members-said}
 use Rattle.events.proofs.Marks.{mark-after, flag-after}
+use Rattle.events.proofs.Removals.{remove-rows, answer-rows, begun-said}
 use Rattle.events.proofs.Sessions.{create-said, assemble-said, check-reconnects, becomes, enable-said, maintenance-said, down-said}
 use Rattle.events.proofs.Written.{write-said, marks-said, none-said}
-use Rattle.events.proofs.Removals.{begun-said, freed-said, members-said, remove-rows, answer-rows}
-use Rattle.events.proofs.Demand2.{reached-valid}
 
 pub join-begins : JoinBegins
 join-begins c id = (

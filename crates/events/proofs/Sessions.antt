@@ -1,46 +1,45 @@
 -- Joins, store check, enable, maintenance, link down: what an accepted one does; and how a session becomes NORMAL.
-use mathlib.Core.Path.{_≡_, refl, sym, ap, _∙_}
+use mathlib.Core.Path.{_≡_, refl, ap, _∙_, sym}
 use mathlib.Core.Bool.{Bool, true, false}
 use Prim.Native.Nat.{ℕ, max}
-use native.Mathlib.Decide.{ℕ-discrete}
 use native.Mathlib.Omega.{arith}
 use lib.Dec.{eqb}
+use Rattle.laws.specs.Tests.{clash, by-cases, and-left}
 use Rattle.laws.specs.Words.{pick}
-use Rattle.laws.specs.Tests.{by-cases, clash, and-left}
-use Rattle.state.specs.declared.State.{State}
-use Rattle.state.specs.declared.Session.{Session}
-use Rattle.state.specs.declared.Roster.{Roster}
-use Rattle.state.specs.declared.Removal.{Removal}
-use Rattle.state.specs.declared.Run.{Run}
-use Rattle.state.specs.declared.Job.{Job}
-use Rattle.state.specs.declared.Pool.{Pool}
-use Rattle.state.specs.declared.Told.{Told}
-use Rattle.state.specs.declared.Outcome.{Outcome}
-use Rattle.state.specs.declared.Turn.{Turn}
 use Rattle.state.specs.Session.{isCreated, isNormal, isReconnecting, isRemoving, moved, flagged}
+use Rattle.state.specs.declared.Job.{Job}
+use Rattle.state.specs.declared.Outcome.{Outcome}
+use Rattle.state.specs.declared.Pool.{Pool}
+use Rattle.state.specs.declared.Removal.{Removal}
+use Rattle.state.specs.declared.Roster.{Roster}
+use Rattle.state.specs.declared.Run.{Run}
+use Rattle.state.specs.declared.Session.{Session}
+use Rattle.state.specs.declared.State.{State}
+use Rattle.state.specs.declared.Told.{Told}
+use Rattle.state.specs.declared.Turn.{Turn}
 use Rattle.roster.specs.Roster.{sessionAt}
-use Rattle.changes.specs.declared.Way.{Way}
 use Rattle.changes.specs.Changes.{flaggedAt}
-use Rattle.rules.specs.Jobs.{isIdle, peerAt, isPeer}
+use Rattle.changes.specs.declared.Way.{Way}
 use Rattle.run.specs.declared.Next.{Next}
 use Rattle.recovery.specs.Cases.{begun}
-use Rattle.recovery.specs.Recovery.{withRoster, jobEnded, posted, beginning, tried}
+use Rattle.recovery.specs.Recovery.{withRoster, posted, tried, runEnded, beginning}
+use Rattle.rules.specs.Jobs.{isIdle, peerAt, isPeer}
 use Rattle.keeps.specs.Pools.{Valid, removal-facts}
 use Rattle.keeps.specs.Records.{left-at}
 use Rattle.keeps.specs.Tried.{tried-roster}
-use Rattle.joins.specs.Joins.{createRefusal, createDone, joinCreate, assembleRefusal, assembled, assembleDone, joinAssemble}
 use Rattle.joins.proofs.Kept.{create-passed, created-at, assemble-passed, assembled-at, assembled-numbers}
-use Rattle.enables.specs.Enables.{enables, enableRefusal, enableDone, enable, maintenanceRefusal, maintenanceDone, maintenance}
-use Rattle.enables.proofs.Kept.{Enables, enable-passed, enabled-at, maintenance-passed}
-use Rattle.links.specs.Links.{downRefusal, dropped, downAt, downDone, linkDown, checkRefusal, checkDone, storeCheck}
+use Rattle.joins.specs.Joins.{createRefusal, createDone, joinCreate, assembleRefusal, assembled, assembleDone, joinAssemble}
+use Rattle.enables.proofs.Kept.{enable-passed, enabled-at, maintenance-passed, Enables}
+use Rattle.enables.specs.Enables.{enables, enableRefusal, enable, maintenanceRefusal, maintenanceDone, enableDone, maintenance}
 use Rattle.links.proofs.Kept.{down-passed, down-roster, dropped-at, dropped-other, check-passed, checked-at}
+use Rattle.links.specs.Links.{downRefusal, dropped, downDone, linkDown, checkRefusal, storeCheck, checkDone, downAt}
 use Rattle.client.specs.declared.Client.{Client}
-use Rattle.events.specs.Events.{Event, outOf, next, isAccepted}
-use Rattle.events.specs.Demand2.{recordOf, stateOf, isSync}
-use Rattle.events.specs.Said.{versionOf, flagOf, jobOf, sends, begins, recoveryIn, Becomes, reported, Dropped}
-use Rattle.events.proofs.States.{reconnecting-is}
-use Rattle.events.proofs.Shape.{taken}
+use Rattle.events.specs.Events.{Event, isAccepted, outOf, next, stateOf, isSync, recordOf, jobOf}
+use Rattle.events.specs.Said.{reported, versionOf, Becomes, flagOf, sends, begins, recoveryIn, Dropped}
 use Rattle.events.proofs.Fates.{Fate, state-of, kept-stands}
+use Rattle.events.proofs.Shape.{taken}
+use Rattle.events.proofs.States.{reconnecting-is}
+use native.Mathlib.Decide.{ℕ-discrete}
 
 -- ---- joins
 
@@ -168,7 +167,7 @@ down-jobs Job.Idle p id e = record { idle = λ z. e; ends = λ r z. idle-run r z
 down-jobs (Job.Running r) p id e =
     record {
       idle = λ z. idle-run r (sym z);
-      ends = λ r′ z. ((let q : r ≡ r′ = cc z in ap (λ (x : Run). Outcome.Taken (x .taken)) q), tried-job (jobEnded (withRoster p (dropped (p .roster) id))) refl);
+      ends = λ r′ z. ((let q : r ≡ r′ = cc z in ap (λ (x : Run). Outcome.Taken (x .taken)) q), tried-job (runEnded (withRoster p (dropped (p .roster) id))) refl);
       halted = λ m z. run-removal r m z;
     }
 down-jobs (Job.Removing m) p id e =

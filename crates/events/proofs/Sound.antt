@@ -1,50 +1,45 @@
 -- The chunk count stays, and a sound map that is lent is left sound.
-use mathlib.Core.Path.{_≡_, refl, sym, ap, subst}
-use mathlib.Core.Bool.{Bool, true, false, not, _&&_}
+use mathlib.Core.Path.{_≡_, refl, ap}
+use mathlib.Core.Bool.{Bool, true, not, _&&_}
 use mathlib.Core.List.{List}
 use Prim.Native.Nat.{ℕ}
-use native.Mathlib.Omega.{arith}
 use lib.Dec.{eqb, ltb}
-use borrow.Author.Tests.{eqb-true, ltb-true, not-false}
-use Rattle.laws.specs.Words.{pick}
-use Rattle.laws.specs.Tests.{clash}
+use borrow.Author.Tests.{ltb-true, not-false}
+use Rattle.laws.specs.Tests.{clash, either}
 use Rattle.order.proofs.Order.{none-applies}
 use Rattle.maps.specs.Map.{sound}
-use Rattle.maps.proofs.Sound.{Sound, sound-fact, sound-test, sound-zeroRow, sound-zeroed, sound-markedFor}
-use Rattle.state.specs.declared.Stage.{Stage}
-use Rattle.state.specs.declared.Removal.{Removal}
-use Rattle.state.specs.declared.Roster.{Roster}
-use Rattle.state.specs.declared.Job.{Job}
-use Rattle.state.specs.declared.Pool.{Pool}
-use Rattle.state.specs.declared.Reply.{Reply}
+use Rattle.state.specs.Session.{isCreated, isOwed, isDeleting}
 use Rattle.state.specs.declared.Effect.{Effect}
 use Rattle.state.specs.declared.Turn.{Turn}
-use Rattle.state.specs.Session.{isCreated, isDelete, isDeleting, isOwed}
+use Rattle.state.specs.declared.Job.{Job}
+use Rattle.state.specs.declared.Mode.{Mode}
+use Rattle.state.specs.declared.Pool.{Pool}
+use Rattle.state.specs.declared.Removal.{Removal}
+use Rattle.state.specs.declared.Reply.{Reply}
+use Rattle.state.specs.declared.Roster.{Roster}
+use Rattle.state.specs.declared.Stage.{Stage}
 use Rattle.roster.specs.Roster.{sessionAt}
 use Rattle.changes.specs.Changes.{memberDropped}
-use Rattle.rules.specs.Jobs.{isPeer}
-use Rattle.run.specs.declared.Next.{Next}
 use Rattle.run.specs.Run.{takes}
+use Rattle.run.specs.declared.Next.{Next}
 use Rattle.recovery.specs.Cases.{begun}
-use Rattle.recovery.specs.Recovery.{withRoster, jobEnded, posted, beginning, goneOn, tried}
-use Rattle.exits.specs.Exit.{refused, haltedIf}
-use Rattle.exits.proofs.Laws.{picked, turned, halts}
-use Rattle.keeps.specs.Pools.{Valid}
+use Rattle.recovery.specs.Recovery.{withRoster, posted, tried, runEnded, beginning, goneOn}
+use Rattle.exits.proofs.Laws.{turned, pools, halts, turn-of}
+use Rattle.exits.specs.Exit.{haltedIf}
+use Rattle.rules.specs.Jobs.{isPeer}
 use Rattle.joins.specs.Joins.{createRefusal, createDone, joinCreate, assembleRefusal, assembleDone, joinAssemble}
-use Rattle.enables.specs.Enables.{enableRefusal, enableDone, enable, maintenanceRefusal, maintenanceDone, maintenance}
-use Rattle.links.specs.Links.{downRefusal, dropped, downAt, downDone, linkDown, checkRefusal, checkDone, storeCheck, tryRefusal, tryRun}
-use Rattle.removal.specs.declared.Gone.{Gone}
+use Rattle.enables.specs.Enables.{enableRefusal, enable, maintenanceRefusal, maintenanceDone, enableDone, maintenance}
+use Rattle.links.specs.Links.{downRefusal, dropped, downDone, linkDown, checkRefusal, storeCheck, checkDone, tryRefusal, tryRun, downAt}
 use Rattle.removal.specs.Removal as removal
 use Rattle.removal.specs.Remove.{removeRefusal, remove}
-use Rattle.writes.specs.Writes.{writeRefusal, loses, missed, marks, writeDone, writeEnded}
+use Rattle.removal.specs.declared.Gone.{Gone}
 use Rattle.writes.proofs.Kept.{synced-same}
-use Rattle.answers.specs.Answers.{answerRefusal, enteredBy, movedOn, answered, answer}
-use Rattle.client.specs.declared.Client.{Client}
+use Rattle.writes.specs.Writes.{missed, writeRefusal, writeEnded, marks, writeDone, loses}
+use Rattle.answers.specs.Answers.{answerRefusal, enteredBy, answered, answer, movedOn}
 use Rattle.client.specs.Client.{carried, soundFor, removeTurn, writeTurn, answerTurn, syncedTurn, cleanTo}
-use Rattle.events.specs.Events.{Event, next, lentTo, mapLeft}
-use Rattle.events.specs.Tests.{testsOf}
-use Rattle.events.specs.Demand2.{keeps, removalTouches, answerTouches, soundLent}
-use Rattle.events.proofs.Touches.{event-touches}
+use Rattle.client.specs.declared.Client.{Client}
+use Rattle.maps.proofs.Sound.{Sound, sound-fact, sound-test, sound-zeroRow, sound-zeroed, sound-markedFor}
+use Rattle.events.specs.Events.{Event, testsOf, next, keeps, removalTouches, answerTouches}
 
 -- ---- the chunk count
 
@@ -67,24 +62,20 @@ gone-same (Next.On r) p = refl
 abbrev GoneSame : Pool → Gone → Type 0
 GoneSame p g = g .posted .pool .chunks ≡ p .chunks
 
-same-pick : (p : Pool) (b : Bool) (x y : Gone) → GoneSame p x → GoneSame p y → GoneSame p (pick b x y)
-same-pick p true x y e f = e
-same-pick p false x y e f = f
-
 onward-same : (p : Pool) (id : ℕ) (st : Stage) (ef : Effect) → GoneSame p (removal.onward p id st ef)
 unfolding removal.onward removal.freedFrom posted
-onward-same p id st ef = same-pick p (ltb (removal.due st (p .roster)) 16) _ _ refl refl
+onward-same p id st ef = either (GoneSame p) (ltb (removal.due st (p .roster)) 16) _ _ refl refl
 
 departed-same : (p : Pool) (id : ℕ) → GoneSame p (removal.departed p id)
 unfolding removal.departed
 departed-same p id =
-    same-pick p (isDeleting (removal.stateOf p id) && not (p .roster .sync)) _ _
+    either (GoneSame p) (isDeleting (removal.stateOf p id) && not (p .roster .sync)) _ _
     (onward-same (withRoster p (memberDropped (p .roster) id)) id Stage.Leave (Effect.ZeroRow id))
     (onward-same p id Stage.Leave Effect.Keep)
 
 started-same : (p : Pool) (id : ℕ) → GoneSame p (removal.started p id)
 unfolding removal.started posted
-started-same p id = same-pick p (isOwed (removal.stateOf p id)) _ _ refl (departed-same p id)
+started-same p id = either (GoneSame p) (isOwed (removal.stateOf p id)) _ _ refl (departed-same p id)
 
 well-same : (st : Stage) (p : Pool) (id : ℕ) → GoneSame p (removal.wellAnswered st p id)
 well-same Stage.Leave p id = departed-same (removal.paid p id) id
@@ -104,32 +95,62 @@ job-same (Job.Removing m) p a = answered-same m p a
 
 down-same : (j : Job) (p : Pool) (id : ℕ) → Same p (downAt j p id .pool)
 down-same Job.Idle p id = refl
-down-same (Job.Running r) p id = tried-same (jobEnded (withRoster p (dropped (p .roster) id)))
+down-same (Job.Running r) p id = tried-same (runEnded (withRoster p (dropped (p .roster) id)))
 down-same (Job.Removing m) p id = halts (Same p) (isPeer (Job.Removing m) id) (withRoster p (dropped (p .roster) id)) refl refl
 
-pub event-same : (e : Event) (c : Client) → next e c .pool .chunks ≡ c .pool .chunks
+pub create-count : (id : ℕ) (c : Client) → next (Event.joinCreate id) c .pool .chunks ≡ c .pool .chunks
 unfolding joinCreate createDone joinAssemble assembleDone enable enableDone maintenance maintenanceDone linkDown downDone storeCheck checkDone tryRun remove removeTurn writeEnded writeDone marks writeTurn syncedTurn answer answerTurn
-event-same (Event.joinCreate id) c = turned (Same (c .pool)) (createRefusal (c .pool) id) _ (c .pool) refl (λ e. refl)
-event-same (Event.joinAssemble id set version) c = turned (Same (c .pool)) (assembleRefusal (c .pool) id set version) _ (c .pool) refl (λ e. tried-same _)
-event-same (Event.enable id) c =
+create-count id c = turned (Same (c .pool)) (createRefusal (c .pool) id) _ (c .pool) refl (λ e. refl)
+
+pub assemble-count : (id set version : ℕ) (c : Client) → next (Event.joinAssemble id set version) c .pool .chunks ≡ c .pool .chunks
+unfolding joinCreate createDone joinAssemble assembleDone enable enableDone maintenance maintenanceDone linkDown downDone storeCheck checkDone tryRun remove removeTurn writeEnded writeDone marks writeTurn syncedTurn answer answerTurn
+assemble-count id set version c = turned (Same (c .pool)) (assembleRefusal (c .pool) id set version) _ (c .pool) refl (λ e. tried-same _)
+
+pub enable-count : (id : ℕ) (c : Client) → next (Event.enable id) c .pool .chunks ≡ c .pool .chunks
+unfolding joinCreate createDone joinAssemble assembleDone enable enableDone maintenance maintenanceDone linkDown downDone storeCheck checkDone tryRun remove removeTurn writeEnded writeDone marks writeTurn syncedTurn answer answerTurn
+enable-count id c =
     turned (Same (c .pool)) (enableRefusal (c .pool) id) _ (c .pool) refl
-    (λ e. picked (Same (c .pool)) (isCreated (sessionAt (c .pool .roster) id .state)) _ _ (λ z. refl) (λ z. tried-same _))
-event-same (Event.maintenance id) c = turned (Same (c .pool)) (maintenanceRefusal (c .pool) id) _ (c .pool) refl (λ e. refl)
-event-same (Event.linkDown id) c = turned (Same (c .pool)) (downRefusal (c .pool) id) _ (c .pool) refl (λ e. down-same (c .pool .job) (c .pool) id)
-event-same (Event.storeCheck id) c =
+    (λ e. pools (Same (c .pool)) (isCreated (sessionAt (c .pool .roster) id .state)) _ _ (λ z. refl) (λ z. tried-same _))
+
+pub maintenance-count : (id : ℕ) (c : Client) → next (Event.maintenance id) c .pool .chunks ≡ c .pool .chunks
+unfolding joinCreate createDone joinAssemble assembleDone enable enableDone maintenance maintenanceDone linkDown downDone storeCheck checkDone tryRun remove removeTurn writeEnded writeDone marks writeTurn syncedTurn answer answerTurn
+maintenance-count id c = turned (Same (c .pool)) (maintenanceRefusal (c .pool) id) _ (c .pool) refl (λ e. refl)
+
+pub down-count : (id : ℕ) (c : Client) → next (Event.linkDown id) c .pool .chunks ≡ c .pool .chunks
+unfolding joinCreate createDone joinAssemble assembleDone enable enableDone maintenance maintenanceDone linkDown downDone storeCheck checkDone tryRun remove removeTurn writeEnded writeDone marks writeTurn syncedTurn answer answerTurn
+down-count id c = turned (Same (c .pool)) (downRefusal (c .pool) id) _ (c .pool) refl (λ e. down-same (c .pool .job) (c .pool) id)
+
+pub check-count : (id : ℕ) (c : Client) → next (Event.storeCheck id) c .pool .chunks ≡ c .pool .chunks
+unfolding joinCreate createDone joinAssemble assembleDone enable enableDone maintenance maintenanceDone linkDown downDone storeCheck checkDone tryRun remove removeTurn writeEnded writeDone marks writeTurn syncedTurn answer answerTurn
+check-count id c =
     turned (Same (c .pool)) (checkRefusal (c .pool) id) _ (c .pool) refl
-    (λ e. picked (Same (c .pool)) (c .pool .roster .sync) _ _ (λ z. refl) (λ z. tried-same _))
-event-same Event.tryRun c = turned (Same (c .pool)) (tryRefusal (c .pool)) _ (c .pool) refl (λ e. tried-same (c .pool))
-event-same (Event.remove xs id mode) c = turned (Same (c .pool)) (removeRefusal (c .pool) (soundFor c xs) id mode) _ (c .pool) refl (λ e. started-same _ id)
-event-same (Event.write xs chunk reached) c =
-    turned (Same (c .pool)) (writeRefusal (c .pool) (soundFor c xs) chunk reached) _ (c .pool) refl
-    (λ e. picked (Same (c .pool)) (eqb reached 0) _ _ (λ z. here) (λ z. here))
+    (λ e. pools (Same (c .pool)) (c .pool .roster .sync) _ _ (λ z. refl) (λ z. tried-same _))
+
+pub try-count : (c : Client) → next Event.tryRun c .pool .chunks ≡ c .pool .chunks
+unfolding joinCreate createDone joinAssemble assembleDone enable enableDone maintenance maintenanceDone linkDown downDone storeCheck checkDone tryRun remove removeTurn writeEnded writeDone marks writeTurn syncedTurn answer answerTurn
+try-count c = turned (Same (c .pool)) (tryRefusal (c .pool)) _ (c .pool) refl (λ e. tried-same (c .pool))
+
+pub remove-count : (xs : List ℕ) (id : ℕ) (mode : Mode) (c : Client) → next (Event.remove xs id mode) c .pool .chunks ≡ c .pool .chunks
+unfolding joinCreate createDone joinAssemble assembleDone enable enableDone maintenance maintenanceDone linkDown downDone storeCheck checkDone tryRun remove removeTurn writeEnded writeDone marks writeTurn syncedTurn answer answerTurn
+remove-count xs id mode c = turned (Same (c .pool)) (removeRefusal (c .pool) (soundFor (c .pool) xs) id mode) _ (c .pool) refl (λ e. started-same _ id)
+
+pub write-count : (xs : List ℕ) (chunk reached : ℕ) (c : Client) → next (Event.write xs chunk reached) c .pool .chunks ≡ c .pool .chunks
+unfolding joinCreate createDone joinAssemble assembleDone enable enableDone maintenance maintenanceDone linkDown downDone storeCheck checkDone tryRun remove removeTurn writeEnded writeDone marks writeTurn syncedTurn answer answerTurn
+write-count xs chunk reached c =
+    turned (Same (c .pool)) (writeRefusal (c .pool) (soundFor (c .pool) xs) chunk reached) _ (c .pool) refl
+    (λ e. pools (Same (c .pool)) (eqb reached 0) _ _ (λ z. here) (λ z. here))
   where
     here : Same (c .pool) (haltedIf (loses (c .pool .job) (c .pool .roster) reached) (withRoster (c .pool) (missed (c .pool .roster) reached)))
     here = halts (Same (c .pool)) (loses (c .pool .job) (c .pool .roster) reached) (withRoster (c .pool) (missed (c .pool .roster) reached)) refl refl
-event-same (Event.synced xs member chunk) c = ap (λ (p : Pool). p .chunks) (synced-same (c .pool) (soundFor c xs) member chunk (cleanTo xs chunk 16))
-event-same (Event.answer xs number a) c =
-    turned (Same (c .pool)) (answerRefusal (c .pool) (soundFor c xs) number) _ (c .pool) refl (λ e. job-same (c .pool .job) (c .pool) a)
+
+pub synced-count : (xs : List ℕ) (member chunk : ℕ) (c : Client) → next (Event.synced xs member chunk) c .pool .chunks ≡ c .pool .chunks
+unfolding joinCreate createDone joinAssemble assembleDone enable enableDone maintenance maintenanceDone linkDown downDone storeCheck checkDone tryRun remove removeTurn writeEnded writeDone marks writeTurn syncedTurn answer answerTurn
+synced-count xs member chunk c = ap (λ (p : Pool). p .chunks) (synced-same (c .pool) (soundFor (c .pool) xs) member chunk (cleanTo xs chunk 16))
+
+pub answer-count : (xs : List ℕ) (number : ℕ) (a : Reply) (c : Client) → next (Event.answer xs number a) c .pool .chunks ≡ c .pool .chunks
+unfolding joinCreate createDone joinAssemble assembleDone enable enableDone maintenance maintenanceDone linkDown downDone storeCheck checkDone tryRun remove removeTurn writeEnded writeDone marks writeTurn syncedTurn answer answerTurn
+answer-count xs number a c =
+    turned (Same (c .pool)) (answerRefusal (c .pool) (soundFor (c .pool) xs) number) _ (c .pool) refl (λ e. job-same (c .pool .job) (c .pool) a)
 
 -- ---- the lent map
 
@@ -152,57 +173,26 @@ kept-inside n (Effect.Mark s k) e = clash e refl
 kept-inside n (Effect.ZeroRow m) e = refl
 kept-inside n Effect.ZeroAll e = refl
 
-removal-inside : (n id : ℕ) (deletes : Bool) (ro : Roster) (ef : Effect) → removalTouches id deletes ro ef ≡ true → inside n ef ≡ true
+pub removal-inside : (n id : ℕ) (deletes : Bool) (ro : Roster) (ef : Effect) → removalTouches id deletes ro ef ≡ true → inside n ef ≡ true
 removal-inside n id deletes ro Effect.Keep e = refl
 removal-inside n id deletes ro (Effect.Mark s k) e = clash e refl
 removal-inside n id deletes ro (Effect.ZeroRow m) e = refl
 removal-inside n id deletes ro Effect.ZeroAll e = refl
 
-answer-inside : (j : Job) (n : ℕ) (c : Client) (ro : Roster) (ef : Effect) → answerTouches j c ro ef ≡ true → inside n ef ≡ true
+pub answer-inside : (j : Job) (n : ℕ) (c : Client) (ro : Roster) (ef : Effect) → answerTouches j c ro ef ≡ true → inside n ef ≡ true
 answer-inside Job.Idle n c ro ef e = kept-inside n ef e
 answer-inside (Job.Running r) n c ro ef e = kept-inside n ef e
 answer-inside (Job.Removing d) n c ro ef e = removal-inside n (d .id) (isDeleting (sessionAt (c .pool .roster) (d .id) .state)) ro ef e
 
-turn-of : (P : Turn → Type 0) (n : ℕ) (done : Turn) (p : Pool) → P (refused p n) → (n ≡ 0 → P done) → P (pick (eqb n 0) done (refused p n))
-turn-of P n done p same change = at (eqb n 0) refl
-  where
-    at : (b : Bool) → eqb n 0 ≡ b → P (pick b done (refused p n))
-    at true e = change (eqb-true n 0 e)
-    at false e = same
-
-inside-pick : (n : ℕ) (b : Bool) (x y : Turn) → inside n (x .effect) ≡ true → inside n (y .effect) ≡ true → inside n (pick b x y .effect) ≡ true
-inside-pick n true x y e f = e
-inside-pick n false x y e f = f
-
 marks-inside : (n : ℕ) (before after : Pool) (chunk reached : ℕ) → ltb chunk n ≡ true → inside n (marks before after chunk reached .effect) ≡ true
 unfolding marks
-marks-inside n before after chunk reached l = inside-pick n (eqb reached 0) _ _ refl l
+marks-inside n before after chunk reached l = either (λ (t : Turn). inside n (t .effect) ≡ true) (eqb reached 0) _ _ refl l
 
-write-inside : (c : Client) (xs : List ℕ) (chunk reached : ℕ) → inside (c .pool .chunks) (writeTurn c xs chunk reached .effect) ≡ true
+pub write-inside : (c : Client) (xs : List ℕ) (chunk reached : ℕ) → inside (c .pool .chunks) (writeTurn (c .pool) xs chunk reached .effect) ≡ true
 unfolding writeTurn writeEnded writeRefusal writeDone
 write-inside c xs chunk reached =
-    turn-of (λ t. inside (c .pool .chunks) (t .effect) ≡ true) (writeRefusal (c .pool) (soundFor c xs) chunk reached) _ (c .pool) refl
-    (λ e. marks-inside (c .pool .chunks) (c .pool) _ chunk reached (not-false (ltb chunk (c .pool .chunks)) (none-applies (testsOf (Event.write xs chunk reached) c) e 3 (omega arith))))
+    turn-of (λ t. inside (c .pool .chunks) (t .effect) ≡ true) (writeRefusal (c .pool) (soundFor (c .pool) xs) chunk reached) _ (c .pool) refl
+    (λ e. marks-inside (c .pool .chunks) (c .pool) _ chunk reached (not-false (ltb chunk (c .pool .chunks)) (none-applies (testsOf (Event.write xs chunk reached) c) e 4 refl)))
 
-left-sound : (n : ℕ) (ef : Effect) (xs : List ℕ) → inside n ef ≡ true → sound n xs ≡ true → sound n (carried ef xs) ≡ true
+pub left-sound : (n : ℕ) (ef : Effect) (xs : List ℕ) → inside n ef ≡ true → sound n xs ≡ true → sound n (carried ef xs) ≡ true
 left-sound n ef xs i s = sound-test n (carried ef xs) (carried-sound n ef xs i (sound-fact n xs s))
-
-event-left : (e : Event) (c : Client) → Valid (c .pool) → soundLent (c .pool .chunks) (lentTo e) ≡ true → soundLent (c .pool .chunks) (mapLeft e c) ≡ true
-event-left (Event.joinCreate id) c v s = refl
-event-left (Event.joinAssemble id set version) c v s = refl
-event-left (Event.enable id) c v s = refl
-event-left (Event.maintenance id) c v s = refl
-event-left (Event.linkDown id) c v s = refl
-event-left (Event.storeCheck id) c v s = refl
-event-left Event.tryRun c v s = refl
-event-left (Event.remove xs id mode) c v s =
-    left-sound (c .pool .chunks) (removeTurn c xs id mode .effect) xs
-    (removal-inside (c .pool .chunks) id (isDelete mode) (next (Event.remove xs id mode) c .pool .roster) (removeTurn c xs id mode .effect) (event-touches (Event.remove xs id mode) c v)) s
-event-left (Event.write xs chunk reached) c v s = left-sound (c .pool .chunks) (writeTurn c xs chunk reached .effect) xs (write-inside c xs chunk reached) s
-event-left (Event.synced xs member chunk) c v s = s
-event-left (Event.answer xs number a) c v s =
-    left-sound (c .pool .chunks) (answerTurn c xs number a .effect) xs
-    (answer-inside (c .pool .job) (c .pool .chunks) c (next (Event.answer xs number a) c .pool .roster) (answerTurn c xs number a .effect) (event-touches (Event.answer xs number a) c v)) s
-
-pub event-sound : (e : Event) (c : Client) → Valid (c .pool) → soundLent (c .pool .chunks) (lentTo e) ≡ true → soundLent (next e c .pool .chunks) (mapLeft e c) ≡ true
-event-sound e c v s = subst (λ (n : ℕ). soundLent n (mapLeft e c) ≡ true) (sym (event-same e c)) (event-left e c v s)

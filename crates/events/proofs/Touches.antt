@@ -1,69 +1,51 @@
 -- What an event does to the client map.
-use mathlib.Core.Path.{_≡_, refl, sym, ap, _∙_}
+use mathlib.Core.Path.{_≡_, refl, ap, _∙_, sym}
 use mathlib.Core.Bool.{Bool, true, false, not, _&&_}
 use mathlib.Core.List.{List}
 use Prim.Native.Nat.{ℕ, _<_}
 use lib.Dec.{eqb, ltb}
-use borrow.Author.Tests.{eqb-true, eq-eqb}
+use borrow.Author.Tests.{eq-eqb}
+use Rattle.laws.specs.Tests.{and-left, either, and-both, picked}
 use Rattle.laws.specs.Words.{pick}
-use Rattle.laws.specs.Tests.{and-left, and-both}
+use Rattle.state.specs.Session.{isCreated, isOwed, moved, isDelete, isDeleting}
+use Rattle.state.specs.declared.Effect.{Effect}
+use Rattle.state.specs.declared.Job.{Job}
 use Rattle.state.specs.declared.Mode.{Mode}
-use Rattle.state.specs.declared.State.{State}
+use Rattle.state.specs.declared.Pool.{Pool}
+use Rattle.state.specs.declared.Removal.{Removal}
+use Rattle.state.specs.declared.Reply.{Reply}
+use Rattle.state.specs.declared.Roster.{Roster}
 use Rattle.state.specs.declared.Session.{Session}
 use Rattle.state.specs.declared.Stage.{Stage}
-use Rattle.state.specs.declared.Removal.{Removal}
-use Rattle.state.specs.declared.Roster.{Roster}
-use Rattle.state.specs.declared.Job.{Job}
-use Rattle.state.specs.declared.Pool.{Pool}
-use Rattle.state.specs.declared.Reply.{Reply}
-use Rattle.state.specs.declared.Effect.{Effect}
+use Rattle.state.specs.declared.State.{State}
 use Rattle.state.specs.declared.Turn.{Turn}
-use Rattle.state.specs.Session.{isDelete, isDeleting, isOwed, isCreated, moved}
-use Rattle.roster.specs.declared.Kind.{Kind}
 use Rattle.roster.specs.Roster.{sessionAt, idsOf}
-use Rattle.changes.specs.Changes.{went, freed, memberDropped, removing}
-use Rattle.recovery.specs.Recovery.{withRoster, posted}
+use Rattle.roster.specs.declared.Kind.{Kind}
+use Rattle.changes.specs.Changes.{removing, went, memberDropped, freed}
+use Rattle.recovery.specs.Recovery.{withRoster}
+use Rattle.exits.proofs.Laws.{turn-of}
 use Rattle.rules.specs.Rules.{jobOk}
-use Rattle.exits.specs.Exit.{refused}
+use Rattle.keeps.specs.Changes.{removing-at}
 use Rattle.keeps.specs.Ids.{Long, stored-same}
 use Rattle.keeps.specs.Pools.{Valid, removal-facts}
-use Rattle.keeps.specs.Changes.{removing-at}
 use Rattle.joins.specs.Joins.{createRefusal, createDone, joinCreate, assembleRefusal, assembleDone, joinAssemble}
-use Rattle.enables.specs.Enables.{enableRefusal, enableDone, enable, maintenanceRefusal, maintenanceDone, maintenance}
-use Rattle.links.specs.Links.{downRefusal, downAt, downDone, linkDown, checkRefusal, checkDone, storeCheck, tryRefusal, tryRun}
-use Rattle.removal.specs.declared.Gone.{Gone}
-use Rattle.removal.specs.Removal as removal
-use Rattle.removal.specs.Remove.{removeRefusal, removeBegun, remove}
+use Rattle.enables.specs.Enables.{enableRefusal, enable, maintenanceRefusal, maintenanceDone, enableDone, maintenance}
+use Rattle.links.specs.Links.{downRefusal, downDone, linkDown, checkRefusal, storeCheck, checkDone, tryRefusal, tryRun, downAt}
 use Rattle.removal.proofs.Steps.{remove-passed}
-use Rattle.writes.specs.Writes.{writeRefusal, marks, writeDone, writeEnded, syncRefusal, syncDone, synced}
+use Rattle.removal.specs.Removal as removal
+use Rattle.removal.specs.Remove.{removeRefusal, remove, removeBegun}
+use Rattle.removal.specs.declared.Gone.{Gone}
+use Rattle.writes.specs.Writes.{writeRefusal, writeEnded, marks, writeDone, syncRefusal, syncDone, synced}
 use Rattle.answers.specs.Answers.{answerRefusal, answered, answer}
-use Rattle.client.specs.declared.Client.{Client}
 use Rattle.client.specs.Client.{soundFor, removeTurn, writeTurn, answerTurn, syncedTurn, cleanTo}
-use Rattle.events.specs.Events.{Event, turnOf, next}
-use Rattle.events.specs.Demand2.{nobodyLeft, keeps, removalTouches, answerTouches, touches, stateOf}
+use Rattle.client.specs.declared.Client.{Client}
+use Rattle.events.specs.Events.{Event, turnOf, next, nobodyLeft, keeps, removalTouches, answerTouches, touches}
 use Rattle.events.proofs.States.{mode-same}
-
--- ---- an event is what it does, or refused
-
-turned : (P : Turn → Type 0) (n : ℕ) (done : Turn) (p : Pool) → P (refused p n) → (n ≡ 0 → P done) → P (pick (eqb n 0) done (refused p n))
-turned P n done p same change = at (eqb n 0) refl
-  where
-    at : (b : Bool) → eqb n 0 ≡ b → P (pick b done (refused p n))
-    at true e = change (eqb-true n 0 e)
-    at false e = same
-
-either : (P : Turn → Type 0) (b : Bool) (x y : Turn) → P x → P y → P (pick b x y)
-either P true x y p q = p
-either P false x y p q = q
 
 -- ---- a removal
 
 abbrev Touch : ℕ → Bool → Gone → Type 0
 Touch id deletes g = removalTouches id deletes (g .posted .pool .roster) (g .effect) ≡ true
-
-gone-pick : (id : ℕ) (deletes b : Bool) (x y : Gone) → (b ≡ true → Touch id deletes x) → (b ≡ false → Touch id deletes y) → Touch id deletes (pick b x y)
-gone-pick id deletes true x y f g = f refl
-gone-pick id deletes false x y f g = g refl
 
 freed-touch : (p : Pool) (id : ℕ) (deletes : Bool) (ef : Effect) → ((ro : Roster) → removalTouches id deletes ro ef ≡ true) → Touch id deletes (removal.freedFrom p id ef)
 unfolding removal.freedFrom
@@ -76,19 +58,19 @@ freed-touch p id deletes ef h = at (nobodyLeft (freed (p .roster) id) && not (p 
 onward-touch : (p : Pool) (id : ℕ) (deletes : Bool) (st : Stage) (ef : Effect) → ((ro : Roster) → removalTouches id deletes ro ef ≡ true) → Touch id deletes (removal.onward p id st ef)
 unfolding removal.onward
 onward-touch p id deletes st ef h =
-    gone-pick id deletes (ltb (removal.due st (p .roster)) 16) _ _ (λ e. h _) (λ e. freed-touch p id deletes ef h)
+    picked (Touch id deletes) (ltb (removal.due st (p .roster)) 16) _ _ (λ e. h _) (λ e. freed-touch p id deletes ef h)
 
 departed-touch : (p : Pool) (id : ℕ) (deletes : Bool) → (isDeleting (removal.stateOf p id) ≡ true → deletes ≡ true) → Touch id deletes (removal.departed p id)
 unfolding removal.departed
 departed-touch p id deletes d =
-    gone-pick id deletes (isDeleting (removal.stateOf p id) && not (p .roster .sync)) _ _
+    picked (Touch id deletes) (isDeleting (removal.stateOf p id) && not (p .roster .sync)) _ _
     (λ e. onward-touch (withRoster p (memberDropped (p .roster) id)) id deletes Stage.Leave (Effect.ZeroRow id)
     (λ ro. and-both (eq-eqb id id refl) (d (and-left (isDeleting (removal.stateOf p id)) (not (p .roster .sync)) e))))
     (λ e. onward-touch p id deletes Stage.Leave Effect.Keep (λ ro. refl))
 
 started-touch : (p : Pool) (id : ℕ) (deletes : Bool) → (isDeleting (removal.stateOf p id) ≡ true → deletes ≡ true) → Touch id deletes (removal.started p id)
 unfolding removal.started
-started-touch p id deletes d = gone-pick id deletes (isOwed (removal.stateOf p id)) _ _ (λ e. refl) (λ e. departed-touch p id deletes d)
+started-touch p id deletes d = picked (Touch id deletes) (isOwed (removal.stateOf p id)) _ _ (λ e. refl) (λ e. departed-touch p id deletes d)
 
 -- the mode of a removal stays with its session
 paid-mode : (p : Pool) (id : ℕ) → Long (p .roster) → id < 16 → isDeleting (removal.stateOf (removal.paid p id) id) ≡ isDeleting (removal.stateOf p id)
@@ -139,23 +121,53 @@ marks-touch xs chunk reached c before after =
 abbrev Kept : Turn → Type 0
 Kept t = keeps (t .effect) ≡ true
 
-pub event-touches : (e : Event) (c : Client) → Valid (c .pool) → touches e c (next e c .pool .roster) (turnOf e c .effect) ≡ true
+pub create-touches : (id : ℕ) (c : Client) → Valid (c .pool) → touches (Event.joinCreate id) c (next (Event.joinCreate id) c .pool .roster) (turnOf (Event.joinCreate id) c .effect) ≡ true
 unfolding joinCreate createDone joinAssemble assembleDone enable enableDone maintenance maintenanceDone linkDown downDone storeCheck checkDone tryRun remove removeTurn writeEnded writeDone writeTurn synced syncDone syncedTurn answer answerTurn
-event-touches (Event.joinCreate id) c v = turned Kept (createRefusal (c .pool) id) _ (c .pool) refl (λ e. refl)
-event-touches (Event.joinAssemble id set version) c v = turned Kept (assembleRefusal (c .pool) id set version) _ (c .pool) refl (λ e. refl)
-event-touches (Event.enable id) c v =
-    turned Kept (enableRefusal (c .pool) id) _ (c .pool) refl (λ e. either Kept (isCreated (sessionAt (c .pool .roster) id .state)) _ _ refl refl)
-event-touches (Event.maintenance id) c v = turned Kept (maintenanceRefusal (c .pool) id) _ (c .pool) refl (λ e. refl)
-event-touches (Event.linkDown id) c v = turned Kept (downRefusal (c .pool) id) _ (c .pool) refl (λ e. down-touch (c .pool .job) (c .pool) id)
-event-touches (Event.storeCheck id) c v = turned Kept (checkRefusal (c .pool) id) _ (c .pool) refl (λ e. either Kept (c .pool .roster .sync) _ _ refl refl)
-event-touches Event.tryRun c v = turned Kept (tryRefusal (c .pool)) _ (c .pool) refl (λ e. refl)
-event-touches (Event.remove xs id mode) c v =
-    turned (λ t. removalTouches id (isDelete mode) (t .pool .roster) (t .effect) ≡ true) (removeRefusal (c .pool) (soundFor c xs) id mode) _ (c .pool) refl
-    (λ e. begun-touch (c .pool) id mode (v .ok .long) (remove-passed (c .pool) (soundFor c xs) id mode e .below))
-event-touches (Event.write xs chunk reached) c v =
-    turned (WriteTouch xs chunk reached c) (writeRefusal (c .pool) (soundFor c xs) chunk reached) _ (c .pool) refl
+create-touches id c v = turn-of Kept (createRefusal (c .pool) id) _ (c .pool) refl (λ e. refl)
+
+pub assemble-touches : (id set version : ℕ) (c : Client) → Valid (c .pool) → touches (Event.joinAssemble id set version) c (next (Event.joinAssemble id set version) c .pool .roster) (turnOf (Event.joinAssemble id set version) c .effect) ≡ true
+unfolding joinCreate createDone joinAssemble assembleDone enable enableDone maintenance maintenanceDone linkDown downDone storeCheck checkDone tryRun remove removeTurn writeEnded writeDone writeTurn synced syncDone syncedTurn answer answerTurn
+assemble-touches id set version c v = turn-of Kept (assembleRefusal (c .pool) id set version) _ (c .pool) refl (λ e. refl)
+
+pub enable-touches : (id : ℕ) (c : Client) → Valid (c .pool) → touches (Event.enable id) c (next (Event.enable id) c .pool .roster) (turnOf (Event.enable id) c .effect) ≡ true
+unfolding joinCreate createDone joinAssemble assembleDone enable enableDone maintenance maintenanceDone linkDown downDone storeCheck checkDone tryRun remove removeTurn writeEnded writeDone writeTurn synced syncDone syncedTurn answer answerTurn
+enable-touches id c v =
+    turn-of Kept (enableRefusal (c .pool) id) _ (c .pool) refl (λ e. either Kept (isCreated (sessionAt (c .pool .roster) id .state)) _ _ refl refl)
+
+pub maintenance-touches : (id : ℕ) (c : Client) → Valid (c .pool) → touches (Event.maintenance id) c (next (Event.maintenance id) c .pool .roster) (turnOf (Event.maintenance id) c .effect) ≡ true
+unfolding joinCreate createDone joinAssemble assembleDone enable enableDone maintenance maintenanceDone linkDown downDone storeCheck checkDone tryRun remove removeTurn writeEnded writeDone writeTurn synced syncDone syncedTurn answer answerTurn
+maintenance-touches id c v = turn-of Kept (maintenanceRefusal (c .pool) id) _ (c .pool) refl (λ e. refl)
+
+pub down-touches : (id : ℕ) (c : Client) → Valid (c .pool) → touches (Event.linkDown id) c (next (Event.linkDown id) c .pool .roster) (turnOf (Event.linkDown id) c .effect) ≡ true
+unfolding joinCreate createDone joinAssemble assembleDone enable enableDone maintenance maintenanceDone linkDown downDone storeCheck checkDone tryRun remove removeTurn writeEnded writeDone writeTurn synced syncDone syncedTurn answer answerTurn
+down-touches id c v = turn-of Kept (downRefusal (c .pool) id) _ (c .pool) refl (λ e. down-touch (c .pool .job) (c .pool) id)
+
+pub check-touches : (id : ℕ) (c : Client) → Valid (c .pool) → touches (Event.storeCheck id) c (next (Event.storeCheck id) c .pool .roster) (turnOf (Event.storeCheck id) c .effect) ≡ true
+unfolding joinCreate createDone joinAssemble assembleDone enable enableDone maintenance maintenanceDone linkDown downDone storeCheck checkDone tryRun remove removeTurn writeEnded writeDone writeTurn synced syncDone syncedTurn answer answerTurn
+check-touches id c v = turn-of Kept (checkRefusal (c .pool) id) _ (c .pool) refl (λ e. either Kept (c .pool .roster .sync) _ _ refl refl)
+
+pub try-touches : (c : Client) → Valid (c .pool) → touches Event.tryRun c (next Event.tryRun c .pool .roster) (turnOf Event.tryRun c .effect) ≡ true
+unfolding joinCreate createDone joinAssemble assembleDone enable enableDone maintenance maintenanceDone linkDown downDone storeCheck checkDone tryRun remove removeTurn writeEnded writeDone writeTurn synced syncDone syncedTurn answer answerTurn
+try-touches c v = turn-of Kept (tryRefusal (c .pool)) _ (c .pool) refl (λ e. refl)
+
+pub remove-touches : (xs : List ℕ) (id : ℕ) (mode : Mode) (c : Client) → Valid (c .pool) → touches (Event.remove xs id mode) c (next (Event.remove xs id mode) c .pool .roster) (turnOf (Event.remove xs id mode) c .effect) ≡ true
+unfolding joinCreate createDone joinAssemble assembleDone enable enableDone maintenance maintenanceDone linkDown downDone storeCheck checkDone tryRun remove removeTurn writeEnded writeDone writeTurn synced syncDone syncedTurn answer answerTurn
+remove-touches xs id mode c v =
+    turn-of (λ t. removalTouches id (isDelete mode) (t .pool .roster) (t .effect) ≡ true) (removeRefusal (c .pool) (soundFor (c .pool) xs) id mode) _ (c .pool) refl
+    (λ e. begun-touch (c .pool) id mode (v .ok .long) (remove-passed (c .pool) (soundFor (c .pool) xs) id mode e .below))
+
+pub write-touches : (xs : List ℕ) (chunk reached : ℕ) (c : Client) → Valid (c .pool) → touches (Event.write xs chunk reached) c (next (Event.write xs chunk reached) c .pool .roster) (turnOf (Event.write xs chunk reached) c .effect) ≡ true
+unfolding joinCreate createDone joinAssemble assembleDone enable enableDone maintenance maintenanceDone linkDown downDone storeCheck checkDone tryRun remove removeTurn writeEnded writeDone writeTurn synced syncDone syncedTurn answer answerTurn
+write-touches xs chunk reached c v =
+    turn-of (WriteTouch xs chunk reached c) (writeRefusal (c .pool) (soundFor (c .pool) xs) chunk reached) _ (c .pool) refl
     (λ e. marks-touch xs chunk reached c (c .pool) _)
-event-touches (Event.synced xs member chunk) c v = turned Kept (syncRefusal (c .pool) (soundFor c xs) member chunk (cleanTo xs chunk 16)) _ (c .pool) refl (λ e. refl)
-event-touches (Event.answer xs number a) c v =
-    turned (λ t. answerTouches (c .pool .job) c (t .pool .roster) (t .effect) ≡ true) (answerRefusal (c .pool) (soundFor c xs) number) _ (c .pool) (refused-job (c .pool .job) c (c .pool .roster))
+
+pub synced-touches : (xs : List ℕ) (member chunk : ℕ) (c : Client) → Valid (c .pool) → touches (Event.synced xs member chunk) c (next (Event.synced xs member chunk) c .pool .roster) (turnOf (Event.synced xs member chunk) c .effect) ≡ true
+unfolding joinCreate createDone joinAssemble assembleDone enable enableDone maintenance maintenanceDone linkDown downDone storeCheck checkDone tryRun remove removeTurn writeEnded writeDone writeTurn synced syncDone syncedTurn answer answerTurn
+synced-touches xs member chunk c v = turn-of Kept (syncRefusal (c .pool) (soundFor (c .pool) xs) member chunk (cleanTo xs chunk 16)) _ (c .pool) refl (λ e. refl)
+
+pub answer-touches : (xs : List ℕ) (number : ℕ) (a : Reply) (c : Client) → Valid (c .pool) → touches (Event.answer xs number a) c (next (Event.answer xs number a) c .pool .roster) (turnOf (Event.answer xs number a) c .effect) ≡ true
+unfolding joinCreate createDone joinAssemble assembleDone enable enableDone maintenance maintenanceDone linkDown downDone storeCheck checkDone tryRun remove removeTurn writeEnded writeDone writeTurn synced syncDone syncedTurn answer answerTurn
+answer-touches xs number a c v =
+    turn-of (λ t. answerTouches (c .pool .job) c (t .pool .roster) (t .effect) ≡ true) (answerRefusal (c .pool) (soundFor (c .pool) xs) number) _ (c .pool) (refused-job (c .pool .job) c (c .pool .roster))
     (λ e. job-touch (c .pool .job) c a v (v .job))

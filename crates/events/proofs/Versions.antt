@@ -1,57 +1,56 @@
 -- The pool's kind never changes; its version rises by one for each session that fell from NORMAL to FAILED, and at join assemble becomes the larger one.
-use mathlib.Core.Path.{_≡_, refl, sym, ap, _∙_}
+use mathlib.Core.Path.{_≡_, refl, ap, _∙_, sym}
 use mathlib.Core.Logic.{_≢_}
 use mathlib.Core.Bool.{Bool, true, false, not, _&&_}
 use mathlib.Core.List.{List}
-use Prim.Native.Nat.{ℕ, zero, suc, _+_, _≤_, _<_}
+use Prim.Native.Nat.{ℕ, _<_, _≤_, zero, suc, _+_}
 use native.Mathlib.Omega.{arith}
-use native.Mathlib.Decide.{ℕ-discrete}
+use Rattle.laws.specs.Tests.{clash, by-cases, and-left, and-false}
 use Rattle.laws.specs.Words.{pick}
-use Rattle.laws.specs.Tests.{by-cases, clash, and-left, and-false}
+use Rattle.sets.proofs.Laws.{countTo-none, countTo-same}
 use Rattle.sets.specs.Sets.{has, countTo}
-use Rattle.sets.proofs.Laws.{countTo-same, countTo-none}
-use Rattle.state.specs.declared.Mode.{Mode}
-use Rattle.state.specs.declared.State.{State}
-use Rattle.state.specs.declared.Session.{Session}
-use Rattle.state.specs.declared.Roster.{Roster}
-use Rattle.state.specs.declared.Stage.{Stage}
+use Rattle.state.specs.Session.{isNormal, isFailed}
 use Rattle.state.specs.declared.Job.{Job}
+use Rattle.state.specs.declared.Mode.{Mode}
 use Rattle.state.specs.declared.Pool.{Pool}
 use Rattle.state.specs.declared.Reply.{Reply}
-use Rattle.state.specs.Session.{isNormal, isFailed}
+use Rattle.state.specs.declared.Roster.{Roster}
+use Rattle.state.specs.declared.Session.{Session}
+use Rattle.state.specs.declared.Stage.{Stage}
+use Rattle.state.specs.declared.State.{State}
 use Rattle.roster.specs.Roster.{sessionAt}
-use Rattle.changes.specs.declared.Way.{Way}
 use Rattle.changes.specs.Changes.{removing}
-use Rattle.run.specs.declared.Who.{Who}
+use Rattle.changes.specs.declared.Way.{Way}
 use Rattle.run.specs.Run.{takes}
+use Rattle.run.specs.declared.Who.{Who}
 use Rattle.recovery.specs.Recovery.{withRoster}
-use Rattle.rules.specs.Rules.{jobOk}
 use Rattle.exits.proofs.Laws.{turned}
+use Rattle.rules.specs.Rules.{jobOk}
 use Rattle.keeps.specs.Ids.{Long}
-use Rattle.keeps.specs.Pools.{Valid, removal-facts}
 use Rattle.keeps.specs.Links.{counted}
-use Rattle.keeps.specs.Records.{entered-numbers, left-numbers, raised}
+use Rattle.keeps.specs.Pools.{Valid, removal-facts}
+use Rattle.keeps.specs.Records.{left-numbers, entered-numbers, raised}
 use Rattle.keeps.specs.Tried.{tried-roster}
-use Rattle.joins.specs.Joins.{createRefusal, createDone, joinCreate, assembleRefusal, assembled, assembleDone, joinAssemble}
 use Rattle.joins.proofs.Kept.{created-numbers, assembled-numbers}
+use Rattle.joins.specs.Joins.{createRefusal, createDone, joinCreate, assembleRefusal, assembled, assembleDone, joinAssemble}
+use Rattle.enables.proofs.Kept.{enable-passed, maintenance-passed, enabled-numbers}
 use Rattle.enables.specs.Enables.{enableRefusal, enable, maintenanceRefusal, maintenanceDone, maintenance}
-use Rattle.enables.proofs.Kept.{enable-passed, enabled-numbers, maintenance-passed}
+use Rattle.links.proofs.Kept.{down-passed, down-roster, dropped-at, dropped-other, normal-dropped, other-dropped, checked-numbers, dropped-sync}
 use Rattle.links.specs.Links.{downRefusal, dropped, downDone, linkDown, checkRefusal, storeCheck, tryRefusal, tryRun}
-use Rattle.links.proofs.Kept.{down-passed, down-roster, dropped-at, dropped-other, normal-dropped, other-dropped, dropped-sync, checked-numbers}
-use Rattle.writes.specs.Writes.{missed, writeRefusal, writeDone, writeEnded}
-use Rattle.writes.proofs.Kept.{misses, Missed, write-passed, write-roster, missed-does, synced-same}
+use Rattle.removal.proofs.Steps.{departed-goes, started-goes, told-goes, paid-long, removing-long, remove-passed, paid-numbers, removing-numbers}
 use Rattle.removal.specs.Removal as removal
 use Rattle.removal.specs.Remove.{removeRefusal, remove}
-use Rattle.removal.proofs.Steps.{departed-goes, started-goes, told-goes, paid-long, paid-numbers, removing-numbers, removing-long, remove-passed}
-use Rattle.answers.specs.Answers.{answerRefusal, enteredBy, reported, answered, answer}
+use Rattle.writes.proofs.Kept.{misses, write-passed, write-roster, missed-does, synced-same, Missed}
+use Rattle.writes.specs.Writes.{missed, writeRefusal, writeEnded, writeDone}
 use Rattle.answers.proofs.Kept.{run-roster}
-use Rattle.client.specs.declared.Client.{Client}
+use Rattle.answers.specs.Answers.{answerRefusal, enteredBy, answered, answer, reported}
 use Rattle.client.specs.Client.{soundFor, removeTurn, writeTurn, answerTurn, syncedTurn, cleanTo}
-use Rattle.events.specs.Events.{Event, next}
-use Rattle.events.specs.Demand2.{stateOf, isSync}
+use Rattle.client.specs.declared.Client.{Client}
+use Rattle.events.specs.Events.{Event, next, stateOf, isSync, raises}
 use Rattle.events.specs.Said.{versionOf, fell}
+use Rattle.events.proofs.Fates.{Fate, state-of, kept-stands}
 use Rattle.events.proofs.States.{normal-not-failed, normal-lives, removing-not-failed}
-use Rattle.events.proofs.Fates.{raises, Fate, state-of, kept-stands, event-fate}
+use native.Mathlib.Decide.{ℕ-discrete}
 
 -- ---- events that do not raise the version
 
@@ -60,7 +59,7 @@ pub record Level (c : Client) (q : Pool) : Type 0 where
   pub kind : q .roster .sync ≡ isSync c
   pub version : q .roster .version ≡ versionOf c
 
-as-was : (c : Client) (q : Pool) → q .roster ≡ c .pool .roster → Level c q
+pub as-was : (c : Client) (q : Pool) → q .roster ≡ c .pool .roster → Level c q
 as-was c q e = record { kind = ap (λ (ro : Roster). ro .sync) e; version = ap (λ (ro : Roster). ro .version) e }
 
 entered-level : (c : Client) (w : Who) (q : Pool) → q .roster ≡ enteredBy w (c .pool .roster) → Level c q
@@ -84,35 +83,49 @@ answered-level (Job.Running r) c a v o =
 answered-level (Job.Removing m) c Reply.Failed v o = record { kind = refl; version = refl }
 answered-level (Job.Removing m) c (Reply.Good b) v o = well-level (m .stage) c (m .id) (v .ok .long) (removal-facts (c .pool .roster) m (v .ok .long) o .below)
 
-remove-level : (c : Client) (xs : List ℕ) (id : ℕ) (mode : Mode) → Valid (c .pool) → Level c (next (Event.remove xs id mode) c .pool)
+pub remove-level : (c : Client) (xs : List ℕ) (id : ℕ) (mode : Mode) → Valid (c .pool) → Level c (next (Event.remove xs id mode) c .pool)
 unfolding remove removeTurn
 remove-level c xs id mode v =
-    turned (Level c) (removeRefusal (c .pool) (soundFor c xs) id mode) _ (c .pool) (as-was c (c .pool) refl)
-    (λ e. let h = remove-passed (c .pool) (soundFor c xs) id mode e in
+    turned (Level c) (removeRefusal (c .pool) (soundFor (c .pool) xs) id mode) _ (c .pool) (as-was c (c .pool) refl)
+    (λ e. let h = remove-passed (c .pool) (soundFor (c .pool) xs) id mode e in
     let g = started-goes (withRoster (c .pool) (removing (c .pool .roster) id mode)) id (removing-long (c .pool .roster) id mode (v .ok .long)) (h .below) .numbers in
     let n = removing-numbers (c .pool .roster) id mode (isSync c) refl in
     record { kind = g .kind ∙ n .kind; version = g .versioned ∙ n .versioned })
 
-event-level : (e : Event) (c : Client) → Valid (c .pool) → raises e ≡ false → Level c (next e c .pool)
+pub create-level : (id : ℕ) (c : Client) → Valid (c .pool) → raises (Event.joinCreate id) ≡ false → Level c (next (Event.joinCreate id) c .pool)
 unfolding joinCreate createDone enable maintenance maintenanceDone storeCheck tryRun syncedTurn answer answerTurn
-event-level (Event.joinCreate id) c v f =
+create-level id c v f =
     turned (Level c) (createRefusal (c .pool) id) _ (c .pool) (as-was c (c .pool) refl) (λ e. let k = created-numbers (c .pool .roster) id in record { kind = k .kind; version = k .versioned })
-event-level (Event.joinAssemble id set version) c v f = clash refl f
-event-level (Event.enable id) c v f =
+
+pub enable-level : (id : ℕ) (c : Client) → Valid (c .pool) → raises (Event.enable id) ≡ false → Level c (next (Event.enable id) c .pool)
+unfolding joinCreate createDone enable maintenance maintenanceDone storeCheck tryRun syncedTurn answer answerTurn
+enable-level id c v f =
     turned (Level c) (enableRefusal (c .pool) id) _ (c .pool) (as-was c (c .pool) refl)
     (λ e. let k = enabled-numbers (c .pool) id (enable-passed (c .pool) id e .plain) in record { kind = k .kind; version = k .versioned })
-event-level (Event.maintenance id) c v f =
+
+pub maintenance-level : (id : ℕ) (c : Client) → Valid (c .pool) → raises (Event.maintenance id) ≡ false → Level c (next (Event.maintenance id) c .pool)
+unfolding joinCreate createDone enable maintenance maintenanceDone storeCheck tryRun syncedTurn answer answerTurn
+maintenance-level id c v f =
     turned (Level c) (maintenanceRefusal (c .pool) id) _ (c .pool) (as-was c (c .pool) refl)
     (λ e. let k = left-numbers (c .pool .roster) id Way.Maintenance false (maintenance-passed (c .pool) id e .plain) in record { kind = k .kind; version = k .versioned })
-event-level (Event.linkDown id) c v f = clash refl f
-event-level (Event.storeCheck id) c v f =
+
+pub check-level : (id : ℕ) (c : Client) → Valid (c .pool) → raises (Event.storeCheck id) ≡ false → Level c (next (Event.storeCheck id) c .pool)
+unfolding joinCreate createDone enable maintenance maintenanceDone storeCheck tryRun syncedTurn answer answerTurn
+check-level id c v f =
     turned (Level c) (checkRefusal (c .pool) id) _ (c .pool) (as-was c (c .pool) refl) (λ e. let k = checked-numbers (c .pool) id in record { kind = k .kind; version = k .versioned })
-event-level Event.tryRun c v f = turned (Level c) (tryRefusal (c .pool)) _ (c .pool) (as-was c (c .pool) refl) (λ e. as-was c _ (tried-roster (c .pool)))
-event-level (Event.remove xs id mode) c v f = remove-level c xs id mode v
-event-level (Event.write xs chunk reached) c v f = clash refl f
-event-level (Event.synced xs member chunk) c v f = as-was c _ (ap (λ (p : Pool). p .roster) (synced-same (c .pool) (soundFor c xs) member chunk (cleanTo xs chunk 16)))
-event-level (Event.answer xs number a) c v f =
-    turned (Level c) (answerRefusal (c .pool) (soundFor c xs) number) _ (c .pool) (as-was c (c .pool) refl) (λ e. answered-level (c .pool .job) c a v (v .job))
+
+pub try-level : (c : Client) → Valid (c .pool) → raises Event.tryRun ≡ false → Level c (next Event.tryRun c .pool)
+unfolding joinCreate createDone enable maintenance maintenanceDone storeCheck tryRun syncedTurn answer answerTurn
+try-level c v f = turned (Level c) (tryRefusal (c .pool)) _ (c .pool) (as-was c (c .pool) refl) (λ e. as-was c _ (tried-roster (c .pool)))
+
+pub synced-level : (xs : List ℕ) (member chunk : ℕ) (c : Client) → Valid (c .pool) → raises (Event.synced xs member chunk) ≡ false → Level c (next (Event.synced xs member chunk) c .pool)
+unfolding joinCreate createDone enable maintenance maintenanceDone storeCheck tryRun syncedTurn answer answerTurn
+synced-level xs member chunk c v f = as-was c _ (ap (λ (p : Pool). p .roster) (synced-same (c .pool) (soundFor (c .pool) xs) member chunk (cleanTo xs chunk 16)))
+
+pub answer-level : (xs : List ℕ) (number : ℕ) (a : Reply) (c : Client) → Valid (c .pool) → raises (Event.answer xs number a) ≡ false → Level c (next (Event.answer xs number a) c .pool)
+unfolding joinCreate createDone enable maintenance maintenanceDone storeCheck tryRun syncedTurn answer answerTurn
+answer-level xs number a c v f =
+    turned (Level c) (answerRefusal (c .pool) (soundFor (c .pool) xs) number) _ (c .pool) (as-was c (c .pool) refl) (λ e. answered-level (c .pool .job) c a v (v .job))
 
 -- ---- nobody falls by them
 
@@ -148,14 +161,14 @@ countTo-one p id (suc n) t f = at (countTo-one p id n t f) (ℕ-discrete n id)
         ((λ l. rw there (omega (arith, d, r .0 (omega (arith, d))))), λ l. rw there (omega (arith, r .1 (omega arith))))
 
 -- the version after an event that leaves the pool q
-abbrev Risen : Client → Pool → Type 0
+abbrev pub Risen : Client → Pool → Type 0
 Risen c q = q .roster .version ≡ versionOf c + pick (isSync c) 0 (countTo (fell c (record { pool = q })) 16)
 
 pick-none : (b : Bool) (n : ℕ) → pick b n n ≡ n
 pick-none true n = refl
 pick-none false n = refl
 
-none-risen : (c : Client) (q : Pool) → q .roster .version ≡ versionOf c → ((j : ℕ) → fell c (record { pool = q }) j ≡ false) → Risen c q
+pub none-risen : (c : Client) (q : Pool) → q .roster .version ≡ versionOf c → ((j : ℕ) → fell c (record { pool = q }) j ≡ false) → Risen c q
 none-risen c q same none =
     let z = countTo-none (fell c (record { pool = q })) 16 (λ j h. none j) in
     same ∙ rw (z, pick-none (isSync c) 0) (omega arith)
@@ -207,45 +220,31 @@ write-risen c reached v plain q same =
         (λ m. rw m (fell-at c (record { pool = q }) j (stateOf c j) (after j _ (d .spares j m)) (normal-not-failed (stateOf c j))))
 
 -- the three events that may raise it
-loud : (e : Event) (c : Client) → Valid (c .pool) → raises e ≡ true
-    → (isSync (next e c) ≡ isSync c) × (versionOf c ≤ versionOf (next e c)) × (((id set version : ℕ) → e ≢ Event.joinAssemble id set version) → Risen c (next e c .pool))
+pub assemble-loud : (id set version : ℕ) (c : Client) → Valid (c .pool) → raises (Event.joinAssemble id set version) ≡ true
+    → (isSync (next (Event.joinAssemble id set version) c) ≡ isSync c) × (versionOf c ≤ versionOf (next (Event.joinAssemble id set version) c)) × (((i s w : ℕ) → (Event.joinAssemble id set version) ≢ Event.joinAssemble i s w) → Risen c (next (Event.joinAssemble id set version) c .pool))
 unfolding joinAssemble assembleDone linkDown downDone writeEnded writeTurn
-loud (Event.joinCreate id) c v f = clash f refl
-loud (Event.joinAssemble id set version) c v f =
+assemble-loud id set version c v f =
     let d = turned (λ q. (q .roster .sync ≡ isSync c) × (versionOf c ≤ q .roster .version)) (assembleRefusal (c .pool) id set version) (assembleDone (c .pool) id set version) (c .pool) (refl, omega arith)
     (λ e. let same = tried-roster (withRoster (c .pool) (assembled (c .pool .roster) id set version)) in
     let n = assembled-numbers (c .pool .roster) id set version in
     (ap (λ (ro : Roster). ro .sync) same ∙ n .kind, omega (arith, ap (λ (ro : Roster). ro .version) same, n .versioned))) in
     (d .0, d .1, λ n. absurd (n id set version refl))
-loud (Event.enable id) c v f = clash f refl
-loud (Event.maintenance id) c v f = clash f refl
-loud (Event.linkDown id) c v f =
+
+pub down-loud : (id : ℕ) (c : Client) → Valid (c .pool) → raises (Event.linkDown id) ≡ true
+    → (isSync (next (Event.linkDown id) c) ≡ isSync c) × (versionOf c ≤ versionOf (next (Event.linkDown id) c)) × (((i s w : ℕ) → (Event.linkDown id) ≢ Event.joinAssemble i s w) → Risen c (next (Event.linkDown id) c .pool))
+unfolding joinAssemble assembleDone linkDown downDone writeEnded writeTurn
+down-loud id c v f =
     let d = turned (λ q. (q .roster .sync ≡ isSync c) × Risen c q) (downRefusal (c .pool) id) (downDone (c .pool) id) (c .pool) (refl, refused-risen c)
     (λ e. let same = down-roster (c .pool .job) (c .pool) id in
     (ap (λ (ro : Roster). ro .sync) same ∙ dropped-sync (c .pool .roster) id, down-risen c id v (down-passed (c .pool) id e .below) (downDone (c .pool) id .pool) same)) in
     (d .0, omega (arith, d .1), λ n. d .1)
-loud (Event.storeCheck id) c v f = clash f refl
-loud Event.tryRun c v f = clash f refl
-loud (Event.remove xs id mode) c v f = clash f refl
-loud (Event.write xs chunk reached) c v f =
-    let d = turned (λ q. (q .roster .sync ≡ isSync c) × Risen c q) (writeRefusal (c .pool) (soundFor c xs) chunk reached) (writeDone (c .pool) chunk reached) (c .pool) (refl, refused-risen c)
+
+pub write-loud : (xs : List ℕ) (chunk reached : ℕ) (c : Client) → Valid (c .pool) → raises (Event.write xs chunk reached) ≡ true
+    → (isSync (next (Event.write xs chunk reached) c) ≡ isSync c) × (versionOf c ≤ versionOf (next (Event.write xs chunk reached) c)) × (((i s w : ℕ) → (Event.write xs chunk reached) ≢ Event.joinAssemble i s w) → Risen c (next (Event.write xs chunk reached) c .pool))
+unfolding joinAssemble assembleDone linkDown downDone writeEnded writeTurn
+write-loud xs chunk reached c v f =
+    let d = turned (λ q. (q .roster .sync ≡ isSync c) × Risen c q) (writeRefusal (c .pool) (soundFor (c .pool) xs) chunk reached) (writeDone (c .pool) chunk reached) (c .pool) (refl, refused-risen c)
     (λ e. let same = write-roster (c .pool) chunk reached in
-    let plain = write-passed (c .pool) (soundFor c xs) chunk reached e .plain in
+    let plain = write-passed (c .pool) (soundFor (c .pool) xs) chunk reached e .plain in
     (ap (λ (ro : Roster). ro .sync) same ∙ (missed-does (c .pool .roster) reached (v .ok) plain .plain ∙ sym plain), write-risen c reached v plain (writeDone (c .pool) chunk reached .pool) same)) in
     (d .0, omega (arith, d .1), λ n. d .1)
-loud (Event.synced xs member chunk) c v f = clash f refl
-loud (Event.answer xs number a) c v f = clash f refl
-
--- ---- every event
-
-pub event-kind : (e : Event) (c : Client) → Valid (c .pool) → isSync (next e c) ≡ isSync c
-event-kind e c v = by-cases (raises e) (λ f. loud e c v f .0) (λ f. event-level e c v f .kind)
-
-pub event-rises : (e : Event) (c : Client) → Valid (c .pool) → ((id set version : ℕ) → e ≢ Event.joinAssemble id set version) → Risen c (next e c .pool)
-event-rises e c v n =
-    by-cases (raises e)
-    (λ f. loud e c v f .2 n)
-    (λ f. none-risen c (next e c .pool) (event-level e c v f .version) (λ j. unfelled c e (next e c) j f (event-fate e c j v)))
-
-pub event-never-falls : (e : Event) (c : Client) → Valid (c .pool) → versionOf c ≤ versionOf (next e c)
-event-never-falls e c v = by-cases (raises e) (λ f. loud e c v f .1) (λ f. omega (arith, event-level e c v f .version))

@@ -1,47 +1,46 @@
 -- What an accepted write does: who fails, what is marked, whom it tells, and which removal it halts.
-use mathlib.Core.Path.{_≡_, refl, sym, ap, _∙_}
+use mathlib.Core.Path.{_≡_, refl, ap, _∙_, sym}
 use mathlib.Core.Logic.{_≢_}
 use mathlib.Core.Bool.{Bool, true, false, not, _&&_}
 use mathlib.Core.List.{List}
-use Prim.Native.Nat.{ℕ, _≤_, _<_}
-use native.Mathlib.Decide.{decLt}
+use Prim.Native.Nat.{ℕ, _<_, _≤_}
 use native.Mathlib.Omega.{arith}
 use lib.Dec.{eqb, ltb}
-use borrow.Author.Tests.{eq-eqb, ne-eqb, ltb-true}
-use Rattle.laws.specs.Words.{pick}
+use borrow.Author.Tests.{eq-eqb, ltb-true, ne-eqb}
 use Rattle.laws.specs.Tests.{by-cases, and-left, and-false}
-use Rattle.sets.specs.Sets.{has}
+use Rattle.laws.specs.Words.{pick}
 use Rattle.sets.proofs.Laws.{has-out}
-use Rattle.state.specs.declared.State.{State}
-use Rattle.state.specs.declared.Session.{Session}
-use Rattle.state.specs.declared.Roster.{Roster}
-use Rattle.state.specs.declared.Stage.{Stage}
-use Rattle.state.specs.declared.Job.{Job}
-use Rattle.state.specs.declared.Pool.{Pool}
-use Rattle.state.specs.declared.Told.{Told}
-use Rattle.state.specs.declared.Outcome.{Outcome}
-use Rattle.state.specs.declared.Effect.{Effect}
-use Rattle.state.specs.declared.Turn.{Turn}
+use Rattle.sets.specs.Sets.{has}
 use Rattle.state.specs.Session.{isNormal, isDeleting}
-use Rattle.roster.specs.declared.Kind.{Kind}
+use Rattle.state.specs.declared.Effect.{Effect}
+use Rattle.state.specs.declared.Job.{Job}
+use Rattle.state.specs.declared.Outcome.{Outcome}
+use Rattle.state.specs.declared.Pool.{Pool}
+use Rattle.state.specs.declared.Roster.{Roster}
+use Rattle.state.specs.declared.Session.{Session}
+use Rattle.state.specs.declared.Stage.{Stage}
+use Rattle.state.specs.declared.State.{State}
+use Rattle.state.specs.declared.Told.{Told}
+use Rattle.state.specs.declared.Turn.{Turn}
 use Rattle.roster.specs.Roster.{sessionAt, idsOf}
-use Rattle.rules.specs.Rules.{stageOk, jobOk}
-use Rattle.rules.specs.Jobs.{peerAt}
+use Rattle.roster.specs.declared.Kind.{Kind}
 use Rattle.recovery.specs.Recovery.{withRoster}
 use Rattle.exits.specs.Exit.{haltedIf}
+use Rattle.rules.specs.Jobs.{peerAt}
+use Rattle.rules.specs.Rules.{jobOk, stageOk}
 use Rattle.keeps.specs.Ids.{ids-has}
 use Rattle.keeps.specs.Pools.{Valid, removal-facts}
 use Rattle.keeps.specs.Records.{normal-below}
-use Rattle.writes.specs.Writes.{missed, loses, marks, writeRefusal, writeDone, writeEnded}
-use Rattle.writes.proofs.Kept.{Writes, write-passed, write-roster, reached-normal, missed-does, marks-pool}
-use Rattle.client.specs.declared.Client.{Client}
+use Rattle.writes.proofs.Kept.{write-passed, write-roster, missed-does, Writes, reached-normal, marks-pool}
+use Rattle.writes.specs.Writes.{missed, writeRefusal, writeEnded, marks, writeDone, loses}
 use Rattle.client.specs.Client.{carried, soundFor, writeTurn}
-use Rattle.events.specs.Events.{Event, outOf, next, isAccepted, Lent}
-use Rattle.events.specs.Demand2.{stateOf}
-use Rattle.events.specs.Said.{membersOf, jobOf, sends, missesPeer, Wrote, Marks, MarksNone}
-use Rattle.events.proofs.States.{normal-is}
+use Rattle.client.specs.declared.Client.{Client}
+use Rattle.events.specs.Events.{Event, isAccepted, Lent, outOf, next, stateOf, jobOf}
+use Rattle.events.specs.Said.{membersOf, sends, missesPeer, Wrote, Marks, MarksNone}
+use Rattle.events.proofs.Every.{event-keeps}
 use Rattle.events.proofs.Shape.{taken}
-use Rattle.events.proofs.Keeps.{event-keeps}
+use Rattle.events.proofs.States.{normal-is}
+use native.Mathlib.Decide.{decLt}
 
 -- ---- sessions and jobs
 
@@ -82,8 +81,8 @@ wrote c chunk reached v w =
 pub write-said : (c : Client) (xs : List ℕ) (chunk reached : ℕ) → Valid (c .pool) → isAccepted (outOf (Event.write xs chunk reached) c .answer) ≡ true → Wrote c reached (next (Event.write xs chunk reached) c)
 unfolding writeEnded writeTurn
 write-said c xs chunk reached v =
-    taken (λ t. Wrote c reached (record { pool = t .pool })) (writeRefusal (c .pool) (soundFor c xs) chunk reached) (writeDone (c .pool) chunk reached) (c .pool)
-    (λ e. wrote c chunk reached v (write-passed (c .pool) (soundFor c xs) chunk reached e))
+    taken (λ t. Wrote c reached (record { pool = t .pool })) (writeRefusal (c .pool) (soundFor (c .pool) xs) chunk reached) (writeDone (c .pool) chunk reached) (c .pool)
+    (λ e. wrote c chunk reached v (write-passed (c .pool) (soundFor (c .pool) xs) chunk reached e))
 
 -- ---- what is marked
 
@@ -105,19 +104,19 @@ unfolding marks
 marks-none before after chunk reached z = rw (eq-eqb reached 0 z) (refl, refl)
 
 module _ (c : Client) (xs : List ℕ) (chunk reached : ℕ) (v : Valid (c .pool)) (d : isAccepted (outOf (Event.write xs chunk reached) c .answer) ≡ true) where
-  write-marks-some : reached ≢ 0 → MarksIn chunk reached (writeTurn c xs chunk reached)
+  write-marks-some : reached ≢ 0 → MarksIn chunk reached (writeTurn (c .pool) xs chunk reached)
   unfolding writeEnded writeTurn writeDone
-  write-marks-some n = taken (MarksIn chunk reached) (writeRefusal (c .pool) (soundFor c xs) chunk reached) (writeDone (c .pool) chunk reached) (c .pool) (λ e. marks-some (c .pool) _ chunk reached n) d
+  write-marks-some n = taken (MarksIn chunk reached) (writeRefusal (c .pool) (soundFor (c .pool) xs) chunk reached) (writeDone (c .pool) chunk reached) (c .pool) (λ e. marks-some (c .pool) _ chunk reached n) d
 
-  write-marks-none : reached ≡ 0 → MarksNobody (writeTurn c xs chunk reached)
+  write-marks-none : reached ≡ 0 → MarksNobody (writeTurn (c .pool) xs chunk reached)
   unfolding writeEnded writeTurn writeDone
-  write-marks-none z = taken MarksNobody (writeRefusal (c .pool) (soundFor c xs) chunk reached) (writeDone (c .pool) chunk reached) (c .pool) (λ e. marks-none (c .pool) _ chunk reached z) d
+  write-marks-none z = taken MarksNobody (writeRefusal (c .pool) (soundFor (c .pool) xs) chunk reached) (writeDone (c .pool) chunk reached) (c .pool) (λ e. marks-none (c .pool) _ chunk reached z) d
 
   reached-all : (id : ℕ) → has reached id ≡ true → isNormal (stateOf c id) ≡ true
   unfolding writeEnded writeTurn
   reached-all =
-      taken (λ t. (id : ℕ) → has reached id ≡ true → isNormal (stateOf c id) ≡ true) (writeRefusal (c .pool) (soundFor c xs) chunk reached) (writeDone (c .pool) chunk reached) (c .pool)
-      (λ e. reached-normal (c .pool .roster) reached (v .ok .long) (write-passed (c .pool) (soundFor c xs) chunk reached e .reaches)) d
+      taken (λ t. (id : ℕ) → has reached id ≡ true → isNormal (stateOf c id) ≡ true) (writeRefusal (c .pool) (soundFor (c .pool) xs) chunk reached) (writeDone (c .pool) chunk reached) (c .pool)
+      (λ e. reached-normal (c .pool .roster) reached (v .ok .long) (write-passed (c .pool) (soundFor (c .pool) xs) chunk reached e .reaches)) d
 
 -- the mark list, id by id
 listed-is : (c : Client) (id : ℕ) → Valid (c .pool) → has (idsOf Kind.Listed (c .pool .roster)) id ≡ (has (membersOf c) id && (not (isNormal (stateOf c id)) && not (isDeleting (stateOf c id))))

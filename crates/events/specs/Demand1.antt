@@ -7,8 +7,7 @@ use Rattle.state.specs.declared.Sent.{Sent}
 use Rattle.state.specs.declared.Answer.{Answer}
 use Rattle.state.specs.declared.Effect.{Effect}
 use Rattle.client.specs.declared.Client.{Client}
-use Rattle.events.specs.Events.{Event, turnOf, outOf, next, lentTo, mapLeft}
-use Rattle.events.specs.Tests.{testsOf}
+use Rattle.events.specs.Events.{Event, turnOf, outOf, next, lentTo, mapLeft, testsOf}
 
 -- A refusal's number is the first that applies; client and lent map are as they were. An answer Refused carries no message.
 pub record Refuses (e : Event) (c : Client) (n : ℕ) : Type 0 where

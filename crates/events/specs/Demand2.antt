@@ -1,33 +1,22 @@
 -- Demand 2 for the client: the states that can be reached, and what holds of them and of every event there.
 use mathlib.Core.Path.{_≡_}
 use mathlib.Core.Logic.{_≢_}
-use mathlib.Core.Bool.{Bool, true, false, _&&_, not}
+use mathlib.Core.Bool.{Bool, true, false}
 use mathlib.Core.List.{List}
 use Prim.Native.Nat.{ℕ, _≤_}
-use lib.Dec.{eqb}
 use Rattle.laws.specs.Words.{pick}
 use Rattle.refusals.specs.Limits.{chunkLimit}
-use Rattle.sets.specs.Sets.{has}
 use Rattle.maps.specs.Map.{sound}
 use Rattle.state.specs.declared.Mode.{Mode}
 use Rattle.state.specs.declared.State.{State}
-use Rattle.state.specs.declared.Session.{Session}
-use Rattle.state.specs.declared.Job.{Job}
-use Rattle.state.specs.declared.Roster.{Roster}
 use Rattle.state.specs.declared.Answer.{Answer}
-use Rattle.state.specs.declared.Effect.{Effect}
-use Rattle.state.specs.declared.Reply.{Reply}
-use Rattle.state.specs.Session.{isNormal, isRemoving, isDelete, isDeleting}
+use Rattle.state.specs.Session.{isNormal, isRemoving}
 use Rattle.state.specs.Table.{legal}
-use Rattle.roster.specs.declared.Kind.{Kind}
-use Rattle.roster.specs.Roster.{sessionAt, idsOf}
 use Rattle.changes.specs.Changes.{unmarked}
-use Rattle.run.specs.declared.Who.{Who}
-use Rattle.run.specs.Run.{takes}
 use Rattle.rules.specs.Rules.{validPool}
 use Rattle.client.specs.declared.Client.{Client}
 use Rattle.client.specs.Client.{fresh}
-use Rattle.events.specs.Events.{Event, turnOf, outOf, next, Lent, lentTo, mapLeft}
+use Rattle.events.specs.Events.{Event, turnOf, outOf, next, Lent, lentTo, mapLeft, recordOf, stateOf, isSync, concerns, touches}
 
 -- A client is reached if it is a fresh one of a pool of 1 to 4,096 chunks, sync or not, or what an event handed back at a reached one: any event, with any
 -- data and any lent bytes, accepted or refused.
@@ -42,17 +31,6 @@ RulesKept = (c : Client) → Reached c → validPool (c .pool) ≡ true
 -- So refusal 1 is never given there.
 abbrev pub NeverOne : Type 0
 NeverOne = (c : Client) → Reached c → (e : Event) (n : ℕ) → outOf e c .answer ≡ Answer.Refused n → n ≢ 1
-
--- the record of an id's session, and its state
-abbrev pub recordOf : Client → ℕ → Session
-recordOf c id = sessionAt (c .pool .roster) id
-
-abbrev pub stateOf : Client → ℕ → State
-stateOf c id = recordOf c id .state
-
--- the pool's kind
-abbrev pub isSync : Client → Bool
-isSync c = c .pool .roster .sync
 
 -- What one event may make of the state of id's session: it stays; it goes along source document 001's table; it begins, at join create CREATED (in a sync pool
 -- NORMAL), at join assemble CREATED, then RECONNECTING; while it is REMOVING its LEAVE_POOL is done, or it is freed; and remove, of its own id, may take it to
@@ -74,31 +52,6 @@ ByTheTable = (c : Client) → Reached c → (e : Event) → ((id : ℕ) → Chan
 abbrev pub VersionNeverFalls : Type 0
 VersionNeverFalls = (c : Client) → Reached c → (e : Event) → c .pool .roster .version ≤ next e c .pool .roster .version
 
--- the one that an answer makes NORMAL
-abbrev pub isOne : Who → ℕ → Bool
-isOne Who.Nobody j = false
-isOne (Who.One id) j = eqb j id
-
--- the session that an answer is about: in a run the one that it makes NORMAL, if any; in a removal the one that is removed
-abbrev pub answerConcerns : Job → Client → Reply → ℕ → Bool
-answerConcerns Job.Idle c a j = false
-answerConcerns (Job.Running r) c a j = isOne (takes (c .pool .roster .members) (c .pool .roster .version) r a .normal) j
-answerConcerns (Job.Removing d) c a j = eqb j (d .id)
-
--- the sessions that an event is about: its id's; at a write the NORMAL ones not reached; at try and synced none
-abbrev pub concerns : Event → Client → ℕ → Bool
-concerns (Event.joinCreate id) c j = eqb j id
-concerns (Event.joinAssemble id set version) c j = eqb j id
-concerns (Event.enable id) c j = eqb j id
-concerns (Event.maintenance id) c j = eqb j id
-concerns (Event.linkDown id) c j = eqb j id
-concerns (Event.storeCheck id) c j = eqb j id
-concerns Event.tryRun c j = false
-concerns (Event.remove xs id mode) c j = eqb j id
-concerns (Event.write xs chunk reached) c j = isNormal (stateOf c j) && not (has reached j)
-concerns (Event.synced xs member chunk) c j = false
-concerns (Event.answer xs number a) c j = answerConcerns (c .pool .job) c a j
-
 -- In an event from c to c′ some session entered NORMAL.
 pub record Entered (c c′ : Client) : Type 0 where
   pub who : ℕ
@@ -113,48 +66,6 @@ pub data Kept (c c′ : Client) (id : ℕ) : Type 0 where
 -- Every other session's record is kept so.
 abbrev pub OthersStay : Type 0
 OthersStay = (c : Client) → Reached c → (e : Event) (id : ℕ) → concerns e c id ≡ false → Kept c (next e c) id
-
--- no session is left
-abbrev pub nobodyLeft : Roster → Bool
-nobodyLeft ro = eqb (idsOf Kind.Present ro) 0
-
--- nothing is done to the map
-abbrev pub keeps : Effect → Bool
-keeps Effect.Keep = true
-keeps (Effect.Mark s k) = false
-keeps (Effect.ZeroRow m) = false
-keeps Effect.ZeroAll = false
-
--- What the removal of an id may do to the client map, `deletes` being its mode: zero the row of the member, or all once no session is left.
-abbrev pub removalTouches : ℕ → Bool → Roster → Effect → Bool
-removalTouches id deletes after Effect.Keep = true
-removalTouches id deletes after (Effect.Mark s k) = false
-removalTouches id deletes after (Effect.ZeroRow m) = eqb m id && deletes
-removalTouches id deletes after Effect.ZeroAll = nobodyLeft after
-
--- what an answer may do to it
-abbrev pub answerTouches : Job → Client → Roster → Effect → Bool
-answerTouches Job.Idle c after ef = keeps ef
-answerTouches (Job.Running r) c after ef = keeps ef
-answerTouches (Job.Removing d) c after ef = removalTouches (d .id) (isDeleting (stateOf c (d .id))) after ef
-
--- What an event may do to the map that is lent to it, `after` being the sessions that it leaves: a write marks its chunk for the mark list, remove with delete
--- zeroes the member's row, at once or after its LEAVE_POOL is answered, and once no session is left all is zeroed; every other event does nothing.
-abbrev pub touches : Event → Client → Roster → Effect → Bool
-touches (Event.write xs chunk reached) c after Effect.Keep = true
-touches (Event.write xs chunk reached) c after (Effect.Mark s k) = eqb k chunk && eqb s (idsOf Kind.Listed after)
-touches (Event.write xs chunk reached) c after (Effect.ZeroRow m) = false
-touches (Event.write xs chunk reached) c after Effect.ZeroAll = false
-touches (Event.remove xs id mode) c after ef = removalTouches id (isDelete mode) after ef
-touches (Event.answer xs number a) c after ef = answerTouches (c .pool .job) c after ef
-touches (Event.joinCreate id) c after ef = keeps ef
-touches (Event.joinAssemble id set version) c after ef = keeps ef
-touches (Event.enable id) c after ef = keeps ef
-touches (Event.maintenance id) c after ef = keeps ef
-touches (Event.linkDown id) c after ef = keeps ef
-touches (Event.storeCheck id) c after ef = keeps ef
-touches Event.tryRun c after ef = keeps ef
-touches (Event.synced xs member chunk) c after ef = keeps ef
 
 -- Of every event at a reached client.
 abbrev pub MapOnly : Type 0

@@ -1,5 +1,4 @@
 pub mod Events
-pub mod Tests
 pub mod Demand1
 pub mod Demand2
 pub mod Said

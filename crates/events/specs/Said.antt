@@ -28,8 +28,8 @@ use Rattle.run.specs.Run.{awaitedIn}
 use Rattle.recovery.specs.Cases.{begun}
 use Rattle.rules.specs.Jobs.{peerAt}
 use Rattle.client.specs.declared.Client.{Client}
-use Rattle.events.specs.Events.{Event, outOf, next, isAccepted, Lent, mapLeft}
-use Rattle.events.specs.Demand2.{Reached, recordOf, stateOf, isSync, nobodyLeft}
+use Rattle.events.specs.Events.{Event, outOf, next, isAccepted, Lent, mapLeft, recordOf, stateOf, isSync, nobodyLeft, jobOf, Part, partOf}
+use Rattle.events.specs.Demand2.{Reached}
 
 -- ---- words
 
@@ -46,9 +46,6 @@ versionOf c = c .pool .roster .version
 
 abbrev pub membersOf : Client → ℕ
 membersOf c = c .pool .roster .members
-
-abbrev pub jobOf : Client → Job
-jobOf c = c .pool .job
 
 -- the last authoritative mark and the maintenance flag of a session, and the states that bear them
 abbrev pub markOf : Client → ℕ → Bool
@@ -212,30 +209,6 @@ abbrev pub LinkDown : Type 0
 LinkDown = (c : Client) (id : ℕ) → Accepts c (Event.linkDown id) → Dropped c id (Event.linkDown id)
 
 -- ---- removal
-
--- An event's part in a removal: remove, of an id in a mode; an answer, while a removal is in hand; none.
-pub data Part : Type 0 where
-  none : Part
-  remove : ℕ → Mode → Part
-  answer : Removal → Reply → Part
-
-abbrev pub answerPart : Job → Reply → Part
-answerPart Job.Idle a = Part.none
-answerPart (Job.Running r) a = Part.none
-answerPart (Job.Removing m) a = Part.answer m a
-
-abbrev pub partOf : Event → Client → Part
-partOf (Event.joinCreate id) c = Part.none
-partOf (Event.joinAssemble id set version) c = Part.none
-partOf (Event.enable id) c = Part.none
-partOf (Event.maintenance id) c = Part.none
-partOf (Event.linkDown id) c = Part.none
-partOf (Event.storeCheck id) c = Part.none
-partOf Event.tryRun c = Part.none
-partOf (Event.remove xs id mode) c = Part.remove id mode
-partOf (Event.write xs chunk reached) c = Part.none
-partOf (Event.synced xs member chunk) c = Part.none
-partOf (Event.answer xs number a) c = answerPart (jobOf c) a
 
 abbrev pub isGood : Reply → Bool
 isGood Reply.Failed = false

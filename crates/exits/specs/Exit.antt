@@ -11,7 +11,7 @@ use Rattle.state.specs.declared.Answer.{Answer}
 use Rattle.state.specs.declared.Effect.{Effect}
 use Rattle.state.specs.declared.Turn.{Turn}
 use Rattle.state.specs.Session.{isNothing}
-use Rattle.recovery.specs.Recovery.{withRoster, jobEnded, tried}
+use Rattle.recovery.specs.Recovery.{withRoster, removalEnded, tried}
 
 -- A refusal leaves the state and the client map as they were, with no message.
 abbrev pub refused : Pool → ℕ → Turn
@@ -41,4 +41,4 @@ triedAfter before after outcome told = accepted before (tried after .pool) outco
 
 -- A removal whose awaited peer is lost halts: no job is in hand. What is owed stands in the session.
 abbrev pub haltedIf : Bool → Pool → Pool
-haltedIf lost p = pick lost (jobEnded p) p
+haltedIf lost p = pick lost (removalEnded p) p

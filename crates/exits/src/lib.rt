@@ -82,7 +82,7 @@ pub fn halt_if(lost: bool, p: Pool) -> Pool
     ensures { λ r. ⌜ r ≡ haltedIf lost p ⌝ }
 {
     if lost {
-        return recovery::end_job(p);
+        return recovery::end_removal(p);
     }
     p
 }

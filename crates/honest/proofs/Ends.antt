@@ -26,7 +26,6 @@ use Rattle.answers.specs.Answers.{answer}
 use Rattle.answers.proofs.Kept.{answer-keeps}
 use Rattle.keeps.specs.Pools as pools
 use Rattle.keeps.specs.Tried.{tried-keeps}
-use Rattle.nodestate.specs.declared.State as node
 use Rattle.world.specs.Station.{Station}
 use Rattle.world.specs.World.{World, exchanges}
 use Rattle.honest.specs.Demand.{Begins, Up, Copied, Recovered}

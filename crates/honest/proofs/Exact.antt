@@ -4,6 +4,7 @@ use mathlib.Core.Bool.{Bool, true, false}
 use Prim.Native.Nat.{ℕ, zero, suc, _+_, _-_, _≤_, _<_}
 use native.Mathlib.Omega.{arith}
 use lib.Dec.{eqb, ltb}
+use Rattle.laws.specs.Tests.{either}
 use Rattle.laws.specs.Words.{pick}
 use Rattle.sets.specs.Sets.{without}
 use Rattle.state.specs.declared.Step.{Step}
@@ -22,25 +23,21 @@ use Rattle.honest.proofs.Course.{Course, course, step, steps, steps-add
 
 -- ---- one answer raises the count by at most one
 
-either : (t : ℕ) (b : Bool) (x y : Next) → Carries t x → Carries t y → Carries t (pick b x y)
-either t true x y p q = p
-either t false x y p q = q
-
 module _ (m : ℕ) (r : Run) where
   spread-carries : (l : ℕ) → Carries (counted (r .taken)) (toSpread r l)
-  spread-carries l = either _ (eqb l 0) _ _ tt refl
+  spread-carries l = either (Carries _) (eqb l 0) _ _ tt refl
 
   gather-carries : (s l : ℕ) → Carries (counted (r .taken)) (toGather m r s l)
-  gather-carries s l = either _ (eqb l 0) _ _ refl refl
+  gather-carries s l = either (Carries _) (eqb l 0) _ _ refl refl
 
   last-carries : (s l : ℕ) → Carries (counted (r .taken)) (toLast m r s l)
-  last-carries s l = either _ (eqb l 0) _ _ (gather-carries s (without m s)) refl
+  last-carries s l = either (Carries _) (eqb l 0) _ _ (gather-carries s (without m s)) refl
 
   base-carries : (s l : ℕ) → Carries (counted (r .taken)) (toBase m r s l)
-  base-carries s l = either _ (eqb l 0) _ _ (last-carries s m) refl
+  base-carries s l = either (Carries _) (eqb l 0) _ _ (last-carries s m) refl
 
   versions-carries : (b s l : ℕ) → Carries (counted (r .taken)) (toVersions m r b s l)
-  versions-carries b s l = either _ (eqb l 0) _ _ (base-carries s (without m s)) refl
+  versions-carries b s l = either (Carries _) (eqb l 0) _ _ (base-carries s (without m s)) refl
 
 -- an answer was taken: the count is raised, and a run that goes on carries it
 record Raised (r : Run) (o : Move) : Type 0 where

@@ -1,26 +1,20 @@
 -- The client's events follow the course of a run: no answer of an honest run is refused.
 use mathlib.Core.Path.{_≡_, refl, sym, ap, _∙_}
-use mathlib.Core.Bool.{Bool, true, false}
+use mathlib.Core.Bool.{Bool, true}
 use mathlib.Core.List.{List}
 use Prim.Native.Nat.{ℕ, zero, suc, _<_}
 use borrow.Author.Tests.{eq-eqb}
-use Rattle.laws.specs.Words.{pick}
 use Rattle.maps.specs.Map.{sound}
 use Rattle.state.specs.declared.Step.{Step}
 use Rattle.state.specs.declared.Phase.{Phase}
 use Rattle.state.specs.declared.Run.{Run}
 use Rattle.state.specs.declared.Roster.{Roster}
-use Rattle.state.specs.declared.Session.{Session}
-use Rattle.state.specs.declared.State.{State}
 use Rattle.state.specs.declared.Job.{Job}
 use Rattle.state.specs.declared.Pool.{Pool}
 use Rattle.state.specs.declared.Message.{Message}
 use Rattle.state.specs.declared.Told.{Told}
 use Rattle.state.specs.declared.Outcome.{Outcome}
 use Rattle.state.specs.declared.Reply.{Reply}
-use Rattle.state.specs.Session.{moved}
-use Rattle.roster.specs.Roster.{sessionAt, stored}
-use Rattle.changes.specs.Changes.{allUnmarked, numbered, more, entered}
 use Rattle.run.specs.declared.Who.{Who}
 use Rattle.run.specs.declared.Next.{Next}
 use Rattle.run.specs.declared.Move.{Move}
@@ -33,6 +27,7 @@ use Rattle.client.specs.Client.{answerTurn}
 use Rattle.keeps.specs.Ids.{Long}
 use Rattle.world.specs.Station.{Station}
 use Rattle.world.specs.World.{World, Delivered, deliver, tell, heard, exchange, exchanges}
+use Rattle.keeps.specs.Runs.{entered-members, entered-version}
 use Rattle.honest.proofs.Course.{Course, course, step, steps}
 
 -- ---- a world that follows a course
@@ -112,28 +107,6 @@ unfolding exchange answerTurn answers.answer answers.answerRefusal
 exchange-over num chunks map out told ro f valid snd = rw (valid, snd)
 
 -- ---- entering NORMAL changes neither membership nor version
-
-entered-members : (ro : Roster) (x : ℕ) → entered ro x .members ≡ ro .members
-unfolding entered
-entered-members ro x = go (ro .sync)
-  where
-    s : Session
-    s = moved (sessionAt ro x) State.Normal
-
-    go : (b : Bool) → pick b (stored ro x s) (numbered (stored (allUnmarked ro) x s) (more (ro .count)) (ro .version)) .members ≡ ro .members
-    go true = refl
-    go false = refl
-
-entered-version : (ro : Roster) (x : ℕ) → entered ro x .version ≡ ro .version
-unfolding entered
-entered-version ro x = go (ro .sync)
-  where
-    s : Session
-    s = moved (sessionAt ro x) State.Normal
-
-    go : (b : Bool) → pick b (stored ro x s) (numbered (stored (allUnmarked ro) x s) (more (ro .count)) (ro .version)) .version ≡ ro .version
-    go true = refl
-    go false = refl
 
 by-members : (w : Who) (ro : Roster) → answers.enteredBy w ro .members ≡ ro .members
 by-members Who.Nobody ro = refl

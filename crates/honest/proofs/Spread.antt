@@ -3,7 +3,7 @@ use mathlib.Core.Path.{_≡_, refl, sym, ap, _∙_}
 use mathlib.Core.Bool.{Bool, true, false}
 use mathlib.Core.Logic.{_≢_}
 use mathlib.Core.List.{List}
-use Prim.Native.Nat.{ℕ, _+_, _*_, _-_, _≤_, _<_}
+use Prim.Native.Nat.{ℕ, _+_, _*_, _≤_, _<_}
 use native.Mathlib.Omega.{arith}
 use native.Mathlib.Decide.{ℕ-discrete}
 use Rattle.laws.specs.Words.{pick}
@@ -22,7 +22,7 @@ use Rattle.roster.specs.Roster.{sessionAt, stored}
 use Rattle.changes.specs.Changes.{allUnmarked, numbered, more, entered}
 use Rattle.run.specs.declared.Next.{Next}
 use Rattle.keeps.specs.Ids.{Long, stored-long, stored-same, stored-other, unmarked-long, unmarked-at}
-use Rattle.nodehand.specs.Hand.{mapTaken, committed}
+use Rattle.nodehand.specs.Hand.{committed}
 use Rattle.world.specs.Station.{Station}
 use Rattle.world.specs.World.{upd}
 use Rattle.honest.proofs.Ground.{upd-same, upd-other, not-in, out-still, by-left, one-fewer}

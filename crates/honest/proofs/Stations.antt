@@ -9,7 +9,7 @@ use lib.ListN.{getD}
 use borrow.Author.Tests.{le-ltb}
 use Rattle.laws.specs.Words.{pick}
 use Rattle.laws.specs.Loops.{runAt}
-use Rattle.laws.specs.Tests.{clash, and-left, and-right, and-both}
+use Rattle.laws.specs.Tests.{clash, and-left, and-right, and-both, picked}
 use Rattle.refusals.specs.Limits.{versionLimit, versionTop}
 use Rattle.sets.specs.Sets.{has, without}
 use Rattle.chunks.specs.Chunk.{markedFor, dirty}
@@ -201,20 +201,16 @@ run-keeps : (P : List ℕ → Type 0) (f : ℕ → List ℕ → List ℕ) (n i :
 run-keeps P f zero i xs h p = p
 run-keeps P f (suc n) i xs h p = run-keeps P f n (suc i) (f i xs) (λ k ys l q. h k ys (omega arith) q) (h i xs (omega arith) p)
 
-either : (P : List ℕ → Type 0) (b : Bool) (xs ys : List ℕ) → (b ≡ true → P xs) → (b ≡ false → P ys) → P (pick b xs ys)
-either P true xs ys p q = p refl
-either P false xs ys p q = q refl
-
 sound-one : (c members chosen chunk : ℕ) (xs : List ℕ) → chunk < c → Sound c xs → Sound c (lastIo members chosen chunk xs)
 unfolding lastIo
 sound-one c members chosen chunk xs h p =
-    either (Sound c) (eqb (dirty xs chosen chunk) 1) xs (markedFor xs (without members chosen) chunk)
+    picked (Sound c) (eqb (dirty xs chosen chunk) 1) xs (markedFor xs (without members chosen) chunk)
     (λ e. p) (λ e. sound-markedFor c (without members chosen) chunk xs p h)
 
 pub sound-place : (c j chosen : ℕ) (n : Node) (i : ℕ) (xs : List ℕ) → Core c j n → i < 16 → Sound c xs → Sound c (lastIoAt n chosen i xs)
 unfolding lastIoAt
 sound-place c j chosen n i xs k h p =
-    either (Sound c) (isKept n i) (lastIo (n .members) chosen (getD (n .kept) i 0) xs) xs
+    picked (Sound c) (isKept n i) (lastIo (n .members) chosen (getD (n .kept) i 0) xs) xs
     (λ e. sound-one c (n .members) chosen (getD (n .kept) i 0) xs (rw (k .chunks) at (kept-below n (k .keeps) i h e)) p) (λ e. p)
 
 sound-last : (c j chosen : ℕ) (n : Node) (xs : List ℕ) → Core c j n → Sound c xs → Sound c (lastIos n chosen xs)
@@ -235,7 +231,7 @@ own-id c j n k = rw (k .id) (le-ltb 15 j (let b = k .below in omega arith))
 serves : (c j : ℕ) (n : Node) → Core c j n → isServing n ≡ true
 serves c j n k = and-both (k .joined) (k .store)
 
-can-serve : (c j : ℕ) (s : Station) → Fine c j s → serveRefusal (s .node) (bothSound s) ≡ 0
+can-serve : (c j : ℕ) (s : Station) → Fine c j s → serveRefusal (s .node) (pick (not (bothSound s)) 2 0) ≡ 0
 unfolding serveRefusal
 can-serve c j s f = rw (f .rules, both c j s f, own-id c j (s .node) (f .core), serves c j (s .node) (f .core))
 

@@ -7,7 +7,7 @@ use native.Mathlib.Omega.{arith}
 use lib.Dec.{eqb, ltb}
 use borrow.Author.Tests.{eqb-true, ltb-false, not-false}
 use Rattle.laws.specs.Words.{pick}
-use Rattle.laws.specs.Tests.{clash, passed}
+use Rattle.laws.specs.Tests.{clash, passed, picked}
 use Rattle.refusals.specs.Limits.{versionLimit}
 use Rattle.sets.specs.Sets.{has, with}
 use Rattle.sets.proofs.Laws.{has-with-same}
@@ -31,11 +31,6 @@ use Rattle.keeps.specs.Tried.{idle-valid, tried-keeps}
 use Rattle.keeps.specs.Records.{Numbers}
 use Rattle.joins.specs.Joins.{createRefusal, created, createDone, joinCreate, setBars, assembleRefusal, assembled, assembleDone, joinAssemble}
 
--- one roster or the other
-chosen : (P : Roster → Type 0) (b : Bool) (x y : Roster) → (b ≡ true → P x) → (b ≡ false → P y) → P (pick b x y)
-chosen P true x y f g = f refl
-chosen P false x y f g = g refl
-
 -- ---- join, create
 
 pub record Creates (p : Pool) (id : ℕ) : Type 0 where
@@ -55,7 +50,7 @@ create-passed p id e =
 created-keeps : (p : Pool) (id : ℕ) → Valid p → Creates p id → Ok (created (p .roster) id)
 unfolding created
 created-keeps p id v h =
-    chosen Ok (p .roster .sync) (enrolled (p .roster) id State.Normal) (memberEntered (enrolled (p .roster) id State.Created) id)
+    picked Ok (p .roster .sync) (enrolled (p .roster) id State.Normal) (memberEntered (enrolled (p .roster) id State.Created) id)
     (λ e. sync-begun (p .roster) id (v .ok) (h .below) e)
     (λ e. begun-keeps (memberEntered (p .roster) id) id State.Created (entered-keeps (p .roster) id (v .ok) e (h .below)) (h .below) e (h .none) refl (has-with-same (p .roster .members) id (h .below)))
 
@@ -69,21 +64,21 @@ create-keeps p id v =
 pub created-at : (ro : Roster) (id : ℕ) → Long ro → id < 16 → sessionAt (created ro id) id ≡ newSession (pick (ro .sync) State.Normal State.Created)
 unfolding created
 created-at ro id l h =
-    chosen (λ x. sessionAt x id ≡ newSession (pick (ro .sync) State.Normal State.Created)) (ro .sync) (enrolled ro id State.Normal) (memberEntered (enrolled ro id State.Created) id)
+    picked (λ x. sessionAt x id ≡ newSession (pick (ro .sync) State.Normal State.Created)) (ro .sync) (enrolled ro id State.Normal) (memberEntered (enrolled ro id State.Created) id)
     (λ e. rw e (stored-same ro id (newSession State.Normal) l h))
     (λ e. rw e (stored-same ro id (newSession State.Created) l h))
 
 pub created-other : (ro : Roster) (id j : ℕ) → j ≢ id → sessionAt (created ro id) j ≡ sessionAt ro j
 unfolding created
 created-other ro id j ne =
-    chosen (λ x. sessionAt x j ≡ sessionAt ro j) (ro .sync) (enrolled ro id State.Normal) (memberEntered (enrolled ro id State.Created) id)
+    picked (λ x. sessionAt x j ≡ sessionAt ro j) (ro .sync) (enrolled ro id State.Normal) (memberEntered (enrolled ro id State.Created) id)
     (λ e. stored-other ro id (newSession State.Normal) j ne)
     (λ e. stored-other ro id (newSession State.Created) j ne)
 
 pub created-numbers : (ro : Roster) (id : ℕ) → Numbers ro (created ro id) (ro .count) (ro .version) (pick (ro .sync) (ro .members) (with (ro .members) id))
 unfolding created
 created-numbers ro id =
-    chosen (λ x. Numbers ro x (ro .count) (ro .version) (pick (ro .sync) (ro .members) (with (ro .members) id))) (ro .sync)
+    picked (λ x. Numbers ro x (ro .count) (ro .version) (pick (ro .sync) (ro .members) (with (ro .members) id))) (ro .sync)
     (enrolled ro id State.Normal) (memberEntered (enrolled ro id State.Created) id)
     (λ e. record { kind = refl; counted = refl; versioned = refl; held = rw e refl })
     (λ e. record { kind = refl; counted = refl; versioned = refl; held = rw e refl })

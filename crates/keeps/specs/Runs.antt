@@ -7,7 +7,7 @@ use native.Mathlib.Omega.{arith}
 use lib.Dec.{eqb}
 use borrow.Author.Tests.{eqb-true, eq-eqb, lt-ltb, le-leb, leb-true, ltb-true}
 use Rattle.laws.specs.Words.{pick}
-use Rattle.laws.specs.Tests.{clash, all-at, and-left, and-right, and-both}
+use Rattle.laws.specs.Tests.{clash, all-at, and-left, and-right, and-both, either}
 use Rattle.refusals.specs.Limits.{answerLimit, versionLimit}
 use Rattle.sets.specs.Sets.{has, with, without}
 use Rattle.sets.proofs.Laws.{has-below, has-without-same, still, size-le, size-with}
@@ -127,11 +127,14 @@ entered-other ro id j e p =
     ap (λ (q : Roster). sessionAt q j) (entered-is ro id e)
     ∙ (stored-other (allUnmarked ro) id (moved (sessionAt ro id) State.Normal) j p ∙ unmarked-at ro j)
 
-pub entered-members : (ro : Roster) (id : ℕ) → ro .sync ≡ false → entered ro id .members ≡ ro .members
-entered-members ro id e = ap (λ (q : Roster). q .members) (entered-is ro id e)
+-- entering NORMAL changes neither membership nor version
+pub entered-members : (ro : Roster) (id : ℕ) → entered ro id .members ≡ ro .members
+unfolding entered
+entered-members ro id = either (λ (q : Roster). q .members ≡ ro .members) (ro .sync) _ _ refl refl
 
-pub entered-version : (ro : Roster) (id : ℕ) → ro .sync ≡ false → entered ro id .version ≡ ro .version
-entered-version ro id e = ap (λ (q : Roster). q .version) (entered-is ro id e)
+pub entered-version : (ro : Roster) (id : ℕ) → entered ro id .version ≡ ro .version
+unfolding entered
+entered-version ro id = either (λ (q : Roster). q .version ≡ ro .version) (ro .sync) _ _ refl refl
 
 pub entered-sync : (ro : Roster) (id : ℕ) → ro .sync ≡ false → entered ro id .sync ≡ false
 entered-sync ro id e = ap (λ (q : Roster). q .sync) (entered-is ro id e) ∙ e
@@ -177,10 +180,6 @@ Sound ro (Next.On r) = AllCandidates ro (r .left) × (sourceOk (r .phase) ro (r 
 abbrev pub Within : ℕ → ℕ → Type 0
 Within a b = (j : ℕ) → has a j ≡ true → has b j ≡ true
 
-sound-pick : (ro : Roster) (b : Bool) (x y : Next) → Sound ro x → Sound ro y → Sound ro (pick b x y)
-sound-pick ro true x y p q = p
-sound-pick ro false x y p q = q
-
 off : (b : Bool) → b ≡ false → not b ≡ true
 off b e = rw e refl
 
@@ -188,29 +187,29 @@ others-within : (members source : ℕ) → Within (without members source) membe
 others-within members source j h = still members source j h .0
 
 pub spread-sound : (ro : Roster) (r : Run) (left : ℕ) → AllCandidates ro left → isNormal (sessionAt ro (r .source) .state) ≡ true → Sound ro (toSpread r left)
-spread-sound ro r left a n = sound-pick ro (eqb left 0) Next.Over (go r (Phase.Spread Step.Ready) (r .source) left) tt (a, n)
+spread-sound ro r left a n = either (Sound ro) (eqb left 0) Next.Over (go r (Phase.Spread Step.Ready) (r .source) left) tt (a, n)
 
 module _ (ro : Roster) (l : Long ro) (r : Run) (source : ℕ) (v : Asking ro source) where
   pub gather-sound : (left : ℕ) → Within left (ro .members) → has left source ≡ false → Sound ro (toGather (ro .members) r source left)
   gather-sound left w s =
-      sound-pick ro (eqb left 0) (go r (Phase.Enable true) source (without (ro .members) source)) (go r (Phase.Gather Step.Ready) source left)
+      either (Sound ro) (eqb left 0) (go r (Phase.Enable true) source (without (ro .members) source)) (go r (Phase.Gather Step.Ready) source left)
       ((λ j h. v .all-able j (others-within (ro .members) source j h)), and-both (asking-of ro source l v) (off (has (without (ro .members) source) source) (has-without-same (ro .members) source)))
       ((λ j h. v .all-able j (w j h)), and-both (asking-of ro source l v) (off (has left source) s))
 
   pub last-sound : (left : ℕ) → Within left (ro .members) → Sound ro (toLast (ro .members) r source left)
   last-sound left w =
-      sound-pick ro (eqb left 0) (toGather (ro .members) r source (without (ro .members) source)) (go r Phase.LastIo source left)
+      either (Sound ro) (eqb left 0) (toGather (ro .members) r source (without (ro .members) source)) (go r Phase.LastIo source left)
       (gather-sound (without (ro .members) source) (others-within (ro .members) source) (has-without-same (ro .members) source))
       ((λ j h. v .all-able j (w j h)), asking-of ro source l v)
 
   pub base-sound : (left : ℕ) → Within left (ro .members) → has left source ≡ false → Sound ro (toBase (ro .members) r source left)
   base-sound left w s =
-      sound-pick ro (eqb left 0) (toLast (ro .members) r source (ro .members)) (go r (Phase.Base Step.Ready) source left)
+      either (Sound ro) (eqb left 0) (toLast (ro .members) r source (ro .members)) (go r (Phase.Base Step.Ready) source left)
       (last-sound (ro .members) (λ j h. h))
       ((λ j h. v .all-able j (w j h)), and-both (asking-of ro source l v) (off (has left source) s))
 
   pub versions-sound : (best left : ℕ) → Within left (ro .members) → Sound ro (toVersions (ro .members) r best source left)
   versions-sound best left w =
-      sound-pick ro (eqb left 0) (toBase (ro .members) r source (without (ro .members) source)) (go r (Phase.Versions best) source left)
+      either (Sound ro) (eqb left 0) (toBase (ro .members) r source (without (ro .members) source)) (go r (Phase.Versions best) source left)
       (base-sound (without (ro .members) source) (others-within (ro .members) source) (has-without-same (ro .members) source))
       ((λ j h. v .all-able j (w j h)), asking-of ro source l v)

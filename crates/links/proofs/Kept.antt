@@ -18,9 +18,9 @@ use Rattle.state.specs.Session.{isFree, isCreated, isNormal, isFailed, isReconn
 use Rattle.changes.specs.declared.Cause.{Cause}
 use Rattle.roster.specs.Roster.{sessionAt}
 use Rattle.changes.specs.Changes.{more, entered, went}
-use Rattle.recovery.specs.Recovery.{withRoster, jobEnded}
+use Rattle.recovery.specs.Recovery.{withRoster, runEnded}
 use Rattle.exits.specs.Exit.{haltedIf}
-use Rattle.exits.proofs.Laws.{picked, turned, halts}
+use Rattle.exits.proofs.Laws.{pools, turned, halts}
 use Rattle.rules.specs.Rules.{validPool, runRules, runOk}
 use Rattle.rules.specs.Jobs.{isIdle, isPeer}
 use Rattle.keeps.specs.Ids.{Long, stored-same, stored-other}
@@ -132,7 +132,7 @@ run-plain : (ro : Roster) (r : Run) → runOk ro r ≡ true → ro .sync ≡ fal
 unfolding runOk
 run-plain ro r e = not-true (ro .sync) (all-at (runRules ro r) 0 e)
 
-over-valid : (p : Pool) (ro : Roster) → Valid p → Ok ro → Valid (jobEnded (withRoster p ro))
+over-valid : (p : Pool) (ro : Roster) → Valid p → Ok ro → Valid (runEnded (withRoster p ro))
 over-valid p ro v ok = record { some = v .some; most = v .most; ok = ok; job = refl }
 
 halted-valid : (b : Bool) (p : Pool) → Valid p → Valid (haltedIf b p)
@@ -142,7 +142,7 @@ down-does : (j : Job) (p : Pool) (id : ℕ) → p .job ≡ j → Valid p → Dro
 down-does Job.Idle p id e v h = record { some = v .some; most = v .most; ok = dropped-keeps p id v h; job = rw e refl }
 down-does (Job.Running r) p id e v h =
     let s = run-plain (p .roster) r (rw e at (v .job)) in
-    tried-keeps (jobEnded (withRoster p (dropped (p .roster) id))) (over-valid p (dropped (p .roster) id) v (dropped-keeps p id v h)) (dropped-sync (p .roster) id ∙ s)
+    tried-keeps (runEnded (withRoster p (dropped (p .roster) id))) (over-valid p (dropped (p .roster) id) v (dropped-keeps p id v h)) (dropped-sync (p .roster) id ∙ s)
 down-does (Job.Removing m) p id e v h =
     halted-valid (isPeer (Job.Removing m) id) (withRoster p (dropped (p .roster) id))
     (record { some = v .some; most = v .most; ok = dropped-keeps p id v h; job = rw e (removal-stays (p .roster) (dropped (p .roster) id) m (v .ok .long) (removing-stays (p .roster) id (m .id)) (rw e at (v .job))) })
@@ -156,7 +156,7 @@ halted-roster b p = halts (λ q. q .roster ≡ p .roster) b p refl refl
 
 pub down-roster : (j : Job) (p : Pool) (id : ℕ) → downAt j p id .pool .roster ≡ dropped (p .roster) id
 down-roster Job.Idle p id = refl
-down-roster (Job.Running r) p id = tried-roster (jobEnded (withRoster p (dropped (p .roster) id)))
+down-roster (Job.Running r) p id = tried-roster (runEnded (withRoster p (dropped (p .roster) id)))
 down-roster (Job.Removing m) p id = halted-roster (isPeer (Job.Removing m) id) (withRoster p (dropped (p .roster) id))
 
 -- ---- store check good
@@ -184,7 +184,7 @@ check-does : (p : Pool) (id : ℕ) → Valid p → Checks p id → Valid (checkD
 unfolding checkDone checks
 check-does p id v h =
     let c = checks-are (sessionAt (p .roster) id .state) (p .roster .sync) (h .may) in
-    picked Valid (p .roster .sync) _ _
+    pools Valid (p .roster .sync) _ _
     (λ e. idle-valid p (entered (p .roster) id) v (h .idle) (sync-enters (p .roster) id (v .ok) (h .below) e))
     (λ e. tried-keeps (withRoster p (went (p .roster) id State.Reconnecting))
     (idle-valid p (went (p .roster) id State.Reconnecting) v (h .idle) (reconnects-keeps (p .roster) id (v .ok) (h .below) e (c .0) (c .1)))
@@ -199,7 +199,7 @@ pub checked-at : (p : Pool) (id : ℕ) → Long (p .roster) → id < 16
     → sessionAt (checkDone p id .pool .roster) id ≡ moved (sessionAt (p .roster) id) (pick (p .roster .sync) State.Normal State.Reconnecting)
 unfolding checkDone went
 checked-at p id l h =
-    picked (λ q. sessionAt (q .roster) id ≡ moved (sessionAt (p .roster) id) (pick (p .roster .sync) State.Normal State.Reconnecting)) (p .roster .sync) _ _
+    pools (λ q. sessionAt (q .roster) id ≡ moved (sessionAt (p .roster) id) (pick (p .roster .sync) State.Normal State.Reconnecting)) (p .roster .sync) _ _
     (λ e. entered-at (p .roster) id l h ∙ to true e)
     (λ e. rw (tried-roster (withRoster p (went (p .roster) id State.Reconnecting))) (stored-same (p .roster) id (moved (sessionAt (p .roster) id) State.Reconnecting) l h ∙ to false e))
   where
@@ -209,14 +209,14 @@ checked-at p id l h =
 pub checked-other : (p : Pool) (id j : ℕ) → j ≢ id → sessionAt (checkDone p id .pool .roster) j ≡ sessionAt (p .roster) j
 unfolding checkDone went
 checked-other p id j ne =
-    picked (λ q. sessionAt (q .roster) j ≡ sessionAt (p .roster) j) (p .roster .sync) _ _
+    pools (λ q. sessionAt (q .roster) j ≡ sessionAt (p .roster) j) (p .roster .sync) _ _
     (λ e. sync-entered-other (p .roster) id j e ne)
     (λ e. rw (tried-roster (withRoster p (went (p .roster) id State.Reconnecting))) (stored-other (p .roster) id (moved (sessionAt (p .roster) id) State.Reconnecting) j ne))
 
 pub checked-numbers : (p : Pool) (id : ℕ) → Numbers (p .roster) (checkDone p id .pool .roster) (p .roster .count) (p .roster .version) (p .roster .members)
 unfolding checkDone went
 checked-numbers p id =
-    picked (λ q. Numbers (p .roster) (q .roster) (p .roster .count) (p .roster .version) (p .roster .members)) (p .roster .sync) _ _
+    pools (λ q. Numbers (p .roster) (q .roster) (p .roster .count) (p .roster .version) (p .roster .members)) (p .roster .sync) _ _
     (λ e. entered-numbers (p .roster) id true e)
     (λ e. rw (tried-roster (withRoster p (went (p .roster) id State.Reconnecting))) (record { kind = refl; counted = refl; versioned = refl; held = refl }))
 

@@ -19,7 +19,7 @@ use Rattle.changes.specs.declared.Cause.{Cause}
 use Rattle.roster.specs.Roster.{sessionAt}
 use Rattle.changes.specs.Changes.{entered, failed, went}
 use Rattle.run.specs.Run.{receiver}
-use Rattle.recovery.specs.Recovery.{withRoster, jobEnded, disablingBut}
+use Rattle.recovery.specs.Recovery.{withRoster, runEnded, disablingBut}
 use Rattle.exits.specs.Exit.{refused, accepted, changed, triedAfter, haltedIf}
 use Rattle.rules.specs.Rules.{validPool}
 use Rattle.rules.specs.Jobs.{isIdle, isPeer}
@@ -49,7 +49,7 @@ dropped ro id = pick (isRemoving (sessionAt ro id .state)) ro (failed ro id Caus
 -- in the ended run. A removal halts if this was its awaited peer.
 abbrev pub downAt : Job → Pool → ℕ → Turn
 downAt Job.Idle p id = changed p (dropped (p .roster) id) Told.Nothing
-downAt (Job.Running r) p id = triedAfter p (jobEnded (withRoster p (dropped (p .roster) id))) (Outcome.Taken (r .taken)) (disablingBut id (receiver r))
+downAt (Job.Running r) p id = triedAfter p (runEnded (withRoster p (dropped (p .roster) id))) (Outcome.Taken (r .taken)) (disablingBut id (receiver r))
 downAt (Job.Removing m) p id =
     accepted p
     (haltedIf (isPeer (Job.Removing m) id) (withRoster p (dropped (p .roster) id)))

@@ -60,7 +60,7 @@ fn down_at(j: Job, p: Pool, id: u64) -> Turn
             Effect::Keep,
         ),
         Job::Running(r) => {
-            let ended = recovery::end_job(after);
+            let ended = recovery::end_run(after);
             let told = recovery::disable_but(id, run::receiver(r));
             exits::try_after(p, ended, Outcome::Taken(r.taken), told)
         }

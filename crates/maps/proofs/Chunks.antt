@@ -13,6 +13,7 @@ use lib.Bits.{bitAnd, bitOr}
 use lib.Dec.{eqb}
 use lib.ListN.{length, getD, set}
 use lib.Seq.{getD-set-same, getD-set-other}
+use Rattle.laws.specs.Tests.{either}
 use Rattle.laws.specs.Words.{pick, one, bit}
 use Rattle.laws.specs.Bits.{bit-or, bit-and, bit-none}
 use Rattle.sets.specs.Sets.{has}
@@ -139,21 +140,13 @@ module _ (view : List ℕ → ℕ) (g : ℕ → ℕ) (P : List ℕ → Type 0) (
   each-P : (t : ℕ → Bool) (n : ℕ) (xs : List ℕ) → P xs → P (each t f n xs)
   unfolding each
   each-P t zero xs p = p
-  each-P t (suc n) xs p = picks (t n) (keeps n (each t f n xs) (each-P t n xs p)) (each-P t n xs p)
-    where
-      picks : (b : Bool) {a z : List ℕ} → P a → P z → P (pick b a z)
-      picks true pa pb = pa
-      picks false pa pb = pb
+  each-P t (suc n) xs p = either P (t n) _ _ (keeps n (each t f n xs) (each-P t n xs p)) (each-P t n xs p)
 
   each-miss : (t : ℕ → Bool) (n : ℕ) (xs : List ℕ) → P xs → n ≤ m → n ≤ 16 → view (each t f n xs) ≡ view xs
   unfolding each
   each-miss t zero xs p l b = refl
   each-miss t (suc n) xs p l b =
-      picks (t n) (other n (each t f n xs) (omega arith) (each-P t n xs p) (λ e. lt-irrefl m (omega arith)) ∙ each-miss t n xs p (omega arith) (omega arith)) (each-miss t n xs p (omega arith) (omega arith))
-    where
-      picks : (b : Bool) {a z : List ℕ} → view a ≡ view xs → view z ≡ view xs → view (pick b a z) ≡ view xs
-      picks true pa pb = pa
-      picks false pa pb = pb
+      either (λ a. view a ≡ view xs) (t n) _ _ (other n (each t f n xs) (omega arith) (each-P t n xs p) (λ e. lt-irrefl m (omega arith)) ∙ each-miss t n xs p (omega arith) (omega arith)) (each-miss t n xs p (omega arith) (omega arith))
 
   each-at : (t : ℕ → Bool) (n : ℕ) (xs : List ℕ) → P xs → m < n → n ≤ 16 → view (each t f n xs) ≡ pick (t m) (g (view xs)) (view xs)
   unfolding each

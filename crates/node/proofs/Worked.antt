@@ -21,24 +21,24 @@ use Rattle.nodehand.specs.Hand.{handRefusal, mapTaken, take, mapDoneRefusal, co
 
 -- node 1 of 4,096 chunks: registered, joined in create mode beside node 0, enabled, and one write that did not reach 0
 abbrev pub created : Node
-created = joinCreate (registerCreate (fresh 1 4096) true .node) true 1 .node
+created = joinCreate (registerCreate (fresh 1 4096) 0 .node) 0 1 .node
 
 abbrev pub wrote : Node
-wrote = write (enable1 created true 1 3 .node) true 4095 1 2 .node
+wrote = write (enable1 created 0 1 3 .node) 0 4095 1 2 .node
 
 pub record Worked : Type 0 where
   pub joined : created .members ≡ 3
-  pub early : mapGetVer (fresh 1 4096) true .answer ≡ Answer.Refused 9
+  pub early : mapGetVer (fresh 1 4096) 0 .answer ≡ Answer.Refused 9
   pub last-chunk : drop 15 (wrote .kept) ≡ 4095 ∷ []
-  pub past-chunk : write wrote true 4096 1 2 .answer ≡ Answer.Refused 4
-  pub unsound : write wrote false 4096 1 2 .answer ≡ Answer.Refused 2
-  pub version : mapGetVer wrote true .answer ≡ Answer.Version 2
-  pub top : write wrote true 0 1 9223372036854775791 .answer ≡ Answer.Done
-  pub past-top : write wrote true 0 1 9223372036854775792 .answer ≡ Answer.Refused 14
-  pub limit : enable1 wrote true 9223372036854775776 3 .answer ≡ Answer.Refused 14
-  pub other-set : enable1 wrote true 2 1 .answer ≡ Answer.Refused 10
-  pub too-early : mapDone (mapReady wrote true false .node) true true 2 3 .answer ≡ Answer.Refused 15
-  pub done : mapDone (take (mapReady wrote true false .node) true .node) true true 2 3 .effect ≡ does (OnMap.Commit 3) OnStaging.Zero
+  pub past-chunk : write wrote 0 4096 1 2 .answer ≡ Answer.Refused 4
+  pub unsound : write wrote 2 4096 1 2 .answer ≡ Answer.Refused 2
+  pub version : mapGetVer wrote 0 .answer ≡ Answer.Version 2
+  pub top : write wrote 0 0 1 9223372036854775791 .answer ≡ Answer.Done
+  pub past-top : write wrote 0 0 1 9223372036854775792 .answer ≡ Answer.Refused 14
+  pub limit : enable1 wrote 0 9223372036854775776 3 .answer ≡ Answer.Refused 14
+  pub other-set : enable1 wrote 0 2 1 .answer ≡ Answer.Refused 10
+  pub too-early : mapDone (mapReady wrote 0 false .node) 0 true 2 3 .answer ≡ Answer.Refused 15
+  pub done : mapDone (take (mapReady wrote 0 false .node) 0 .node) 0 true 2 3 .effect ≡ does (OnMap.Commit 3) OnStaging.Zero
 
 pub worked : Worked
 unfolding

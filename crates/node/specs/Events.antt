@@ -1,7 +1,8 @@
--- The events of a node as one type, and the turn of each. Taking a map carries the bytes of the map that is taken.
+-- The events of a node as one type, and what each is: one case an event. Taking a map carries the bytes of the map that is taken.
 use mathlib.Core.Bool.{Bool}
 use mathlib.Core.List.{List}
 use Prim.Native.Nat.{ℕ}
+use Rattle.refusals.specs.Refusals.{Test}
 use Rattle.state.specs.declared.Op.{Op}
 use Rattle.nodestate.specs.declared.Node.{Node}
 use Rattle.nodestate.specs.declared.Turn.{Turn}
@@ -37,72 +38,48 @@ pub data Event : Type 0 where
   mapGetVer : Event
   lastIoToMap : ℕ → Event
 
--- its name in the table of legal changes
-abbrev pub kindOf : Event → Kind
-kindOf Event.registerCreate = Kind.registerCreate
-kindOf (Event.registerAdd set version) = Kind.registerAdd
-kindOf (Event.unregister delete) = Kind.unregister
-kindOf (Event.joinCreate set) = Kind.joinCreate
-kindOf Event.assemble = Kind.assemble
-kindOf (Event.leave delete) = Kind.leave
-kindOf (Event.enable1 version set) = Kind.enable1
-kindOf Event.enable0 = Kind.enable0
-kindOf Event.fault = Kind.fault
-kindOf (Event.write chunk set version) = Kind.write
-kindOf (Event.synced member chunk) = Kind.synced
-kindOf (Event.poolInfo op member) = Kind.poolInfo
-kindOf (Event.mapReady keep) = Kind.mapReady
-kindOf Event.give = Kind.give
-kindOf (Event.take zs) = Kind.take
-kindOf (Event.mapDone enabling version set) = Kind.mapDone
-kindOf Event.mapDisable = Kind.mapDisable
-kindOf Event.mapGetVer = Kind.mapGetVer
-kindOf (Event.lastIoToMap chosen) = Kind.lastIoToMap
-
 -- the map that is lent beside the node's own two, if any
 pub data Third : Type 0 where
   none : Third
   some : List ℕ → Third
 
-abbrev pub third : Event → Third
-third Event.registerCreate = Third.none
-third (Event.registerAdd set version) = Third.none
-third (Event.unregister delete) = Third.none
-third (Event.joinCreate set) = Third.none
-third Event.assemble = Third.none
-third (Event.leave delete) = Third.none
-third (Event.enable1 version set) = Third.none
-third Event.enable0 = Third.none
-third Event.fault = Third.none
-third (Event.write chunk set version) = Third.none
-third (Event.synced member chunk) = Third.none
-third (Event.poolInfo op member) = Third.none
-third (Event.mapReady keep) = Third.none
-third Event.give = Third.none
-third (Event.take zs) = Third.some zs
-third (Event.mapDone enabling version set) = Third.none
-third Event.mapDisable = Third.none
-third Event.mapGetVer = Third.none
-third (Event.lastIoToMap chosen) = Third.none
+-- What an event is: its name in the table of legal changes, the map that is lent to it beside the node's own two, its tests, and its turn: what it does where none of
+-- them applies, else its refusal. `lent` is the number that the lent maps refuse with.
+pub record Case : Type 0 where
+  pub kind : Kind
+  pub third : Third
+  pub tests : Node → ℕ → List Test
+  pub turn : Node → ℕ → Turn
 
--- the turn of an event; `sound` says that the lent maps are
-abbrev pub turnOf : Event → Node → Bool → Turn
-turnOf Event.registerCreate n sound = Register.registerCreate n sound
-turnOf (Event.registerAdd set version) n sound = Register.registerAdd n sound set version
-turnOf (Event.unregister delete) n sound = Register.unregister n sound delete
-turnOf (Event.joinCreate set) n sound = Join.joinCreate n sound set
-turnOf Event.assemble n sound = Join.assemble n sound
-turnOf (Event.leave delete) n sound = Join.leave n sound delete
-turnOf (Event.enable1 version set) n sound = Enable.enable1 n sound version set
-turnOf Event.enable0 n sound = Enable.enable0 n sound
-turnOf Event.fault n sound = Enable.fault n sound
-turnOf (Event.write chunk set version) n sound = Write.write n sound chunk set version
-turnOf (Event.synced member chunk) n sound = Write.synced n sound member chunk
-turnOf (Event.poolInfo op member) n sound = Info.poolInfo n sound op member
-turnOf (Event.mapReady keep) n sound = Serve.mapReady n sound keep
-turnOf Event.give n sound = Serve.give n sound
-turnOf (Event.take zs) n sound = Hand.take n sound
-turnOf (Event.mapDone enabling version set) n sound = Hand.mapDone n sound enabling version set
-turnOf Event.mapDisable n sound = Hand.mapDisable n sound
-turnOf Event.mapGetVer n sound = Serve.mapGetVer n sound
-turnOf (Event.lastIoToMap chosen) n sound = Serve.lastIoToMap n sound chosen
+abbrev pub caseOf : Event → Case
+caseOf Event.registerCreate = record { kind = Kind.registerCreate; third = Third.none; tests = λ n lent. Register.registerCreateTests n lent; turn = λ n lent. Register.registerCreate n lent }
+caseOf (Event.registerAdd set version) = record { kind = Kind.registerAdd; third = Third.none; tests = λ n lent. Register.registerAddTests n lent set version; turn = λ n lent. Register.registerAdd n lent set version }
+caseOf (Event.unregister delete) = record { kind = Kind.unregister; third = Third.none; tests = λ n lent. Register.unregisterTests n lent delete; turn = λ n lent. Register.unregister n lent delete }
+caseOf (Event.joinCreate set) = record { kind = Kind.joinCreate; third = Third.none; tests = λ n lent. Join.joinCreateTests n lent set; turn = λ n lent. Join.joinCreate n lent set }
+caseOf Event.assemble = record { kind = Kind.assemble; third = Third.none; tests = λ n lent. Join.assembleTests n lent; turn = λ n lent. Join.assemble n lent }
+caseOf (Event.leave delete) = record { kind = Kind.leave; third = Third.none; tests = λ n lent. Join.leaveTests n lent; turn = λ n lent. Join.leave n lent delete }
+caseOf (Event.enable1 version set) = record { kind = Kind.enable1; third = Third.none; tests = λ n lent. Enable.enable1Tests n lent version set; turn = λ n lent. Enable.enable1 n lent version set }
+caseOf Event.enable0 = record { kind = Kind.enable0; third = Third.none; tests = λ n lent. Enable.stopTests n lent; turn = λ n lent. Enable.enable0 n lent }
+caseOf Event.fault = record { kind = Kind.fault; third = Third.none; tests = λ n lent. Enable.stopTests n lent; turn = λ n lent. Enable.fault n lent }
+caseOf (Event.write chunk set version) = record { kind = Kind.write; third = Third.none; tests = λ n lent. Write.writeTests n lent chunk set version; turn = λ n lent. Write.write n lent chunk set version }
+caseOf (Event.synced member chunk) = record { kind = Kind.synced; third = Third.none; tests = λ n lent. Write.syncedTests n lent member chunk; turn = λ n lent. Write.synced n lent member chunk }
+caseOf (Event.poolInfo op member) = record { kind = Kind.poolInfo; third = Third.none; tests = λ n lent. Info.poolInfoTests n lent op member; turn = λ n lent. Info.poolInfo n lent op member }
+caseOf (Event.mapReady keep) = record { kind = Kind.mapReady; third = Third.none; tests = λ n lent. Serve.serveTests n lent; turn = λ n lent. Serve.mapReady n lent keep }
+caseOf Event.give = record { kind = Kind.give; third = Third.none; tests = λ n lent. Serve.serveTests n lent; turn = λ n lent. Serve.give n lent }
+caseOf (Event.take zs) = record { kind = Kind.take; third = Third.some zs; tests = λ n lent. Hand.handTests n lent; turn = λ n lent. Hand.take n lent }
+caseOf (Event.mapDone enabling version set) = record { kind = Kind.mapDone; third = Third.none; tests = λ n lent. Hand.mapDoneTests n lent version set; turn = λ n lent. Hand.mapDone n lent enabling version set }
+caseOf Event.mapDisable = record { kind = Kind.mapDisable; third = Third.none; tests = λ n lent. Hand.handTests n lent; turn = λ n lent. Hand.mapDisable n lent }
+caseOf Event.mapGetVer = record { kind = Kind.mapGetVer; third = Third.none; tests = λ n lent. Serve.serveTests n lent; turn = λ n lent. Serve.mapGetVer n lent }
+caseOf (Event.lastIoToMap chosen) = record { kind = Kind.lastIoToMap; third = Third.none; tests = λ n lent. Serve.lastIoTests n lent chosen; turn = λ n lent. Serve.lastIoToMap n lent chosen }
+
+abbrev pub kindOf : Event → Kind
+kindOf e = caseOf e .kind
+
+abbrev pub third : Event → Third
+third e = caseOf e .third
+
+abbrev pub testsAt : Event → Node → ℕ → List Test
+testsAt e = caseOf e .tests
+
+abbrev pub turnOf : Event → Node → ℕ → Turn
+turnOf e = caseOf e .turn

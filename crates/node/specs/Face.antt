@@ -1,7 +1,8 @@
 -- The node with its lent maps: xs the map's bytes, ys those of staging. An event gives an answer and the next state, and leaves both maps.
-use mathlib.Core.Bool.{Bool, true, _&&_}
+use mathlib.Core.Bool.{Bool, true, not, _&&_}
 use mathlib.Core.List.{List}
 use Prim.Native.Nat.{ℕ}
+use Rattle.laws.specs.Words.{pick}
 use Rattle.maps.specs.Map.{sound}
 use Rattle.nodestate.specs.declared.OnStaging.{OnStaging}
 use Rattle.nodestate.specs.declared.Node.{Node}
@@ -16,13 +17,17 @@ use Rattle.node.specs.Events.{Event, Third, third, turnOf}
 abbrev pub freshNode : ℕ → ℕ → StorageNode
 freshNode id chunks = record { node = Change.fresh id chunks }
 
--- refusal 2: every lent map is sound, a third one with them
+-- a third map, if there is one, is sound
 abbrev pub soundThird : ℕ → Third → Bool
 soundThird chunks Third.none = true
 soundThird chunks (Third.some zs) = sound chunks zs
 
-abbrev pub lentTo : Third → Node → List ℕ → List ℕ → Bool
-lentTo z n xs ys = soundThird (n .chunks) z && (sound (n .chunks) xs && sound (n .chunks) ys)
+-- the number that the lent maps refuse with: 2 unless each is sound, a third one with them, else 0
+abbrev pub lentNumber : Bool → ℕ → List ℕ → List ℕ → ℕ
+lentNumber third chunks xs ys = pick (not (third && (sound chunks xs && sound chunks ys))) 2 0
+
+abbrev pub lentTo : Third → Node → List ℕ → List ℕ → ℕ
+lentTo z n xs ys = lentNumber (soundThird (n .chunks) z) (n .chunks) xs ys
 
 -- the turn of an event at a node with its maps
 abbrev pub turnAt : Event → StorageNode → List ℕ → List ℕ → Turn

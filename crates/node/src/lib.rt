@@ -5,7 +5,7 @@ ghost use mathlib.Core.Bool.{_&&_};
 ghost use Rattle.refusals.specs.Limits.{numbers};
 ghost use Rattle.maps.specs.Map.{sound};
 ghost use Rattle.node.specs.Events.{Event};
-ghost use Rattle.node.specs.Face.{freshNode, handed, mapBy, stagingBy, answers, mapLeft, stagingLeft};
+ghost use Rattle.node.specs.Face.{freshNode, lentNumber, handed, mapBy, stagingBy, answers, mapLeft, stagingLeft};
 use nodestate::Answer;
 use nodestate::Node;
 use nodestate::Turn;
@@ -57,8 +57,8 @@ impl StorageNode {
         ensures { λ _. ⌜ now (staging .exit) ≡ stagingLeft Event.registerCreate self (now (map .entry)) (now (staging .entry)) ⌝ }
     {
         let n = self.node;
-        let sound = both_sound(n.chunks, map, staging);
-        let t = noderegister::register_create(n, sound);
+        let lent = lent_number(true, n.chunks, map, staging);
+        let t = noderegister::register_create(n, lent);
         finish(t, map, staging)
     }
 
@@ -69,8 +69,8 @@ impl StorageNode {
         ensures { λ _. ⌜ now (staging .exit) ≡ stagingLeft (Event.registerAdd set version) self (now (map .entry)) (now (staging .entry)) ⌝ }
     {
         let n = self.node;
-        let sound = both_sound(n.chunks, map, staging);
-        let t = noderegister::register_add(n, sound, set, version);
+        let lent = lent_number(true, n.chunks, map, staging);
+        let t = noderegister::register_add(n, lent, set, version);
         finish(t, map, staging)
     }
 
@@ -81,8 +81,8 @@ impl StorageNode {
         ensures { λ _. ⌜ now (staging .exit) ≡ stagingLeft (Event.unregister delete) self (now (map .entry)) (now (staging .entry)) ⌝ }
     {
         let n = self.node;
-        let sound = both_sound(n.chunks, map, staging);
-        let t = noderegister::unregister(n, sound, delete);
+        let lent = lent_number(true, n.chunks, map, staging);
+        let t = noderegister::unregister(n, lent, delete);
         finish(t, map, staging)
     }
 
@@ -93,8 +93,8 @@ impl StorageNode {
         ensures { λ _. ⌜ now (staging .exit) ≡ stagingLeft (Event.joinCreate set) self (now (map .entry)) (now (staging .entry)) ⌝ }
     {
         let n = self.node;
-        let sound = both_sound(n.chunks, map, staging);
-        let t = nodejoins::join_create(n, sound, set);
+        let lent = lent_number(true, n.chunks, map, staging);
+        let t = nodejoins::join_create(n, lent, set);
         finish(t, map, staging)
     }
 
@@ -105,8 +105,8 @@ impl StorageNode {
         ensures { λ _. ⌜ now (staging .exit) ≡ stagingLeft Event.assemble self (now (map .entry)) (now (staging .entry)) ⌝ }
     {
         let n = self.node;
-        let sound = both_sound(n.chunks, map, staging);
-        let t = nodejoins::assemble(n, sound);
+        let lent = lent_number(true, n.chunks, map, staging);
+        let t = nodejoins::assemble(n, lent);
         finish(t, map, staging)
     }
 
@@ -117,8 +117,8 @@ impl StorageNode {
         ensures { λ _. ⌜ now (staging .exit) ≡ stagingLeft (Event.leave delete) self (now (map .entry)) (now (staging .entry)) ⌝ }
     {
         let n = self.node;
-        let sound = both_sound(n.chunks, map, staging);
-        let t = nodejoins::leave(n, sound, delete);
+        let lent = lent_number(true, n.chunks, map, staging);
+        let t = nodejoins::leave(n, lent, delete);
         finish(t, map, staging)
     }
 
@@ -129,8 +129,8 @@ impl StorageNode {
         ensures { λ _. ⌜ now (staging .exit) ≡ stagingLeft (Event.enable1 version set) self (now (map .entry)) (now (staging .entry)) ⌝ }
     {
         let n = self.node;
-        let sound = both_sound(n.chunks, map, staging);
-        let t = nodeenables::enable1(n, sound, version, set);
+        let lent = lent_number(true, n.chunks, map, staging);
+        let t = nodeenables::enable1(n, lent, version, set);
         finish(t, map, staging)
     }
 
@@ -141,8 +141,8 @@ impl StorageNode {
         ensures { λ _. ⌜ now (staging .exit) ≡ stagingLeft Event.enable0 self (now (map .entry)) (now (staging .entry)) ⌝ }
     {
         let n = self.node;
-        let sound = both_sound(n.chunks, map, staging);
-        let t = nodeenables::enable0(n, sound);
+        let lent = lent_number(true, n.chunks, map, staging);
+        let t = nodeenables::enable0(n, lent);
         finish(t, map, staging)
     }
 
@@ -153,8 +153,8 @@ impl StorageNode {
         ensures { λ _. ⌜ now (staging .exit) ≡ stagingLeft Event.fault self (now (map .entry)) (now (staging .entry)) ⌝ }
     {
         let n = self.node;
-        let sound = both_sound(n.chunks, map, staging);
-        let t = nodeenables::fault(n, sound);
+        let lent = lent_number(true, n.chunks, map, staging);
+        let t = nodeenables::fault(n, lent);
         finish(t, map, staging)
     }
 
@@ -172,8 +172,8 @@ impl StorageNode {
         ensures { λ _. ⌜ now (staging .exit) ≡ stagingLeft (Event.write chunk set version) self (now (map .entry)) (now (staging .entry)) ⌝ }
     {
         let n = self.node;
-        let sound = both_sound(n.chunks, map, staging);
-        let t = nodewrites::write::write(n, sound, chunk, set, version);
+        let lent = lent_number(true, n.chunks, map, staging);
+        let t = nodewrites::write::write(n, lent, chunk, set, version);
         finish(t, map, staging)
     }
 
@@ -184,8 +184,8 @@ impl StorageNode {
         ensures { λ _. ⌜ now (staging .exit) ≡ stagingLeft (Event.synced member chunk) self (now (map .entry)) (now (staging .entry)) ⌝ }
     {
         let n = self.node;
-        let sound = both_sound(n.chunks, map, staging);
-        let t = nodewrites::write::synced(n, sound, member, chunk);
+        let lent = lent_number(true, n.chunks, map, staging);
+        let t = nodewrites::write::synced(n, lent, member, chunk);
         finish(t, map, staging)
     }
 
@@ -196,8 +196,8 @@ impl StorageNode {
         ensures { λ _. ⌜ now (staging .exit) ≡ stagingLeft (Event.poolInfo op member) self (now (map .entry)) (now (staging .entry)) ⌝ }
     {
         let n = self.node;
-        let sound = both_sound(n.chunks, map, staging);
-        let t = nodewrites::info::pool_info(n, sound, op, member);
+        let lent = lent_number(true, n.chunks, map, staging);
+        let t = nodewrites::info::pool_info(n, lent, op, member);
         finish(t, map, staging)
     }
 
@@ -208,8 +208,8 @@ impl StorageNode {
         ensures { λ _. ⌜ now (staging .exit) ≡ stagingLeft (Event.mapReady keep) self (now (map .entry)) (now (staging .entry)) ⌝ }
     {
         let n = self.node;
-        let sound = both_sound(n.chunks, map, staging);
-        let t = nodeserve::map_ready(n, sound, keep);
+        let lent = lent_number(true, n.chunks, map, staging);
+        let t = nodeserve::map_ready(n, lent, keep);
         finish(t, map, staging)
     }
 
@@ -220,8 +220,8 @@ impl StorageNode {
         ensures { λ _. ⌜ now (staging .exit) ≡ stagingLeft Event.give self (now (map .entry)) (now (staging .entry)) ⌝ }
     {
         let n = self.node;
-        let sound = both_sound(n.chunks, map, staging);
-        let t = nodeserve::give(n, sound);
+        let lent = lent_number(true, n.chunks, map, staging);
+        let t = nodeserve::give(n, lent);
         finish(t, map, staging)
     }
 
@@ -232,8 +232,9 @@ impl StorageNode {
         ensures { λ _. ⌜ now (staging .exit) ≡ stagingLeft (Event.take (now (taken .entry))) self (now (map .entry)) (now (staging .entry)) ⌝ }
     {
         let n = self.node;
-        let sound = maps::is_sound(taken, n.chunks) & both_sound(n.chunks, map, staging);
-        let t = nodehand::take(n, sound);
+        let third = maps::is_sound(taken, n.chunks);
+        let lent = lent_number(third, n.chunks, map, staging);
+        let t = nodehand::take(n, lent);
         let e = t.effect;
         let s = e.staging;
         let out = finish(t, map, staging);
@@ -255,8 +256,8 @@ impl StorageNode {
         ensures { λ _. ⌜ now (staging .exit) ≡ stagingLeft (Event.mapDone enabling version set) self (now (map .entry)) (now (staging .entry)) ⌝ }
     {
         let n = self.node;
-        let sound = both_sound(n.chunks, map, staging);
-        let t = nodehand::map_done(n, sound, enabling, version, set);
+        let lent = lent_number(true, n.chunks, map, staging);
+        let t = nodehand::map_done(n, lent, enabling, version, set);
         finish(t, map, staging)
     }
 
@@ -267,8 +268,8 @@ impl StorageNode {
         ensures { λ _. ⌜ now (staging .exit) ≡ stagingLeft Event.mapDisable self (now (map .entry)) (now (staging .entry)) ⌝ }
     {
         let n = self.node;
-        let sound = both_sound(n.chunks, map, staging);
-        let t = nodehand::map_disable(n, sound);
+        let lent = lent_number(true, n.chunks, map, staging);
+        let t = nodehand::map_disable(n, lent);
         finish(t, map, staging)
     }
 
@@ -279,8 +280,8 @@ impl StorageNode {
         ensures { λ _. ⌜ now (staging .exit) ≡ stagingLeft Event.mapGetVer self (now (map .entry)) (now (staging .entry)) ⌝ }
     {
         let n = self.node;
-        let sound = both_sound(n.chunks, map, staging);
-        let t = nodeserve::map_get_ver(n, sound);
+        let lent = lent_number(true, n.chunks, map, staging);
+        let t = nodeserve::map_get_ver(n, lent);
         finish(t, map, staging)
     }
 
@@ -291,10 +292,18 @@ impl StorageNode {
         ensures { λ _. ⌜ now (staging .exit) ≡ stagingLeft (Event.lastIoToMap chosen) self (now (map .entry)) (now (staging .entry)) ⌝ }
     {
         let n = self.node;
-        let sound = both_sound(n.chunks, map, staging);
-        let t = nodeserve::last_io_to_map(n, sound, chosen);
+        let lent = lent_number(true, n.chunks, map, staging);
+        let t = nodeserve::last_io_to_map(n, lent, chosen);
         finish(t, map, staging)
     }
+}
+
+// The number that the lent maps refuse with, 0 where they do not. third: a third one, if there is one, is sound.
+fn lent_number(third: bool, chunks: u64, map: &[u8], staging: &[u8]) -> u64
+    ensures { λ r. ⌜ r ≡ lentNumber third chunks (now (map .entry)) (now (staging .entry)) ⌝ }
+{
+    let both = both_sound(chunks, map, staging);
+    refusals::first(!(third & both), 2, 0)
 }
 
 fn both_sound(chunks: u64, map: &[u8], staging: &[u8]) -> bool

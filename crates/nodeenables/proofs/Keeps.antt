@@ -1,9 +1,8 @@
 -- Enable 1, enable 0, fault: what an accepted one knows, and that it keeps the state rules and the table of legal changes. Assumes nothing.
-use mathlib.Core.Path.{_≡_, refl, ap}
-use mathlib.Core.Bool.{Bool, true, not, _&&_}
+use mathlib.Core.Path.{_≡_, refl}
+use mathlib.Core.Bool.{true, _&&_}
 use mathlib.Core.List.{List}
 use Prim.Native.Nat.{ℕ}
-use native.Mathlib.Omega.{arith}
 use lib.Dec.{ltb}
 use Rattle.laws.specs.Tests.{and-both}
 use Rattle.refusals.specs.Refusals.{Test}
@@ -13,33 +12,27 @@ use Rattle.nodestate.specs.declared.Transfer.{Transfer}
 use Rattle.nodestate.specs.declared.Node.{Node}
 use Rattle.nodestate.specs.States.{isJoined, isServing}
 use Rattle.nodestate.specs.Change.{wentTo, takenOver, storedVersion, transferred, endedTransfer, instructed}
-use Rattle.nodestate.specs.StateRules.{keptOk, standing, valid}
+use Rattle.nodestate.specs.StateRules.{keptOk, standing}
 use Rattle.nodestate.specs.Table.{Kind, legal}
 use Rattle.nodestate.proofs.Tables.{gives, given}
 use Rattle.nodestate.proofs.Valid.{valid-of, at-node}
-use Rattle.nodestate.proofs.Passed.{or-false, Passed, passes, Told, tells, Keeps, Later, later}
+use Rattle.nodestate.proofs.Passed.{or-false, Passed, passes, Told, tells, Keeps}
 use Rattle.nodeenables.specs.Enable.{enable1Tests, enable1Refusal, enabled, stoppable, stopTests, stopRefusal, disabled}
 
 -- ---- enable 1
 
-pub enable1-later : (n : Node) (sound : Bool) (version : ℕ) (set : ℕ) → valid n ≡ true → sound ≡ true → Later (enable1Refusal n sound version set)
+pub enable1-passed : (n : Node) (lent : ℕ) (version : ℕ) (set : ℕ) → enable1Refusal n lent version set ≡ 0 → Passed n lent (isServing n) × Told n version set
 unfolding enable1Refusal
-enable1-later n sound version set v l =
-    let ts : List Test = enable1Tests n sound version set in
-    later ts (ap not v) (ap not l)
+enable1-passed n lent version set e =
+    let ts : List Test = enable1Tests n lent version set in
+    (passes n lent (isServing n) (none-applies ts e 1 refl) (none-applies ts e 2 refl) (or-false (ltb 15 (n .id)) _ (none-applies ts e 3 refl) .0) (none-applies ts e 9 refl), tells n version set (or-false (ltb 15 (n .id)) (ltb 65535 set) (none-applies ts e 3 refl) .1) (none-applies ts e 10 refl) (none-applies ts e 14 refl))
 
-pub enable1-passed : (n : Node) (sound : Bool) (version : ℕ) (set : ℕ) → enable1Refusal n sound version set ≡ 0 → Passed n sound (isServing n) × Told n version set
-unfolding enable1Refusal
-enable1-passed n sound version set e =
-    let ts : List Test = enable1Tests n sound version set in
-    (passes n sound (isServing n) (none-applies ts e 0 (omega arith)) (none-applies ts e 1 (omega arith)) (or-false (ltb 15 (n .id)) _ (none-applies ts e 2 (omega arith)) .0) (none-applies ts e 8 (omega arith)), tells n version set (or-false (ltb 15 (n .id)) (ltb 65535 set) (none-applies ts e 2 (omega arith)) .1) (none-applies ts e 9 (omega arith)) (none-applies ts e 13 (omega arith)))
-
-pub enable1-keeps : (n : Node) (sound : Bool) (version : ℕ) (set : ℕ) → enable1Refusal n sound version set ≡ 0 → Keeps Kind.enable1 n (enabled n version set)
+pub enable1-keeps : (n : Node) (lent : ℕ) (version : ℕ) (set : ℕ) → enable1Refusal n lent version set ≡ 0 → Keeps Kind.enable1 n (enabled n version set)
 unfolding enabled instructed storedVersion takenOver endedTransfer transferred wentTo keptOk
-enable1-keeps n sound version set e =
-    let p = enable1-passed n sound version set e .0 in
+enable1-keeps n lent version set e =
+    let p = enable1-passed n lent version set e .0 in
     let v = p .rules in
-    let w = enable1-passed n sound version set e .1 in
+    let w = enable1-passed n lent version set e .1 in
     record {
       rules = valid-of (enabled n version set) (record { some = v .some; few = v .few; stand = rw (w .holds) (given _ _ (at-node (λ s store create t own. gives (standing s store create t own && (isJoined s && store)) (standing State.Normal store create Transfer.Nothing true)) refl n) (and-both (v .stand) (p .from))); ids = w .set-lt; top = w .low; keeps = v .keeps });
       lawful = given _ _ (at-node (λ s store create t own. gives (standing s store create t own && (isJoined s && store)) (legal Kind.enable1 s (State.Normal))) refl n) (and-both (v .stand) (p .from));
@@ -50,22 +43,16 @@ enable1-keeps n sound version set e =
 
 -- ---- enable 0 and fault
 
-pub stop-later : (n : Node) (sound : Bool) → valid n ≡ true → sound ≡ true → Later (stopRefusal n sound)
+pub stop-passed : (n : Node) (lent : ℕ) → stopRefusal n lent ≡ 0 → Passed n lent (stoppable (n .state))
 unfolding stopRefusal
-stop-later n sound v l =
-    let ts : List Test = stopTests n sound in
-    later ts (ap not v) (ap not l)
+stop-passed n lent e =
+    let ts : List Test = stopTests n lent in
+    passes n lent (stoppable (n .state)) (none-applies ts e 1 refl) (none-applies ts e 2 refl) (none-applies ts e 3 refl) (none-applies ts e 9 refl)
 
-pub stop-passed : (n : Node) (sound : Bool) → stopRefusal n sound ≡ 0 → Passed n sound (stoppable (n .state))
-unfolding stopRefusal
-stop-passed n sound e =
-    let ts : List Test = stopTests n sound in
-    passes n sound (stoppable (n .state)) (none-applies ts e 0 (omega arith)) (none-applies ts e 1 (omega arith)) (none-applies ts e 2 (omega arith)) (none-applies ts e 8 (omega arith))
-
-pub enable0-keeps : (n : Node) (sound : Bool) → stopRefusal n sound ≡ 0 → Keeps Kind.enable0 n (disabled n)
+pub enable0-keeps : (n : Node) (lent : ℕ) → stopRefusal n lent ≡ 0 → Keeps Kind.enable0 n (disabled n)
 unfolding disabled endedTransfer transferred wentTo keptOk
-enable0-keeps n sound e =
-    let p = stop-passed n sound e in
+enable0-keeps n lent e =
+    let p = stop-passed n lent e in
     let v = p .rules in
     record {
       rules = valid-of (disabled n) (record { some = v .some; few = v .few; stand = given _ _ (at-node (λ s store create t own. gives (standing s store create t own && (stoppable s)) (standing State.NoIo store create Transfer.Nothing own)) refl n) (and-both (v .stand) (p .from)); ids = v .ids; top = v .top; keeps = v .keeps });
@@ -75,10 +62,10 @@ enable0-keeps n sound e =
       size = refl;
     }
 
-pub fault-keeps : (n : Node) (sound : Bool) → stopRefusal n sound ≡ 0 → Keeps Kind.fault n (wentTo n State.NoIo)
+pub fault-keeps : (n : Node) (lent : ℕ) → stopRefusal n lent ≡ 0 → Keeps Kind.fault n (wentTo n State.NoIo)
 unfolding wentTo keptOk
-fault-keeps n sound e =
-    let p = stop-passed n sound e in
+fault-keeps n lent e =
+    let p = stop-passed n lent e in
     let v = p .rules in
     record {
       rules = valid-of (wentTo n State.NoIo) (record { some = v .some; few = v .few; stand = given _ _ (at-node (λ s store create t own. gives (standing s store create t own && (stoppable s)) (standing State.NoIo store create t own)) refl n) (and-both (v .stand) (p .from)); ids = v .ids; top = v .top; keeps = v .keeps });

@@ -8,39 +8,33 @@ use nodestate::OnStaging;
 use nodestate::State;
 use nodestate::Turn;
 use nodestate::change;
-use nodestate::state_rules;
 use nodestate::states;
 use nodestate::turns;
 use refusals::first;
 
-fn enable1_refusal(n: Node, sound: bool, version: u64, set: u64) -> u64
-    ensures { λ r. ⌜ r ≡ enable1Refusal n sound version set ⌝ }
+fn enable1_refusal(n: Node, lent: u64, version: u64, set: u64) -> u64
+    ensures { λ r. ⌜ r ≡ enable1Refusal n lent version set ⌝ }
 {
-    let ok = state_rules::valid(n);
     let serves = states::is_serving(n);
     let own = sets::has(set, n.id);
     let ids = (15 < n.id) | (65535 < set);
     let high = refusals::VERSION_LIMIT < version;
-    first(
-        !ok,
-        1,
+    turns::common(
+        n,
+        lent,
         first(
-            !sound,
-            2,
-            first(
-                ids,
-                3,
-                first(!serves, 9, first(!own, 10, first(high, 14, 0))),
-            ),
+            ids,
+            3,
+            first(!serves, 9, first(!own, 10, first(high, 14, 0))),
         ),
     )
 }
 
 // Serving to NORMAL, with the version and the member set it is told. Staging is dropped.
-pub fn enable1(n: Node, sound: bool, version: u64, set: u64) -> Turn
-    ensures { λ r. ⌜ r ≡ enable1 n sound version set ⌝ }
+pub fn enable1(n: Node, lent: u64, version: u64, set: u64) -> Turn
+    ensures { λ r. ⌜ r ≡ enable1 n lent version set ⌝ }
 {
-    let why = enable1_refusal(n, sound, version, set);
+    let why = enable1_refusal(n, lent, version, set);
     let next = enabled(n, version, set);
     let effect = turns::does(OnMap::KeepRows(set), OnStaging::Zero);
     let done = turns::turn(Answer::Done, next, effect);
@@ -56,17 +50,12 @@ fn enabled(n: Node, version: u64, set: u64) -> Node
 }
 
 // What refuses enable 0 and fault.
-fn stop_refusal(n: Node, sound: bool) -> u64
-    ensures { λ r. ⌜ r ≡ stopRefusal n sound ⌝ }
+fn stop_refusal(n: Node, lent: u64) -> u64
+    ensures { λ r. ⌜ r ≡ stopRefusal n lent ⌝ }
 {
-    let ok = state_rules::valid(n);
     let s = n.state;
     let may = stoppable(s);
-    first(
-        !ok,
-        1,
-        first(!sound, 2, first(15 < n.id, 3, first(!may, 9, 0))),
-    )
+    turns::common(n, lent, first(15 < n.id, 3, first(!may, 9, 0)))
 }
 
 fn stoppable(s: State) -> bool
@@ -76,10 +65,10 @@ fn stoppable(s: State) -> bool
 }
 
 // NORMAL, NO_IO to NO_IO. Staging is dropped.
-pub fn enable0(n: Node, sound: bool) -> Turn
-    ensures { λ r. ⌜ r ≡ enable0 n sound ⌝ }
+pub fn enable0(n: Node, lent: u64) -> Turn
+    ensures { λ r. ⌜ r ≡ enable0 n lent ⌝ }
 {
-    let why = stop_refusal(n, sound);
+    let why = stop_refusal(n, lent);
     let next = disabled(n);
     let effect = turns::does(OnMap::Keep, OnStaging::Zero);
     let done = turns::turn(Answer::Done, next, effect);
@@ -94,10 +83,10 @@ fn disabled(n: Node) -> Node
 }
 
 // NORMAL, NO_IO to NO_IO. A transfer survives it.
-pub fn fault(n: Node, sound: bool) -> Turn
-    ensures { λ r. ⌜ r ≡ fault n sound ⌝ }
+pub fn fault(n: Node, lent: u64) -> Turn
+    ensures { λ r. ⌜ r ≡ fault n lent ⌝ }
 {
-    let why = stop_refusal(n, sound);
+    let why = stop_refusal(n, lent);
     let next = change::went_to(n, State::NoIo);
     let effect = turns::does(OnMap::Keep, OnStaging::Keep);
     let done = turns::turn(Answer::Done, next, effect);

@@ -3,16 +3,16 @@ use mathlib.Core.Path.{_≡_, refl, sym, ap, _∙_}
 use mathlib.Core.Bool.{Bool, true, false, not}
 use mathlib.Core.List.{List}
 use Prim.Native.Nat.{ℕ}
+use lib.Dec.{eqb}
+use Rattle.laws.specs.Words.{pick}
 use Rattle.laws.specs.Tests.{clash, and-both}
 use Rattle.refusals.specs.Refusals.{applies}
 use Rattle.nodestate.specs.declared.Answer.{Answer}
-use Rattle.nodestate.specs.declared.Node.{Node}
-use Rattle.nodestate.specs.StateRules.{valid}
 use Rattle.node.specs.declared.StorageNode.{StorageNode}
 use Rattle.node.specs.Events.{Event, third}
 use Rattle.node.specs.Face.{lentTo, answers}
-use Rattle.node.proofs.Theorems.{isRefused, Good, fresh-good, stays-good, accepted-keeps}
-use Rattle.nodeevents.specs.Tests.{testsAt, testsOf}
+use Rattle.node.proofs.Theorems.{isRefused, law, Good, fresh-good, stays-good, accepted-keeps}
+use Rattle.nodeevents.specs.Tests.{testsOf}
 use Rattle.nodeevents.specs.Demand1.{isAccepted, Verdict}
 use Rattle.nodeevents.specs.Demand2.{Reached, RulesKept, NeverOne, NeverTwo, ByTheTable}
 use Rattle.nodeevents.proofs.Demand1.{demand-1}
@@ -23,28 +23,6 @@ reached-good _ _ _ (Reached.then s xs ys e r) = stays-good e s xs ys (reached-go
 
 pub rules-kept : RulesKept
 rules-kept s xs ys r = let g = reached-good s xs ys r in (g .rules, g .map, g .staging)
-
--- 1 applies where the rules are broken, 2 where a lent map is unsound
-first-two : (e : Event) (n : Node) (lent : Bool) → (applies 1 (testsAt e n lent) ≡ not (valid n)) × (applies 2 (testsAt e n lent) ≡ not lent)
-first-two Event.registerCreate n lent = (refl, refl)
-first-two (Event.registerAdd set version) n lent = (refl, refl)
-first-two (Event.unregister delete) n lent = (refl, refl)
-first-two (Event.joinCreate set) n lent = (refl, refl)
-first-two Event.assemble n lent = (refl, refl)
-first-two (Event.leave delete) n lent = (refl, refl)
-first-two (Event.enable1 version set) n lent = (refl, refl)
-first-two Event.enable0 n lent = (refl, refl)
-first-two Event.fault n lent = (refl, refl)
-first-two (Event.write chunk set version) n lent = (refl, refl)
-first-two (Event.synced member chunk) n lent = (refl, refl)
-first-two (Event.poolInfo op member) n lent = (refl, refl)
-first-two (Event.mapReady keep) n lent = (refl, refl)
-first-two Event.give n lent = (refl, refl)
-first-two (Event.take zs) n lent = (refl, refl)
-first-two (Event.mapDone enabling version set) n lent = (refl, refl)
-first-two Event.mapDisable n lent = (refl, refl)
-first-two Event.mapGetVer n lent = (refl, refl)
-first-two (Event.lastIoToMap chosen) n lent = (refl, refl)
 
 -- a refusal that was given applies
 given : (e : Event) (s : StorageNode) (xs ys : List ℕ) (n : ℕ) → answers e s xs ys .answer ≡ Answer.Refused n → applies n (testsOf e s xs ys) ≡ true
@@ -57,13 +35,13 @@ given e s xs ys n q = at (demand-1 e s xs ys)
 pub never-one : NeverOne
 never-one s xs ys r e n q z =
     clash (ap (λ (k : ℕ). applies k (testsOf e s xs ys)) (sym z) ∙ given e s xs ys n q)
-    (first-two e (s .node) (lentTo (third e) (s .node) xs ys) .0 ∙ ap not (reached-good s xs ys r .rules))
+    (law e (s .node) (lentTo (third e) (s .node) xs ys) .one ∙ ap not (reached-good s xs ys r .rules))
 
 pub never-two : NeverTwo
 never-two s xs ys r e n t q z =
     let g = reached-good s xs ys r in
     clash (ap (λ (k : ℕ). applies k (testsOf e s xs ys)) (sym z) ∙ given e s xs ys n q)
-    (first-two e (s .node) (lentTo (third e) (s .node) xs ys) .1 ∙ ap not (and-both t (and-both (g .map) (g .staging))))
+    (law e (s .node) (lentTo (third e) (s .node) xs ys) .two ∙ ap (λ (b : Bool). eqb (pick (not b) 2 0) 2) (and-both t (and-both (g .map) (g .staging))))
 
 pub taken-plain : (a : Answer) → isAccepted a ≡ true → isRefused a ≡ false
 taken-plain (Answer.Refused n) e = clash e refl

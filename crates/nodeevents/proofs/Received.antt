@@ -1,14 +1,15 @@
 -- A map received: MAP_READY, a map taken, MAP_DONE, one right after the other. What is left follows from what each of the three is said to leave.
 use mathlib.Core.Path.{_≡_, refl, sym, ap, _∙_}
-use mathlib.Core.Bool.{Bool, true, false, _&&_}
+use mathlib.Core.Bool.{Bool, true, false, not, _&&_}
 use mathlib.Core.List.{List}
 use Prim.Native.Nat.{ℕ, _/_, _%_, _≤_, _<_, max}
 use native.Mathlib.Omega.{arith}
 use lib.ListN.{getD, replicate, getD-replicate}
 use borrow.Author.Tests.{le-ltb}
-use Rattle.laws.specs.Words.{bit}
+use lib.Dec.{eqb}
+use Rattle.laws.specs.Words.{pick, bit}
 use Rattle.laws.specs.Bits.{bit-none}
-use Rattle.laws.specs.Tests.{clash, and-both}
+use Rattle.laws.specs.Tests.{and-both}
 use Rattle.refusals.specs.Limits.{versionLimit}
 use Rattle.sets.specs.Sets.{has}
 use Rattle.sets.proofs.Laws.{has-below}
@@ -16,7 +17,7 @@ use Rattle.chunks.specs.Chunk.{byteOf, dirty}
 use Rattle.chunks.proofs.Laws.{dirty-there}
 use Rattle.maps.specs.Map.{sound}
 use Rattle.maps.proofs.Sound.{Sound, sound-fact, same-chunks}
-use Rattle.nodestate.specs.declared.Answer.{Answer}
+use Rattle.refusals.specs.Refusals.{refusal}
 use Rattle.nodestate.specs.declared.Node.{Node}
 use Rattle.nodestate.specs.declared.Turn.{Turn}
 use Rattle.nodestate.specs.Change.{wentTo, transferred}
@@ -25,11 +26,11 @@ use Rattle.nodestate.specs.StateRules.{valid}
 use Rattle.nodemaps.proofs.Rows.{dirty-nowhere}
 use Rattle.nodeserve.specs.Serve.{serveRefusal, readied}
 use Rattle.nodehand.specs.Hand.{handRefusal, mapDoneRefusal, mapTaken}
-use Rattle.node.specs.Events.{Event, third}
+use Rattle.node.specs.Events.{Event, third, testsAt}
 use Rattle.node.specs.Face.{lentTo, answers}
 use Rattle.node.specs.Held.{Held, next}
-use Rattle.node.proofs.Theorems.{isRefused, shape, accepted-by, Good, stays-good}
-use Rattle.nodeevents.specs.Demand1 as demand
+use Rattle.node.proofs.Theorems.{law, accepted-by, Good, stays-good}
+use Rattle.nodeevents.proofs.Demand1.{not-refused}
 use Rattle.nodeevents.specs.Said.{Accepts, Rows, In, ready, took, Received, OldMarksGone, OldMarksKept, Receives}
 use Rattle.nodeevents.proofs.Said.{known, third-sound, staging-sound, each-bit, staging-as-said, transfer-as-said, map-as-said}
 
@@ -39,11 +40,11 @@ record Leaves (w v : Held) : Type 0 where
   count : v .at .node .chunks ≡ w .at .node .chunks
 
 ready-leaves : (keep : Bool) (w : Held) → Accepts (Event.mapReady keep) w → Leaves w (ready keep w)
-unfolding shape readied wentTo transferred
+unfolding law readied wentTo transferred
 ready-leaves keep w a = let q = known (Event.mapReady keep) w a .turn in record { id = ap (λ (t : Turn). t .node .id) q; count = ap (λ (t : Turn). t .node .chunks) q }
 
 take-leaves : (zs : List ℕ) (w : Held) → Accepts (Event.take zs) w → Leaves w (next (Event.take zs) w)
-unfolding shape mapTaken transferred
+unfolding law mapTaken transferred
 take-leaves zs w a = let q = known (Event.take zs) w a .turn in record { id = ap (λ (t : Turn). t .node .id) q; count = ap (λ (t : Turn). t .node .chunks) q }
 
 -- ---- what is left
@@ -102,20 +103,15 @@ old-marks-kept zs enabling version set w r =
 
 -- ---- all three are accepted
 
-not-refused : (a : Answer) → isRefused a ≡ false → demand.isAccepted a ≡ true
-not-refused (Answer.Refused n) e = clash refl e
-not-refused Answer.Done e = refl
-not-refused (Answer.Version v) e = refl
-
-serve-none : (n : Node) (lent : Bool) → valid n ≡ true → lent ≡ true → n .id < 16 → isServing n ≡ true → serveRefusal n lent ≡ 0
+serve-none : (n : Node) (lent : ℕ) → valid n ≡ true → eqb lent 2 ≡ false → n .id < 16 → isServing n ≡ true → serveRefusal n lent ≡ 0
 unfolding serveRefusal
 serve-none n lent v l i s = rw (v, l, le-ltb 15 (n .id) (omega arith), s)
 
-hand-none : (n : Node) (lent : Bool) → valid n ≡ true → lent ≡ true → n .id < 16 → inHand (n .transfer) ≡ true → handRefusal n lent ≡ 0
+hand-none : (n : Node) (lent : ℕ) → valid n ≡ true → eqb lent 2 ≡ false → n .id < 16 → inHand (n .transfer) ≡ true → handRefusal n lent ≡ 0
 unfolding handRefusal
 hand-none n lent v l i s = rw (v, l, le-ltb 15 (n .id) (omega arith), s)
 
-done-none : (n : Node) (lent : Bool) (version set : ℕ) → valid n ≡ true → lent ≡ true → n .id < 16 → set ≤ 65535 → has set (n .id) ≡ true → version ≤ versionLimit → isMapTaken (n .transfer) ≡ true → mapDoneRefusal n lent version set ≡ 0
+done-none : (n : Node) (lent : ℕ) (version set : ℕ) → valid n ≡ true → eqb lent 2 ≡ false → n .id < 16 → set ≤ 65535 → has set (n .id) ≡ true → version ≤ versionLimit → isMapTaken (n .transfer) ≡ true → mapDoneRefusal n lent version set ≡ 0
 unfolding mapDoneRefusal
 done-none n lent version set v l i b h o s = rw (v, l, le-ltb 15 (n .id) (omega arith), le-ltb 65535 set b, h, le-ltb versionLimit version o, s)
 
@@ -125,21 +121,25 @@ GoodAt w = Good (w .at) (w .map) (w .staging)
 both : (w : Held) → GoodAt w → (sound (w .at .node .chunks) (w .map) && sound (w .at .node .chunks) (w .staging)) ≡ true
 both w g = and-both (g .map) (g .staging)
 
-taken-by : (e : Event) (w : Held) → shape e (w .at .node) (lentTo (third e) (w .at .node) (w .map) (w .staging)) .why ≡ 0 → Accepts e w
+-- sound maps do not refuse
+not-lent : {b : Bool} → b ≡ true → eqb (pick (not b) 2 0) 2 ≡ false
+not-lent e = rw e refl
+
+taken-by : (e : Event) (w : Held) → refusal (testsAt e (w .at .node) (lentTo (third e) (w .at .node) (w .map) (w .staging))) ≡ 0 → Accepts e w
 taken-by e w z = not-refused (answers e (w .at) (w .map) (w .staging) .answer) (accepted-by e (w .at) (w .map) (w .staging) z)
 
 readies : (keep : Bool) (w : Held) → GoodAt w → w .at .node .id < 16 → isServing (w .at .node) ≡ true → Accepts (Event.mapReady keep) w
-unfolding shape
-readies keep w g i s = taken-by (Event.mapReady keep) w (serve-none (w .at .node) _ (g .rules) (both w g) i s)
+unfolding serveRefusal
+readies keep w g i s = taken-by (Event.mapReady keep) w (serve-none (w .at .node) (lentTo (third (Event.mapReady keep)) (w .at .node) (w .map) (w .staging)) (g .rules) (not-lent (both w g)) i s)
 
 takes : (zs : List ℕ) (w : Held) → GoodAt w → w .at .node .id < 16 → sound (w .at .node .chunks) zs ≡ true → inHand (w .at .node .transfer) ≡ true → Accepts (Event.take zs) w
-unfolding shape
-takes zs w g i z t = taken-by (Event.take zs) w (hand-none (w .at .node) _ (g .rules) (and-both z (both w g)) i t)
+unfolding handRefusal
+takes zs w g i z t = taken-by (Event.take zs) w (hand-none (w .at .node) (lentTo (third (Event.take zs)) (w .at .node) (w .map) (w .staging)) (g .rules) (not-lent (and-both z (both w g))) i t)
 
 commits : (enabling : Bool) (version set : ℕ) (w : Held) → GoodAt w → set ≤ 65535 → has set (w .at .node .id) ≡ true → version ≤ versionLimit → isMapTaken (w .at .node .transfer) ≡ true → Accepts (Event.mapDone enabling version set) w
-unfolding shape
+unfolding mapDoneRefusal
 commits enabling version set w g b h o t =
-    taken-by (Event.mapDone enabling version set) w (done-none (w .at .node) _ version set (g .rules) (both w g) (has-below set (w .at .node .id) h) b h o t)
+    taken-by (Event.mapDone enabling version set) w (done-none (w .at .node) (lentTo (third (Event.mapDone enabling version set)) (w .at .node) (w .map) (w .staging)) version set (g .rules) (not-lent (both w g)) (has-below set (w .at .node .id) h) b h o t)
 
 pub receives : Receives
 receives keep zs enabling version set w k v m y s z b h o = record { readies = a₁; takes = a₂; commits = a₃ }

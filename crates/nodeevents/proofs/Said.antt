@@ -34,7 +34,7 @@ use Rattle.nodestate.proofs.Valid.{Valid, kept-below, at-node}
 use Rattle.noderegister.specs.Register.{registeredCreate, registeredAdd, wiped, unregistered, dropsStaging}
 use Rattle.nodejoins.specs.Join.{joinedCreate, left}
 use Rattle.nodeenables.specs.Enable.{enabled, disabled}
-use Rattle.nodewrites.specs.Write.{written}
+use Rattle.nodewrites.specs.Write.{writeRefusal, written}
 use Rattle.nodewrites.specs.Info.{informed}
 use Rattle.nodeserve.specs.Serve.{readied}
 use Rattle.nodehand.specs.Hand.{mapTaken, committed}
@@ -46,15 +46,15 @@ use Rattle.nodewrites.proofs.Keeps.{write-chunk}
 use Rattle.node.specs.Events.{Event, third}
 use Rattle.node.specs.Face.{answers, lentTo, soundThird, mapBy, stagingBy, stagingWith}
 use Rattle.node.specs.Held.{Held}
-use Rattle.node.proofs.Theorems.{shape, Accepted, accepted-done}
-use Rattle.nodeevents.specs.Said.{Accepts, Zeroed, Rows, Marked, Cleared, Ored, keptChunks, AmongKept, LastIos, SaidOfStaging, StagingAsSaid, SaidOfTransfer, TransferAsSaid, In, SaidOfMap, MapAsSaid, lastSixteen, SaidOfKept, KeptAsSaid}
+use Rattle.node.proofs.Theorems.{law, Accepted, accepted-done}
+use Rattle.nodeevents.specs.Said.{Accepts, Zeroed, Rows, Marked, Cleared, Ored, keptChunks, AmongKept, LastIos, saidOf, StagingAsSaid, TransferAsSaid, In, MapAsSaid, lastSixteen, KeptAsSaid}
 use Rattle.nodeevents.proofs.Demand2.{taken-plain}
 
 -- ---- an accepted event
 
 -- the turn that it does
 abbrev doneAt : Event → Held → Turn
-doneAt e w = shape e (w .at .node) (lentTo (third e) (w .at .node) (w .map) (w .staging)) .done
+doneAt e w = law e (w .at .node) (lentTo (third e) (w .at .node) (w .map) (w .staging)) .done
 
 abbrev pub Known : Event → Held → Type 0
 Known e w = Accepted e (w .at) (w .map) (w .staging)
@@ -175,34 +175,6 @@ dropped State.Created xs ys e = (λ q. cc q, λ d. refl)
 dropped State.Normal xs ys e = (λ q. cc q, λ d. refl)
 dropped State.NoIo xs ys e = (λ q. all-zero ys e, λ d. absurd (d refl))
 
-staging-done : (e : Event) (w : Held) → Known e w → SaidOfStaging e w (stagingWith (third e) (doneAt e w .effect .staging) (stagingBy (doneAt e w) (w .map) (w .staging)))
-unfolding shape stagingBy mapBy stagingAfter mapAfter takenIn
-staging-done Event.registerCreate w d = refl
-staging-done (Event.registerAdd set version) w d = refl
-staging-done (Event.unregister delete) w d = dropped (w .at .node .state) _ (w .staging) (staging-sound (Event.unregister delete) w d .len)
-staging-done (Event.joinCreate set) w d = refl
-staging-done Event.assemble w d = refl
-staging-done (Event.leave delete) w d = all-zero (w .staging) (staging-sound (Event.leave delete) w d .len)
-staging-done (Event.enable1 version set) w d = all-zero (w .staging) (staging-sound (Event.enable1 version set) w d .len)
-staging-done Event.enable0 w d = all-zero (w .staging) (staging-sound Event.enable0 w d .len)
-staging-done Event.fault w d = refl
-staging-done (Event.write chunk set version) w d = refl
-staging-done (Event.synced member chunk) w d = refl
-staging-done (Event.poolInfo op member) w d = refl
-staging-done (Event.mapReady true) w d = copied-all (w .staging) (w .map) (staging-sound (Event.mapReady true) w d .len ∙ sym (map-sound (Event.mapReady true) w d .len))
-staging-done (Event.mapReady false) w d = all-zero (w .staging) (staging-sound (Event.mapReady false) w d .len)
-staging-done Event.give w d = refl
-staging-done (Event.take zs) w d = ors (w .at .node .chunks) (w .staging) (staging-sound (Event.take zs) w d) zs (sound-fact _ _ (third-sound (Event.take zs) w d))
-staging-done (Event.mapDone enabling version set) w d = all-zero (w .staging) (staging-sound (Event.mapDone enabling version set) w d .len)
-staging-done Event.mapDisable w d = all-zero (w .staging) (staging-sound Event.mapDisable w d .len)
-staging-done Event.mapGetVer w d = refl
-staging-done (Event.lastIoToMap chosen) w d = refl
-
-pub staging-as-said : StagingAsSaid
-staging-as-said e w a =
-    let d = known e w a in
-    subst (λ (t : Turn). SaidOfStaging e w (stagingWith (third e) (t .effect .staging) (stagingBy t (w .map) (w .staging)))) (sym (d .turn)) (staging-done e w d)
-
 -- ---- the map
 
 few-held : (n : Node) → Valid n → n .held ≤ 16
@@ -253,41 +225,6 @@ module _ (n : Node) (chosen : ℕ) (ys xs : List ℕ) (v : Valid n) (s : Sound (
         others = λ m c d. bit-stays m c (λ hm hc. by-cases (has (n .members) m) (λ h. rw (no-place c (λ k. d (k, h))) (omega arith)) (λ h. rw (not-true _ (λ q. clash (still (n .members) chosen m q .0) h)) (omega arith)));
       }
 
-map-done : (e : Event) (w : Held) → Known e w → SaidOfMap e w (mapBy (doneAt e w) (w .map) (w .staging))
-unfolding shape mapBy mapAfter
-map-done Event.registerCreate w d = all-zero (w .map) (map-sound Event.registerCreate w d .len)
-map-done (Event.registerAdd set version) w d = refl
-map-done (Event.unregister true) w d = all-zero (w .map) (map-sound (Event.unregister true) w d .len)
-map-done (Event.unregister false) w d = refl
-map-done (Event.joinCreate set) w d = own-row (w .at .node .chunks) (w .map) (map-sound (Event.joinCreate set) w d) (w .at .node .id)
-map-done Event.assemble w d = refl
-map-done (Event.leave true) w d = own-row (w .at .node .chunks) (w .map) (map-sound (Event.leave true) w d) (w .at .node .id)
-map-done (Event.leave false) w d = refl
-map-done (Event.enable1 version set) w d = set-rows (w .at .node .chunks) (w .map) (map-sound (Event.enable1 version set) w d) set
-map-done Event.enable0 w d = refl
-map-done Event.fault w d = refl
-map-done (Event.write chunk set version) w d = marks (w .at .node .chunks) (w .map) (map-sound (Event.write chunk set version) w d) set chunk (ltb-true _ _ (write-chunk (w .at .node) _ chunk set version (d .none))) (d .rules .few)
-map-done (Event.synced member chunk) w d = clears (w .at .node .chunks) (w .map) (map-sound (Event.synced member chunk) w d) member chunk
-map-done (Event.poolInfo Op.AddCreate member) w d = other-rows (w .at .node .chunks) (w .map) (map-sound (Event.poolInfo Op.AddCreate member) w d) member
-map-done (Event.poolInfo Op.AddAssemble member) w d = refl
-map-done (Event.poolInfo Op.RemoveDelete member) w d = other-rows (w .at .node .chunks) (w .map) (map-sound (Event.poolInfo Op.RemoveDelete member) w d) member
-map-done (Event.poolInfo Op.RemoveDisassemble member) w d = refl
-map-done (Event.mapReady keep) w d = refl
-map-done Event.give w d = refl
-map-done (Event.take zs) w d = refl
-map-done (Event.mapDone enabling version set) w d =
-    let e : Event = Event.mapDone enabling version set in
-    let s : Sound (w .at .node .chunks) (w .staging) = staging-sound e w d in
-    rw (copied-all (w .map) (w .staging) (map-sound e w d .len ∙ sym (s .len))) (set-rows (w .at .node .chunks) (w .staging) s set)
-map-done Event.mapDisable w d = refl
-map-done Event.mapGetVer w d = refl
-map-done (Event.lastIoToMap chosen) w d =
-    let e : Event = Event.lastIoToMap chosen in
-    unfold marked in last-ios (w .at .node) chosen (w .staging) (w .map) (d .rules) (map-sound e w d) (staging-sound e w d)
-
-pub map-as-said : MapAsSaid
-map-as-said e w a = let d = known e w a in subst (λ (t : Turn). SaidOfMap e w (mapBy t (w .map) (w .staging))) (sym (d .turn)) (map-done e w d)
-
 -- ---- the kept chunks after a write
 
 drop-front : (i : ℕ) (xs ys : List ℕ) → i ≤ length xs → drop i (xs ++ ys) ≡ drop i xs ++ ys
@@ -336,40 +273,208 @@ none-else n v d = at (n .transfer) refl
     at Transfer.Ready e = absurd (d (in-no-io n v (ap inHand e)))
     at Transfer.Taken e = absurd (d (in-no-io n v (ap inHand e)))
 
-node-done : (e : Event) (w : Held) → Known e w
-    → SaidOfTransfer e (w .at .node .state) (w .at .node .transfer) (doneAt e w .node .transfer)
-    × (length (w .at .node .kept) ≡ 16 → SaidOfKept e (keptChunks (w .at .node)) (keptChunks (doneAt e w .node)))
-unfolding shape wentTo equipped takenOver memberEntered memberDropped storedVersion keptChunk forgotten transferred endedTransfer instructed registeredCreate registeredAdd unregistered wiped joinedCreate left enabled disabled informed readied mapTaken committed written
-node-done Event.registerCreate w d = (refl, λ h. refl)
-node-done (Event.registerAdd set version) w d = (refl, λ h. refl)
-node-done (Event.unregister true) w d = ((λ q. refl, λ s. none-else (w .at .node) (d .rules) s), λ h. refl)
-node-done (Event.unregister false) w d = ((λ q. refl, λ s. none-else (w .at .node) (d .rules) s), λ h. refl)
-node-done (Event.joinCreate set) w d = (refl, λ h. refl)
-node-done Event.assemble w d = (refl, λ h. refl)
-node-done (Event.leave delete) w d = (refl, λ h. refl)
-node-done (Event.enable1 version set) w d = (refl, λ h. refl)
-node-done Event.enable0 w d = (refl, λ h. refl)
-node-done Event.fault w d = (refl, λ h. refl)
-node-done (Event.write chunk set version) w d = (refl, λ h. one-more (w .at .node .kept) (w .at .node .held) chunk h (few-held (w .at .node) (d .rules)))
-node-done (Event.synced member chunk) w d = (refl, λ h. refl)
-node-done (Event.poolInfo Op.AddCreate member) w d = (refl, λ h. refl)
-node-done (Event.poolInfo Op.AddAssemble member) w d = (refl, λ h. refl)
-node-done (Event.poolInfo Op.RemoveDelete member) w d = (refl, λ h. refl)
-node-done (Event.poolInfo Op.RemoveDisassemble member) w d = (refl, λ h. refl)
-node-done (Event.mapReady keep) w d = (refl, λ h. refl)
-node-done Event.give w d = (refl, λ h. refl)
-node-done (Event.take zs) w d = (refl, λ h. refl)
-node-done (Event.mapDone enabling version set) w d = (refl, λ h. refl)
-node-done Event.mapDisable w d = (refl, λ h. refl)
-node-done Event.mapGetVer w d = (refl, λ h. refl)
-node-done (Event.lastIoToMap chosen) w d = (refl, λ h. refl)
+-- ---- every event
+
+-- what is left of an accepted event's node is as said
+record Done (e : Event) (w : Held) : Type 0 where
+  staging : saidOf e w .staging (stagingWith (third e) (doneAt e w .effect .staging) (stagingBy (doneAt e w) (w .map) (w .staging)))
+  transfer : saidOf e w .transfer (doneAt e w .node .transfer)
+  map : saidOf e w .map (mapBy (doneAt e w) (w .map) (w .staging))
+  kept : length (w .at .node .kept) ≡ 16 → saidOf e w .kept (keptChunks (doneAt e w .node))
+
+done : (e : Event) (w : Held) → Known e w → Done e w
+unfolding law stagingBy mapBy stagingAfter mapAfter takenIn wentTo equipped takenOver memberEntered memberDropped storedVersion keptChunk forgotten transferred endedTransfer instructed registeredCreate registeredAdd unregistered wiped joinedCreate left enabled disabled informed readied mapTaken committed written writeRefusal
+done Event.registerCreate w d =
+    record {
+      staging = refl;
+      transfer = refl;
+      map = all-zero (w .map) (map-sound Event.registerCreate w d .len);
+      kept = λ h. refl;
+    }
+done (Event.registerAdd set version) w d =
+    record {
+      staging = refl;
+      transfer = refl;
+      map = refl;
+      kept = λ h. refl;
+    }
+done (Event.unregister true) w d =
+    record {
+      staging = dropped (w .at .node .state) _ (w .staging) (staging-sound (Event.unregister true) w d .len);
+      transfer = (λ q. refl, λ s. none-else (w .at .node) (d .rules) s);
+      map = all-zero (w .map) (map-sound (Event.unregister true) w d .len);
+      kept = λ h. refl;
+    }
+done (Event.unregister false) w d =
+    record {
+      staging = dropped (w .at .node .state) _ (w .staging) (staging-sound (Event.unregister false) w d .len);
+      transfer = (λ q. refl, λ s. none-else (w .at .node) (d .rules) s);
+      map = refl;
+      kept = λ h. refl;
+    }
+done (Event.joinCreate set) w d =
+    record {
+      staging = refl;
+      transfer = refl;
+      map = own-row (w .at .node .chunks) (w .map) (map-sound (Event.joinCreate set) w d) (w .at .node .id);
+      kept = λ h. refl;
+    }
+done Event.assemble w d =
+    record {
+      staging = refl;
+      transfer = refl;
+      map = refl;
+      kept = λ h. refl;
+    }
+done (Event.leave true) w d =
+    record {
+      staging = all-zero (w .staging) (staging-sound (Event.leave true) w d .len);
+      transfer = refl;
+      map = own-row (w .at .node .chunks) (w .map) (map-sound (Event.leave true) w d) (w .at .node .id);
+      kept = λ h. refl;
+    }
+done (Event.leave false) w d =
+    record {
+      staging = all-zero (w .staging) (staging-sound (Event.leave false) w d .len);
+      transfer = refl;
+      map = refl;
+      kept = λ h. refl;
+    }
+done (Event.enable1 version set) w d =
+    record {
+      staging = all-zero (w .staging) (staging-sound (Event.enable1 version set) w d .len);
+      transfer = refl;
+      map = set-rows (w .at .node .chunks) (w .map) (map-sound (Event.enable1 version set) w d) set;
+      kept = λ h. refl;
+    }
+done Event.enable0 w d =
+    record {
+      staging = all-zero (w .staging) (staging-sound Event.enable0 w d .len);
+      transfer = refl;
+      map = refl;
+      kept = λ h. refl;
+    }
+done Event.fault w d =
+    record {
+      staging = refl;
+      transfer = refl;
+      map = refl;
+      kept = λ h. refl;
+    }
+done (Event.write chunk set version) w d =
+    record {
+      staging = refl;
+      transfer = refl;
+      map = marks (w .at .node .chunks) (w .map) (map-sound (Event.write chunk set version) w d) set chunk (ltb-true _ _ (write-chunk (w .at .node) (lentTo (third (Event.write chunk set version)) (w .at .node) (w .map) (w .staging)) chunk set version (d .none))) (d .rules .few);
+      kept = λ h. one-more (w .at .node .kept) (w .at .node .held) chunk h (few-held (w .at .node) (d .rules));
+    }
+done (Event.synced member chunk) w d =
+    record {
+      staging = refl;
+      transfer = refl;
+      map = clears (w .at .node .chunks) (w .map) (map-sound (Event.synced member chunk) w d) member chunk;
+      kept = λ h. refl;
+    }
+done (Event.poolInfo Op.AddCreate member) w d =
+    record {
+      staging = refl;
+      transfer = refl;
+      map = other-rows (w .at .node .chunks) (w .map) (map-sound (Event.poolInfo Op.AddCreate member) w d) member;
+      kept = λ h. refl;
+    }
+done (Event.poolInfo Op.AddAssemble member) w d =
+    record {
+      staging = refl;
+      transfer = refl;
+      map = refl;
+      kept = λ h. refl;
+    }
+done (Event.poolInfo Op.RemoveDelete member) w d =
+    record {
+      staging = refl;
+      transfer = refl;
+      map = other-rows (w .at .node .chunks) (w .map) (map-sound (Event.poolInfo Op.RemoveDelete member) w d) member;
+      kept = λ h. refl;
+    }
+done (Event.poolInfo Op.RemoveDisassemble member) w d =
+    record {
+      staging = refl;
+      transfer = refl;
+      map = refl;
+      kept = λ h. refl;
+    }
+done (Event.mapReady true) w d =
+    record {
+      staging = copied-all (w .staging) (w .map) (staging-sound (Event.mapReady true) w d .len ∙ sym (map-sound (Event.mapReady true) w d .len));
+      transfer = refl;
+      map = refl;
+      kept = λ h. refl;
+    }
+done (Event.mapReady false) w d =
+    record {
+      staging = all-zero (w .staging) (staging-sound (Event.mapReady false) w d .len);
+      transfer = refl;
+      map = refl;
+      kept = λ h. refl;
+    }
+done Event.give w d =
+    record {
+      staging = refl;
+      transfer = refl;
+      map = refl;
+      kept = λ h. refl;
+    }
+done (Event.take zs) w d =
+    record {
+      staging = ors (w .at .node .chunks) (w .staging) (staging-sound (Event.take zs) w d) zs (sound-fact _ _ (third-sound (Event.take zs) w d));
+      transfer = refl;
+      map = refl;
+      kept = λ h. refl;
+    }
+done (Event.mapDone enabling version set) w d =
+    record {
+      staging = all-zero (w .staging) (staging-sound (Event.mapDone enabling version set) w d .len);
+      transfer = refl;
+      map =
+          let e : Event = Event.mapDone enabling version set in
+          let s : Sound (w .at .node .chunks) (w .staging) = staging-sound e w d in
+          rw (copied-all (w .map) (w .staging) (map-sound e w d .len ∙ sym (s .len))) (set-rows (w .at .node .chunks) (w .staging) s set);
+      kept = λ h. refl;
+    }
+done Event.mapDisable w d =
+    record {
+      staging = all-zero (w .staging) (staging-sound Event.mapDisable w d .len);
+      transfer = refl;
+      map = refl;
+      kept = λ h. refl;
+    }
+done Event.mapGetVer w d =
+    record {
+      staging = refl;
+      transfer = refl;
+      map = refl;
+      kept = λ h. refl;
+    }
+done (Event.lastIoToMap chosen) w d =
+    record {
+      staging = refl;
+      transfer = refl;
+      map =
+          let e : Event = Event.lastIoToMap chosen in
+          unfold marked in last-ios (w .at .node) chosen (w .staging) (w .map) (d .rules) (map-sound e w d) (staging-sound e w d);
+      kept = λ h. refl;
+    }
+
+pub staging-as-said : StagingAsSaid
+staging-as-said e w a =
+    let d = known e w a in
+    subst (λ (t : Turn). saidOf e w .staging (stagingWith (third e) (t .effect .staging) (stagingBy t (w .map) (w .staging)))) (sym (d .turn)) (done e w d .staging)
 
 pub transfer-as-said : TransferAsSaid
-transfer-as-said e w a =
-    let d = known e w a in
-    subst (λ (t : Turn). SaidOfTransfer e (w .at .node .state) (w .at .node .transfer) (t .node .transfer)) (sym (d .turn)) (node-done e w d .0)
+transfer-as-said e w a = let d = known e w a in subst (λ (t : Turn). saidOf e w .transfer (t .node .transfer)) (sym (d .turn)) (done e w d .transfer)
+
+pub map-as-said : MapAsSaid
+map-as-said e w a = let d = known e w a in subst (λ (t : Turn). saidOf e w .map (mapBy t (w .map) (w .staging))) (sym (d .turn)) (done e w d .map)
 
 pub kept-as-said : KeptAsSaid
-kept-as-said e w h a =
-    let d = known e w a in
-    subst (λ (t : Turn). SaidOfKept e (keptChunks (w .at .node)) (keptChunks (t .node))) (sym (d .turn)) (node-done e w d .1 h)
+kept-as-said e w h a = let d = known e w a in subst (λ (t : Turn). saidOf e w .kept (keptChunks (t .node))) (sym (d .turn)) (done e w d .kept h)

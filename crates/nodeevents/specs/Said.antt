@@ -6,6 +6,7 @@ use mathlib.Core.Bool.{Bool, true, false}
 use mathlib.Core.List.{List, [], _∷_, _++_}
 use Prim.Native.Nat.{ℕ, _-_, _/_, _≤_, _<_, max}
 use lib.ListN.{length, getD, drop, replicate}
+use Rattle.laws.specs.Words.{pick}
 use Rattle.refusals.specs.Limits.{versionLimit}
 use Rattle.sets.specs.Sets.{has}
 use Rattle.chunks.specs.Chunk.{dirty}
@@ -72,64 +73,31 @@ pub record LastIos (n : Node) (chosen : ℕ) (from left : List ℕ) : Type 0 whe
   pub stay : (m c : ℕ) → dirty from m c ≡ 1 → dirty left m c ≡ 1
   pub others : (m c : ℕ) → ¬ (AmongKept n c × (has (n .members) m ≡ true)) → dirty left m c ≡ dirty from m c
 
--- ---- staging after each event
+-- ---- what is said of each event
 
--- "MAP_READY .. fills staging (zero, or the map)". "Taking a map ORs it in." "MAP_DISABLE, Leave and Enable drop staging; dropped or committed, it is zeroed."
--- Unregister: "NO_IO with store stays, without it, staging dropped". "What a rule does not name stays."
-abbrev pub SaidOfStaging : Event → Held → List ℕ → Type 0
-SaidOfStaging Event.registerCreate w left = left ≡ w .staging
-SaidOfStaging (Event.registerAdd set version) w left = left ≡ w .staging
-SaidOfStaging (Event.unregister delete) w left = (w .at .node .state ≡ State.NoIo → Zeroed left) × (w .at .node .state ≢ State.NoIo → left ≡ w .staging)
-SaidOfStaging (Event.joinCreate set) w left = left ≡ w .staging
-SaidOfStaging Event.assemble w left = left ≡ w .staging
-SaidOfStaging (Event.leave delete) w left = Zeroed left
-SaidOfStaging (Event.enable1 version set) w left = Zeroed left
-SaidOfStaging Event.enable0 w left = Zeroed left
-SaidOfStaging Event.fault w left = left ≡ w .staging
-SaidOfStaging (Event.write chunk set version) w left = left ≡ w .staging
-SaidOfStaging (Event.synced member chunk) w left = left ≡ w .staging
-SaidOfStaging (Event.poolInfo op member) w left = left ≡ w .staging
-SaidOfStaging (Event.mapReady true) w left = left ≡ w .map
-SaidOfStaging (Event.mapReady false) w left = Zeroed left
-SaidOfStaging Event.give w left = left ≡ w .staging
-SaidOfStaging (Event.take zs) w left = Ored (w .staging) zs left
-SaidOfStaging (Event.mapDone enabling version set) w left = Zeroed left
-SaidOfStaging Event.mapDisable w left = Zeroed left
-SaidOfStaging Event.mapGetVer w left = left ≡ w .staging
-SaidOfStaging (Event.lastIoToMap chosen) w left = left ≡ w .staging
+-- of what it leaves: of staging, of the transfer in hand, of the map, of the kept chunks
+pub record Sentence : Type 1 where
+  pub staging : List ℕ → Type 0
+  pub transfer : Transfer → Type 0
+  pub map : List ℕ → Type 0
+  pub kept : List ℕ → Type 0
 
--- Assumed: the event is accepted.
-abbrev pub StagingAsSaid : Type 0
-StagingAsSaid = (e : Event) (w : Held) → Accepts e w → SaidOfStaging e w (next e w .staging)
+-- "What a rule does not name stays."
+abbrev pub StagingStays : Held → List ℕ → Type 0
+StagingStays w left = left ≡ w .staging
 
--- The transfer in hand goes with it: begun by MAP_READY (also where one is in hand), gone where staging is dropped or committed. Fault, assemble or rejoin and
--- POOL_INFO leave it.
-abbrev pub SaidOfTransfer : Event → State → Transfer → Transfer → Type 0
-SaidOfTransfer Event.registerCreate s was left = left ≡ was
-SaidOfTransfer (Event.registerAdd set version) s was left = left ≡ was
-SaidOfTransfer (Event.unregister delete) s was left = (s ≡ State.NoIo → left ≡ Transfer.Nothing) × (s ≢ State.NoIo → left ≡ was)
-SaidOfTransfer (Event.joinCreate set) s was left = left ≡ was
-SaidOfTransfer Event.assemble s was left = left ≡ was
-SaidOfTransfer (Event.leave delete) s was left = left ≡ Transfer.Nothing
-SaidOfTransfer (Event.enable1 version set) s was left = left ≡ Transfer.Nothing
-SaidOfTransfer Event.enable0 s was left = left ≡ Transfer.Nothing
-SaidOfTransfer Event.fault s was left = left ≡ was
-SaidOfTransfer (Event.write chunk set version) s was left = left ≡ was
-SaidOfTransfer (Event.synced member chunk) s was left = left ≡ was
-SaidOfTransfer (Event.poolInfo op member) s was left = left ≡ was
-SaidOfTransfer (Event.mapReady keep) s was left = left ≡ Transfer.Ready
-SaidOfTransfer Event.give s was left = left ≡ was
-SaidOfTransfer (Event.take zs) s was left = left ≡ Transfer.Taken
-SaidOfTransfer (Event.mapDone enabling version set) s was left = left ≡ Transfer.Nothing
-SaidOfTransfer Event.mapDisable s was left = left ≡ Transfer.Nothing
-SaidOfTransfer Event.mapGetVer s was left = left ≡ was
-SaidOfTransfer (Event.lastIoToMap chosen) s was left = left ≡ was
+abbrev pub TransferStays : Held → Transfer → Type 0
+TransferStays w left = left ≡ w .at .node .transfer
 
--- Assumed: the event is accepted.
-abbrev pub TransferAsSaid : Type 0
-TransferAsSaid = (e : Event) (w : Held) → Accepts e w → SaidOfTransfer e (w .at .node .state) (w .at .node .transfer) (next e w .at .node .transfer)
+abbrev pub MapStays : Held → List ℕ → Type 0
+MapStays w left = left ≡ w .map
 
--- ---- the map after each event
+abbrev pub KeptStays : Held → List ℕ → Type 0
+KeptStays w left = left ≡ keptChunks (w .at .node)
+
+-- the transfer is gone with staging, dropped or committed
+abbrev pub Gone : Transfer → Type 0
+Gone left = left ≡ Transfer.Nothing
 
 -- its own row; the rows of a set
 abbrev pub Own : Held → ℕ → Type 0
@@ -138,70 +106,79 @@ Own w m = m ≡ w .at .node .id
 abbrev pub In : ℕ → ℕ → Type 0
 In set m = has set m ≡ true
 
--- Register create: "map zeroed"; add: "map kept". Unregister: "delete zeroes map". Join create: "other rows zeroed". Leave: "delete zeroes the other rows, never
--- its own". "A write marks". "MAP_DONE commits." "Enable 1 and MAP_DONE .. zero rows outside it." POOL_INFO: "add-create enters a member with a zero row",
--- "remove-delete zeroes row", add-assemble and remove-disassemble name no byte.
-abbrev pub SaidOfMap : Event → Held → List ℕ → Type 0
-SaidOfMap Event.registerCreate w left = Zeroed left
-SaidOfMap (Event.registerAdd set version) w left = left ≡ w .map
-SaidOfMap (Event.unregister true) w left = Zeroed left
-SaidOfMap (Event.unregister false) w left = left ≡ w .map
-SaidOfMap (Event.joinCreate set) w left = Rows (Own w) (w .map) left
-SaidOfMap Event.assemble w left = left ≡ w .map
-SaidOfMap (Event.leave true) w left = Rows (Own w) (w .map) left
-SaidOfMap (Event.leave false) w left = left ≡ w .map
-SaidOfMap (Event.enable1 version set) w left = Rows (In set) (w .map) left
-SaidOfMap Event.enable0 w left = left ≡ w .map
-SaidOfMap Event.fault w left = left ≡ w .map
-SaidOfMap (Event.write chunk set version) w left = Marked (In set) chunk (w .map) left
-SaidOfMap (Event.synced member chunk) w left = Cleared member chunk (w .map) left
-SaidOfMap (Event.poolInfo Op.AddCreate member) w left = Rows (λ m. m ≢ member) (w .map) left
-SaidOfMap (Event.poolInfo Op.AddAssemble member) w left = left ≡ w .map
-SaidOfMap (Event.poolInfo Op.RemoveDelete member) w left = Rows (λ m. m ≢ member) (w .map) left
-SaidOfMap (Event.poolInfo Op.RemoveDisassemble member) w left = left ≡ w .map
-SaidOfMap (Event.mapReady keep) w left = left ≡ w .map
-SaidOfMap Event.give w left = left ≡ w .map
-SaidOfMap (Event.take zs) w left = left ≡ w .map
-SaidOfMap (Event.mapDone enabling version set) w left = Rows (In set) (w .staging) left
-SaidOfMap Event.mapDisable w left = left ≡ w .map
-SaidOfMap Event.mapGetVer w left = left ≡ w .map
-SaidOfMap (Event.lastIoToMap chosen) w left = LastIos (w .at .node) chosen (w .map) left
-
--- Assumed: the event is accepted.
-abbrev pub MapAsSaid : Type 0
-MapAsSaid = (e : Event) (w : Held) → Accepts e w → SaidOfMap e w (next e w .map)
-
--- ---- the kept chunks after each event
+-- POOL_INFO that zeroes the member's row
+abbrev pub zeroesRow : Op → Bool
+zeroesRow Op.AddCreate = true
+zeroesRow Op.AddAssemble = false
+zeroesRow Op.RemoveDelete = true
+zeroesRow Op.RemoveDisassemble = false
 
 -- the last sixteen of a list
 abbrev pub lastSixteen : List ℕ → List ℕ
 lastSixteen xs = drop (length xs - 16) xs
 
--- Register create: "kept chunks gone". A write "keeps the last 16 chunk numbers".
-abbrev pub SaidOfKept : Event → List ℕ → List ℕ → Type 0
-SaidOfKept Event.registerCreate was left = left ≡ []
-SaidOfKept (Event.registerAdd set version) was left = left ≡ was
-SaidOfKept (Event.unregister delete) was left = left ≡ was
-SaidOfKept (Event.joinCreate set) was left = left ≡ was
-SaidOfKept Event.assemble was left = left ≡ was
-SaidOfKept (Event.leave delete) was left = left ≡ was
-SaidOfKept (Event.enable1 version set) was left = left ≡ was
-SaidOfKept Event.enable0 was left = left ≡ was
-SaidOfKept Event.fault was left = left ≡ was
-SaidOfKept (Event.write chunk set version) was left = left ≡ lastSixteen (was ++ (chunk ∷ []))
-SaidOfKept (Event.synced member chunk) was left = left ≡ was
-SaidOfKept (Event.poolInfo op member) was left = left ≡ was
-SaidOfKept (Event.mapReady keep) was left = left ≡ was
-SaidOfKept Event.give was left = left ≡ was
-SaidOfKept (Event.take zs) was left = left ≡ was
-SaidOfKept (Event.mapDone enabling version set) was left = left ≡ was
-SaidOfKept Event.mapDisable was left = left ≡ was
-SaidOfKept Event.mapGetVer was left = left ≡ was
-SaidOfKept (Event.lastIoToMap chosen) was left = left ≡ was
+-- Register create: "map zeroed", "kept chunks gone"; add: "map kept". Unregister: "delete zeroes map"; "NO_IO with store stays, without it, staging dropped". Join create: "other
+-- rows zeroed". Leave: "staging dropped; delete zeroes the other rows, never its own". "A write marks", and "keeps the last 16 chunk numbers". POOL_INFO: "add-create enters a
+-- member with a zero row", "remove-delete zeroes row"; add-assemble and remove-disassemble name no byte. "MAP_READY .. fills staging (zero, or the map)", and a transfer begins,
+-- also where one is in hand. "Taking a map ORs it in." "MAP_DONE commits." "Enable 1 and MAP_DONE .. zero rows outside it." "MAP_DISABLE, Leave and Enable drop staging; dropped or
+-- committed, it is zeroed."
+abbrev pub saidOf : Event → Held → Sentence
+saidOf Event.registerCreate w = record { staging = StagingStays w; transfer = TransferStays w; map = Zeroed; kept = λ left. left ≡ [] }
+saidOf (Event.registerAdd set version) w = record { staging = StagingStays w; transfer = TransferStays w; map = MapStays w; kept = KeptStays w }
+saidOf (Event.unregister delete) w =
+    record {
+      staging = λ left. (w .at .node .state ≡ State.NoIo → Zeroed left) × (w .at .node .state ≢ State.NoIo → left ≡ w .staging);
+      transfer = λ left. (w .at .node .state ≡ State.NoIo → left ≡ Transfer.Nothing) × (w .at .node .state ≢ State.NoIo → left ≡ w .at .node .transfer);
+      map = λ left. pick delete (Zeroed left) (left ≡ w .map);
+      kept = KeptStays w;
+    }
+saidOf (Event.joinCreate set) w = record { staging = StagingStays w; transfer = TransferStays w; map = Rows (Own w) (w .map); kept = KeptStays w }
+saidOf Event.assemble w = record { staging = StagingStays w; transfer = TransferStays w; map = MapStays w; kept = KeptStays w }
+saidOf (Event.leave delete) w =
+    record {
+      staging = Zeroed;
+      transfer = Gone;
+      map = λ left. pick delete (Rows (Own w) (w .map) left) (left ≡ w .map);
+      kept = KeptStays w;
+    }
+saidOf (Event.enable1 version set) w = record { staging = Zeroed; transfer = Gone; map = Rows (In set) (w .map); kept = KeptStays w }
+saidOf Event.enable0 w = record { staging = Zeroed; transfer = Gone; map = MapStays w; kept = KeptStays w }
+saidOf Event.fault w = record { staging = StagingStays w; transfer = TransferStays w; map = MapStays w; kept = KeptStays w }
+saidOf (Event.write chunk set version) w =
+    record {
+      staging = StagingStays w;
+      transfer = TransferStays w;
+      map = Marked (In set) chunk (w .map);
+      kept = λ left. left ≡ lastSixteen (keptChunks (w .at .node) ++ (chunk ∷ []));
+    }
+saidOf (Event.synced member chunk) w = record { staging = StagingStays w; transfer = TransferStays w; map = Cleared member chunk (w .map); kept = KeptStays w }
+saidOf (Event.poolInfo op member) w =
+    record {
+      staging = StagingStays w;
+      transfer = TransferStays w;
+      map = λ left. pick (zeroesRow op) (Rows (λ m. m ≢ member) (w .map) left) (left ≡ w .map);
+      kept = KeptStays w;
+    }
+saidOf (Event.mapReady keep) w = record { staging = λ left. pick keep (left ≡ w .map) (Zeroed left); transfer = λ left. left ≡ Transfer.Ready; map = MapStays w; kept = KeptStays w }
+saidOf Event.give w = record { staging = StagingStays w; transfer = TransferStays w; map = MapStays w; kept = KeptStays w }
+saidOf (Event.take zs) w = record { staging = Ored (w .staging) zs; transfer = λ left. left ≡ Transfer.Taken; map = MapStays w; kept = KeptStays w }
+saidOf (Event.mapDone enabling version set) w = record { staging = Zeroed; transfer = Gone; map = Rows (In set) (w .staging); kept = KeptStays w }
+saidOf Event.mapDisable w = record { staging = Zeroed; transfer = Gone; map = MapStays w; kept = KeptStays w }
+saidOf Event.mapGetVer w = record { staging = StagingStays w; transfer = TransferStays w; map = MapStays w; kept = KeptStays w }
+saidOf (Event.lastIoToMap chosen) w = record { staging = StagingStays w; transfer = TransferStays w; map = LastIos (w .at .node) chosen (w .map); kept = KeptStays w }
 
--- Assumed: the event is accepted, and the node's array has its sixteen places (true of every value of the type).
+-- Each assumes that the event is accepted; the last also that the node's array has its sixteen places (true of every value of the type).
+abbrev pub StagingAsSaid : Type 0
+StagingAsSaid = (e : Event) (w : Held) → Accepts e w → saidOf e w .staging (next e w .staging)
+
+abbrev pub TransferAsSaid : Type 0
+TransferAsSaid = (e : Event) (w : Held) → Accepts e w → saidOf e w .transfer (next e w .at .node .transfer)
+
+abbrev pub MapAsSaid : Type 0
+MapAsSaid = (e : Event) (w : Held) → Accepts e w → saidOf e w .map (next e w .map)
+
 abbrev pub KeptAsSaid : Type 0
-KeptAsSaid = (e : Event) (w : Held) → length (w .at .node .kept) ≡ 16 → Accepts e w → SaidOfKept e (keptChunks (w .at .node)) (keptChunks (next e w .at .node))
+KeptAsSaid = (e : Event) (w : Held) → length (w .at .node .kept) ≡ 16 → Accepts e w → saidOf e w .kept (keptChunks (next e w .at .node))
 
 -- ---- a map received: MAP_READY, a map zs taken, MAP_DONE, one right after the other
 

@@ -1,5 +1,5 @@
--- The transfer in hand: taking a map, MAP_DONE, MAP_DISABLE; with nothing in hand they give 15, never 9. `sound` says that the lent maps are, the one
--- that is taken with them.
+-- The transfer in hand: taking a map, MAP_DONE, MAP_DISABLE; with nothing in hand they give 15, never 9. `lent` is the number that the
+-- lent maps refuse with, the one that is taken with them.
 use mathlib.Core.Bool.{Bool, true, false, not, _||_}
 use mathlib.Core.List.{List, [], _∷_}
 use Prim.Native.Nat.{ℕ}
@@ -16,38 +16,36 @@ use Rattle.nodestate.specs.declared.Node.{Node}
 use Rattle.nodestate.specs.declared.Turn.{Turn}
 use Rattle.nodestate.specs.States.{inHand, isMapTaken}
 use Rattle.nodestate.specs.Change.{wentTo, transferred, endedTransfer, instructed}
-use Rattle.nodestate.specs.StateRules.{valid}
-use Rattle.nodestate.specs.Turns.{does, turn, settled}
+use Rattle.nodestate.specs.Turns.{commonTests, does, turn, settled}
 
-abbrev pub handTests : Node → Bool → List Test
-handTests n sound =
-    test 1 (not (valid n)) ∷ test 2 (not sound) ∷ test 3 (ltb 15 (n .id)) ∷ test 15 (not (inHand (n .transfer))) ∷ []
+abbrev pub handTests : Node → ℕ → List Test
+handTests n lent =
+    commonTests n lent (test 3 (ltb 15 (n .id)) ∷ test 15 (not (inHand (n .transfer))) ∷ [])
 
-unfoldable pub handRefusal : Node → Bool → ℕ
-handRefusal n sound = refusal (handTests n sound)
+unfoldable pub handRefusal : Node → ℕ → ℕ
+handRefusal n lent = refusal (handTests n lent)
 
 -- ---- taking a map ORs it in
 
 unfoldable pub mapTaken : Node → Node
 mapTaken n = transferred n Transfer.Taken
 
-unfoldable pub take : Node → Bool → Turn
-take n sound = settled (handRefusal n sound) n (turn Answer.Done (mapTaken n) (does OnMap.Keep OnStaging.Or))
+unfoldable pub take : Node → ℕ → Turn
+take n lent = settled (handRefusal n lent) n (turn Answer.Done (mapTaken n) (does OnMap.Keep OnStaging.Or))
 
 -- ---- MAP_DONE (enabling or not, version, set holding itself): commits, NORMAL if enabling; version and set stored, rows outside the set zeroed
 
-abbrev pub mapDoneTests : Node → Bool → ℕ → ℕ → List Test
-mapDoneTests n sound version set =
-    test 1 (not (valid n))
-    ∷ test 2 (not sound)
-    ∷ test 3 (ltb 15 (n .id) || ltb 65535 set)
+abbrev pub mapDoneTests : Node → ℕ → ℕ → ℕ → List Test
+mapDoneTests n lent version set =
+    commonTests n lent
+    (test 3 (ltb 15 (n .id) || ltb 65535 set)
     ∷ test 10 (not (has set (n .id)))
     ∷ test 14 (ltb versionLimit version)
     ∷ test 15 (not (isMapTaken (n .transfer)))
-    ∷ []
+    ∷ [])
 
-unfoldable pub mapDoneRefusal : Node → Bool → ℕ → ℕ → ℕ
-mapDoneRefusal n sound version set = refusal (mapDoneTests n sound version set)
+unfoldable pub mapDoneRefusal : Node → ℕ → ℕ → ℕ → ℕ
+mapDoneRefusal n lent version set = refusal (mapDoneTests n lent version set)
 
 abbrev pub doneTo : Bool → State → State
 doneTo true s = State.Normal
@@ -56,11 +54,11 @@ doneTo false s = s
 unfoldable pub committed : Node → Bool → ℕ → ℕ → Node
 committed n enabling version set = instructed (endedTransfer (wentTo n (doneTo enabling (n .state)))) version set
 
-unfoldable pub mapDone : Node → Bool → Bool → ℕ → ℕ → Turn
-mapDone n sound enabling version set =
-    settled (mapDoneRefusal n sound version set) n (turn Answer.Done (committed n enabling version set) (does (OnMap.Commit set) OnStaging.Zero))
+unfoldable pub mapDone : Node → ℕ → Bool → ℕ → ℕ → Turn
+mapDone n lent enabling version set =
+    settled (mapDoneRefusal n lent version set) n (turn Answer.Done (committed n enabling version set) (does (OnMap.Commit set) OnStaging.Zero))
 
 -- ---- MAP_DISABLE drops staging
 
-unfoldable pub mapDisable : Node → Bool → Turn
-mapDisable n sound = settled (handRefusal n sound) n (turn Answer.Done (endedTransfer n) (does OnMap.Keep OnStaging.Zero))
+unfoldable pub mapDisable : Node → ℕ → Turn
+mapDisable n lent = settled (handRefusal n lent) n (turn Answer.Done (endedTransfer n) (does OnMap.Keep OnStaging.Zero))

@@ -9,30 +9,24 @@ use nodestate::State;
 use nodestate::Transfer;
 use nodestate::Turn;
 use nodestate::change;
-use nodestate::state_rules;
 use nodestate::states;
 use nodestate::turns;
 use refusals::first;
 
 // What refuses taking a map and MAP_DISABLE.
-fn hand_refusal(n: Node, sound: bool) -> u64
-    ensures { λ r. ⌜ r ≡ handRefusal n sound ⌝ }
+fn hand_refusal(n: Node, lent: u64) -> u64
+    ensures { λ r. ⌜ r ≡ handRefusal n lent ⌝ }
 {
-    let ok = state_rules::valid(n);
     let t = n.transfer;
     let ready = states::in_hand(t);
-    first(
-        !ok,
-        1,
-        first(!sound, 2, first(15 < n.id, 3, first(!ready, 15, 0))),
-    )
+    turns::common(n, lent, first(15 < n.id, 3, first(!ready, 15, 0)))
 }
 
 // A map is taken: it is ORed into staging.
-pub fn take(n: Node, sound: bool) -> Turn
-    ensures { λ r. ⌜ r ≡ take n sound ⌝ }
+pub fn take(n: Node, lent: u64) -> Turn
+    ensures { λ r. ⌜ r ≡ take n lent ⌝ }
 {
-    let why = hand_refusal(n, sound);
+    let why = hand_refusal(n, lent);
     let next = map_taken(n);
     let effect = turns::does(OnMap::Keep, OnStaging::Or);
     let done = turns::turn(Answer::Done, next, effect);
@@ -45,35 +39,30 @@ fn map_taken(n: Node) -> Node
     change::transferred(n, Transfer::Taken)
 }
 
-fn map_done_refusal(n: Node, sound: bool, version: u64, set: u64) -> u64
-    ensures { λ r. ⌜ r ≡ mapDoneRefusal n sound version set ⌝ }
+fn map_done_refusal(n: Node, lent: u64, version: u64, set: u64) -> u64
+    ensures { λ r. ⌜ r ≡ mapDoneRefusal n lent version set ⌝ }
 {
-    let ok = state_rules::valid(n);
     let t = n.transfer;
     let full = states::is_map_taken(t);
     let own = sets::has(set, n.id);
     let ids = (15 < n.id) | (65535 < set);
     let high = refusals::VERSION_LIMIT < version;
-    first(
-        !ok,
-        1,
+    turns::common(
+        n,
+        lent,
         first(
-            !sound,
-            2,
-            first(
-                ids,
-                3,
-                first(!own, 10, first(high, 14, first(!full, 15, 0))),
-            ),
+            ids,
+            3,
+            first(!own, 10, first(high, 14, first(!full, 15, 0))),
         ),
     )
 }
 
 // Staging takes the map's place, with the version and the member set it is told.
-pub fn map_done(n: Node, sound: bool, enabling: bool, version: u64, set: u64) -> Turn
-    ensures { λ r. ⌜ r ≡ mapDone n sound enabling version set ⌝ }
+pub fn map_done(n: Node, lent: u64, enabling: bool, version: u64, set: u64) -> Turn
+    ensures { λ r. ⌜ r ≡ mapDone n lent enabling version set ⌝ }
 {
-    let why = map_done_refusal(n, sound, version, set);
+    let why = map_done_refusal(n, lent, version, set);
     let next = committed(n, enabling, version, set);
     let effect = turns::does(OnMap::Commit(set), OnStaging::Zero);
     let done = turns::turn(Answer::Done, next, effect);
@@ -100,10 +89,10 @@ fn done_to(enabling: bool, s: State) -> State
 }
 
 // The transfer is given up.
-pub fn map_disable(n: Node, sound: bool) -> Turn
-    ensures { λ r. ⌜ r ≡ mapDisable n sound ⌝ }
+pub fn map_disable(n: Node, lent: u64) -> Turn
+    ensures { λ r. ⌜ r ≡ mapDisable n lent ⌝ }
 {
-    let why = hand_refusal(n, sound);
+    let why = hand_refusal(n, lent);
     let next = change::ended_transfer(n);
     let effect = turns::does(OnMap::Keep, OnStaging::Zero);
     let done = turns::turn(Answer::Done, next, effect);

@@ -1,6 +1,6 @@
 -- Join create, assemble or rejoin, leave: what an accepted one knows, and that it keeps the state rules and the table of legal changes. Assumes nothing.
-use mathlib.Core.Path.{_≡_, refl, ap}
-use mathlib.Core.Bool.{Bool, true, false, not, _&&_}
+use mathlib.Core.Path.{_≡_, refl}
+use mathlib.Core.Bool.{true, false, _&&_}
 use mathlib.Core.List.{List}
 use Prim.Native.Nat.{ℕ, _≤_}
 use native.Mathlib.Omega.{arith}
@@ -15,34 +15,28 @@ use Rattle.nodestate.specs.declared.Transfer.{Transfer}
 use Rattle.nodestate.specs.declared.Node.{Node}
 use Rattle.nodestate.specs.States.{isRegistered, isJoined}
 use Rattle.nodestate.specs.Change.{wentTo, equipped, takenOver, transferred, endedTransfer}
-use Rattle.nodestate.specs.StateRules.{keptOk, standing, valid}
+use Rattle.nodestate.specs.StateRules.{keptOk, standing}
 use Rattle.nodestate.specs.Table.{Kind, legal}
 use Rattle.nodestate.proofs.Tables.{gives, given}
 use Rattle.nodestate.proofs.Valid.{valid-of, at-node}
-use Rattle.nodestate.proofs.Passed.{or-false, Passed, passes, Keeps, Later, later}
+use Rattle.nodestate.proofs.Passed.{or-false, Passed, passes, Keeps}
 use Rattle.nodejoins.specs.Join.{joinCreateTests, joinCreateRefusal, joinedCreate, assembles, assembleTests, assembleRefusal, leftTo, leaveTests, leaveRefusal, left}
 
 -- ---- join create
 
-pub joinCreate-later : (n : Node) (sound : Bool) (set : ℕ) → valid n ≡ true → sound ≡ true → Later (joinCreateRefusal n sound set)
+pub joinCreate-passed : (n : Node) (lent : ℕ) (set : ℕ) → joinCreateRefusal n lent set ≡ 0 → Passed n lent (isRegistered (n .state) && n .create)
 unfolding joinCreateRefusal
-joinCreate-later n sound set v l =
-    let ts : List Test = joinCreateTests n sound set in
-    later ts (ap not v) (ap not l)
+joinCreate-passed n lent set e =
+    let ts : List Test = joinCreateTests n lent set in
+    passes n lent (isRegistered (n .state) && n .create) (none-applies ts e 1 refl) (none-applies ts e 2 refl) (or-false (ltb 15 (n .id)) _ (none-applies ts e 3 refl) .0) (none-applies ts e 9 refl)
 
-pub joinCreate-passed : (n : Node) (sound : Bool) (set : ℕ) → joinCreateRefusal n sound set ≡ 0 → Passed n sound (isRegistered (n .state) && n .create)
-unfolding joinCreateRefusal
-joinCreate-passed n sound set e =
-    let ts : List Test = joinCreateTests n sound set in
-    passes n sound (isRegistered (n .state) && n .create) (none-applies ts e 0 (omega arith)) (none-applies ts e 1 (omega arith)) (or-false (ltb 15 (n .id)) _ (none-applies ts e 2 (omega arith)) .0) (none-applies ts e 8 (omega arith))
-
-pub joinCreate-keeps : (n : Node) (sound : Bool) (set : ℕ) → joinCreateRefusal n sound set ≡ 0 → Keeps Kind.joinCreate n (joinedCreate n set)
+pub joinCreate-keeps : (n : Node) (lent : ℕ) (set : ℕ) → joinCreateRefusal n lent set ≡ 0 → Keeps Kind.joinCreate n (joinedCreate n set)
 unfolding joinCreateRefusal joinedCreate takenOver equipped wentTo keptOk
-joinCreate-keeps n sound set e =
-    let p = joinCreate-passed n sound set e in
+joinCreate-keeps n lent set e =
+    let p = joinCreate-passed n lent set e in
     let v = p .rules in
-    let ts : List Test = joinCreateTests n sound set in
-    let l : set ≤ 65535 = ltb-false 65535 set (or-false (ltb 15 (n .id)) (ltb 65535 set) (none-applies ts e 2 (omega arith)) .1) in
+    let ts : List Test = joinCreateTests n lent set in
+    let l : set ≤ 65535 = ltb-false 65535 set (or-false (ltb 15 (n .id)) (ltb 65535 set) (none-applies ts e 3 refl) .1) in
     record {
       rules = valid-of (joinedCreate n set) (record { some = v .some; few = v .few; stand = rw (has-with-same set (n .id) (p .own)) (given _ _ (at-node (λ s store create t own. gives (standing s store create t own && (isRegistered s && create)) (standing State.Created store false t true)) refl n) (and-both (v .stand) (p .from))); ids = with-lt set (n .id) (omega (arith, l)); top = v .top; keeps = v .keeps });
       lawful = given _ _ (at-node (λ s store create t own. gives (standing s store create t own && (isRegistered s && create)) (legal Kind.joinCreate s (State.Created))) refl n) (and-both (v .stand) (p .from));
@@ -53,22 +47,16 @@ joinCreate-keeps n sound set e =
 
 -- ---- assemble or rejoin
 
-pub assemble-later : (n : Node) (sound : Bool) → valid n ≡ true → sound ≡ true → Later (assembleRefusal n sound)
+pub assemble-passed : (n : Node) (lent : ℕ) → assembleRefusal n lent ≡ 0 → Passed n lent (assembles (n .state) (n .store) (n .create))
 unfolding assembleRefusal
-assemble-later n sound v l =
-    let ts : List Test = assembleTests n sound in
-    later ts (ap not v) (ap not l)
+assemble-passed n lent e =
+    let ts : List Test = assembleTests n lent in
+    passes n lent (assembles (n .state) (n .store) (n .create)) (none-applies ts e 1 refl) (none-applies ts e 2 refl) (none-applies ts e 3 refl) (none-applies ts e 9 refl)
 
-pub assemble-passed : (n : Node) (sound : Bool) → assembleRefusal n sound ≡ 0 → Passed n sound (assembles (n .state) (n .store) (n .create))
-unfolding assembleRefusal
-assemble-passed n sound e =
-    let ts : List Test = assembleTests n sound in
-    passes n sound (assembles (n .state) (n .store) (n .create)) (none-applies ts e 0 (omega arith)) (none-applies ts e 1 (omega arith)) (none-applies ts e 2 (omega arith)) (none-applies ts e 8 (omega arith))
-
-pub assemble-keeps : (n : Node) (sound : Bool) → assembleRefusal n sound ≡ 0 → Keeps Kind.assemble n (wentTo n State.NoIo)
+pub assemble-keeps : (n : Node) (lent : ℕ) → assembleRefusal n lent ≡ 0 → Keeps Kind.assemble n (wentTo n State.NoIo)
 unfolding wentTo keptOk
-assemble-keeps n sound e =
-    let p = assemble-passed n sound e in
+assemble-keeps n lent e =
+    let p = assemble-passed n lent e in
     let v = p .rules in
     record {
       rules = valid-of (wentTo n State.NoIo) (record { some = v .some; few = v .few; stand = given _ _ (at-node (λ s store create t own. gives (standing s store create t own && (assembles s store create)) (standing State.NoIo store create t own)) refl n) (and-both (v .stand) (p .from)); ids = v .ids; top = v .top; keeps = v .keeps });
@@ -80,22 +68,16 @@ assemble-keeps n sound e =
 
 -- ---- leave
 
-pub leave-later : (n : Node) (sound : Bool) → valid n ≡ true → sound ≡ true → Later (leaveRefusal n sound)
+pub leave-passed : (n : Node) (lent : ℕ) → leaveRefusal n lent ≡ 0 → Passed n lent (isJoined (n .state))
 unfolding leaveRefusal
-leave-later n sound v l =
-    let ts : List Test = leaveTests n sound in
-    later ts (ap not v) (ap not l)
+leave-passed n lent e =
+    let ts : List Test = leaveTests n lent in
+    passes n lent (isJoined (n .state)) (none-applies ts e 1 refl) (none-applies ts e 2 refl) (none-applies ts e 3 refl) (none-applies ts e 9 refl)
 
-pub leave-passed : (n : Node) (sound : Bool) → leaveRefusal n sound ≡ 0 → Passed n sound (isJoined (n .state))
-unfolding leaveRefusal
-leave-passed n sound e =
-    let ts : List Test = leaveTests n sound in
-    passes n sound (isJoined (n .state)) (none-applies ts e 0 (omega arith)) (none-applies ts e 1 (omega arith)) (none-applies ts e 2 (omega arith)) (none-applies ts e 8 (omega arith))
-
-pub leave-keeps : (n : Node) (sound : Bool) → leaveRefusal n sound ≡ 0 → Keeps Kind.leave n (left n)
+pub leave-keeps : (n : Node) (lent : ℕ) → leaveRefusal n lent ≡ 0 → Keeps Kind.leave n (left n)
 unfolding left endedTransfer transferred wentTo keptOk
-leave-keeps n sound e =
-    let p = leave-passed n sound e in
+leave-keeps n lent e =
+    let p = leave-passed n lent e in
     let v = p .rules in
     record {
       rules = valid-of (left n) (record { some = v .some; few = v .few; stand = given _ _ (at-node (λ s store create t own. gives (standing s store create t own && (isJoined s)) (standing (leftTo store) store create Transfer.Nothing own)) refl n) (and-both (v .stand) (p .from)); ids = v .ids; top = v .top; keeps = v .keeps });

@@ -21,7 +21,6 @@ use nodestate::OnStaging;
 use nodestate::State;
 use nodestate::Turn;
 use nodestate::change;
-use nodestate::state_rules;
 use nodestate::states;
 use nodestate::turns;
 use refusals::first;
@@ -34,25 +33,20 @@ fn own_row(n: Node) -> OnMap
     OnMap::KeepRows(own)
 }
 
-fn join_create_refusal(n: Node, sound: bool, set: u64) -> u64
-    ensures { λ r. ⌜ r ≡ joinCreateRefusal n sound set ⌝ }
+fn join_create_refusal(n: Node, lent: u64, set: u64) -> u64
+    ensures { λ r. ⌜ r ≡ joinCreateRefusal n lent set ⌝ }
 {
-    let ok = state_rules::valid(n);
     let s = n.state;
     let marked = states::is_registered(s) & n.create;
     let ids = (15 < n.id) | (65535 < set);
-    first(
-        !ok,
-        1,
-        first(!sound, 2, first(ids, 3, first(!marked, 9, 0))),
-    )
+    turns::common(n, lent, first(ids, 3, first(!marked, 9, 0)))
 }
 
 // REGISTERED marked to CREATED, with the members as given and itself.
-pub fn join_create(n: Node, sound: bool, set: u64) -> Turn
-    ensures { λ r. ⌜ r ≡ joinCreate n sound set ⌝ }
+pub fn join_create(n: Node, lent: u64, set: u64) -> Turn
+    ensures { λ r. ⌜ r ≡ joinCreate n lent set ⌝ }
 {
-    let why = join_create_refusal(n, sound, set);
+    let why = join_create_refusal(n, lent, set);
     let next = joined_create(n, set);
     let map = own_row(n);
     let effect = turns::does(map, OnStaging::Keep);
@@ -69,24 +63,19 @@ fn joined_create(n: Node, set: u64) -> Node
     change::taken_over(plain, all)
 }
 
-fn assemble_refusal(n: Node, sound: bool) -> u64
-    ensures { λ r. ⌜ r ≡ assembleRefusal n sound ⌝ }
+fn assemble_refusal(n: Node, lent: u64) -> u64
+    ensures { λ r. ⌜ r ≡ assembleRefusal n lent ⌝ }
 {
-    let ok = state_rules::valid(n);
     let s = n.state;
     let may = assembles(s, n.store, n.create);
-    first(
-        !ok,
-        1,
-        first(!sound, 2, first(15 < n.id, 3, first(!may, 9, 0))),
-    )
+    turns::common(n, lent, first(15 < n.id, 3, first(!may, 9, 0)))
 }
 
 // Assemble or rejoin: REGISTERED unmarked, NORMAL, NO_IO with store, to NO_IO. A transfer survives it.
-pub fn assemble(n: Node, sound: bool) -> Turn
-    ensures { λ r. ⌜ r ≡ assemble n sound ⌝ }
+pub fn assemble(n: Node, lent: u64) -> Turn
+    ensures { λ r. ⌜ r ≡ assemble n lent ⌝ }
 {
-    let why = assemble_refusal(n, sound);
+    let why = assemble_refusal(n, lent);
     let next = change::went_to(n, State::NoIo);
     let effect = turns::does(OnMap::Keep, OnStaging::Keep);
     let done = turns::turn(Answer::Done, next, effect);
@@ -99,24 +88,19 @@ fn assembles(s: State, store: bool, create: bool) -> bool
     (states::is_registered(s) & !create) | (states::is_normal(s) | (states::is_no_io(s) & store))
 }
 
-fn leave_refusal(n: Node, sound: bool) -> u64
-    ensures { λ r. ⌜ r ≡ leaveRefusal n sound ⌝ }
+fn leave_refusal(n: Node, lent: u64) -> u64
+    ensures { λ r. ⌜ r ≡ leaveRefusal n lent ⌝ }
 {
-    let ok = state_rules::valid(n);
     let s = n.state;
     let joined = states::is_joined(s);
-    first(
-        !ok,
-        1,
-        first(!sound, 2, first(15 < n.id, 3, first(!joined, 9, 0))),
-    )
+    turns::common(n, lent, first(15 < n.id, 3, first(!joined, 9, 0)))
 }
 
 // CREATED, NORMAL, NO_IO to REGISTERED, or to EMPTY without store. Delete keeps its own row alone.
-pub fn leave(n: Node, sound: bool, delete: bool) -> Turn
-    ensures { λ r. ⌜ r ≡ leave n sound delete ⌝ }
+pub fn leave(n: Node, lent: u64, delete: bool) -> Turn
+    ensures { λ r. ⌜ r ≡ leave n lent delete ⌝ }
 {
-    let why = leave_refusal(n, sound);
+    let why = leave_refusal(n, lent);
     let next = left(n);
     let map = leaves(delete, n);
     let effect = turns::does(map, OnStaging::Zero);

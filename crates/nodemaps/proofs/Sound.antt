@@ -7,6 +7,7 @@ use native.Mathlib.Omega.{arith}
 use lib.Dec.{eqb, ltb}
 use lib.ListN.{getD}
 use borrow.Author.Tests.{ltb-true}
+use Rattle.laws.specs.Tests.{picked}
 use Rattle.laws.specs.Words.{pick}
 use Rattle.laws.specs.Loops.{runAt}
 use Rattle.chunks.specs.Chunk.{dirty}
@@ -29,15 +30,11 @@ fits OnMap.Zero n = true
 fits (OnMap.KeepRows set) n = true
 fits (OnMap.Commit set) n = true
 
-sound-pick : (n : ℕ) (b : Bool) (xs ys : List ℕ) → (b ≡ true → Sound n xs) → (b ≡ false → Sound n ys) → Sound n (pick b xs ys)
-sound-pick n true xs ys f g = f refl
-sound-pick n false xs ys f g = g refl
-
 pub sound-lastIoAt : (n : Node) (chosen i : ℕ) (xs : List ℕ) → keptOk n ≡ true → i < 16 → Sound (n .chunks) xs → Sound (n .chunks) (lastIoAt n chosen i xs)
 unfolding lastIoAt lastIo
 sound-lastIoAt n chosen i xs k l s =
-    sound-pick _ (isKept n i) _ _
-    (λ e. sound-pick _ (eqb (dirty xs chosen (getD (n .kept) i 0)) 1) _ _ (λ _. s) (λ _. sound-markedFor _ _ _ xs s (kept-below n k i l e)))
+    picked (Sound _) (isKept n i) _ _
+    (λ e. picked (Sound _) (eqb (dirty xs chosen (getD (n .kept) i 0)) 1) _ _ (λ _. s) (λ _. sound-markedFor _ _ _ xs s (kept-below n k i l e)))
     (λ _. s)
 
 sound-runs : (n : Node) (chosen m i : ℕ) (xs : List ℕ) → keptOk n ≡ true → i + m ≤ 16 → Sound (n .chunks) xs → Sound (n .chunks) (runAt (lastIoAt n chosen) m i xs)

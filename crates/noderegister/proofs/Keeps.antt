@@ -1,6 +1,6 @@
 -- Register create, register add, unregister: what an accepted one knows, and that it keeps the state rules and the table of legal changes. Assumes nothing.
-use mathlib.Core.Path.{_≡_, refl, sym, ap}
-use mathlib.Core.Bool.{Bool, true, false, not, _&&_}
+use mathlib.Core.Path.{_≡_, refl, sym}
+use mathlib.Core.Bool.{Bool, true, false, _&&_}
 use mathlib.Core.List.{List}
 use Prim.Native.Nat.{ℕ}
 use native.Mathlib.Omega.{arith}
@@ -15,31 +15,25 @@ use Rattle.nodestate.specs.declared.Transfer.{Transfer}
 use Rattle.nodestate.specs.declared.Node.{Node}
 use Rattle.nodestate.specs.States.{isEmpty}
 use Rattle.nodestate.specs.Change.{wentTo, equipped, takenOver, storedVersion, forgotten, transferred, endedTransfer, instructed}
-use Rattle.nodestate.specs.StateRules.{keptOk, standing, valid}
+use Rattle.nodestate.specs.StateRules.{keptOk, standing}
 use Rattle.nodestate.specs.Table.{Kind, legal}
 use Rattle.nodestate.proofs.Tables.{gives, given}
 use Rattle.nodestate.proofs.Valid.{valid-of, at-node}
-use Rattle.nodestate.proofs.Passed.{or-false, Passed, passes, Told, tells, Keeps, Later, later}
+use Rattle.nodestate.proofs.Passed.{or-false, Passed, passes, Told, tells, Keeps}
 use Rattle.noderegister.specs.Register.{registerCreateTests, registerCreateRefusal, registeredCreate, takesStore, addedTo, registerAddTests, registerAddRefusal, registeredAdd, givesStore, unregisteredTo, unregisterTests, unregisterRefusal, wiped, unregistered}
 
 -- ---- register create
 
-pub registerCreate-later : (n : Node) (sound : Bool) → valid n ≡ true → sound ≡ true → Later (registerCreateRefusal n sound)
+pub registerCreate-passed : (n : Node) (lent : ℕ) → registerCreateRefusal n lent ≡ 0 → Passed n lent (isEmpty (n .state))
 unfolding registerCreateRefusal
-registerCreate-later n sound v l =
-    let ts : List Test = registerCreateTests n sound in
-    later ts (ap not v) (ap not l)
+registerCreate-passed n lent e =
+    let ts : List Test = registerCreateTests n lent in
+    passes n lent (isEmpty (n .state)) (none-applies ts e 1 refl) (none-applies ts e 2 refl) (none-applies ts e 3 refl) (none-applies ts e 9 refl)
 
-pub registerCreate-passed : (n : Node) (sound : Bool) → registerCreateRefusal n sound ≡ 0 → Passed n sound (isEmpty (n .state))
-unfolding registerCreateRefusal
-registerCreate-passed n sound e =
-    let ts : List Test = registerCreateTests n sound in
-    passes n sound (isEmpty (n .state)) (none-applies ts e 0 (omega arith)) (none-applies ts e 1 (omega arith)) (none-applies ts e 2 (omega arith)) (none-applies ts e 8 (omega arith))
-
-pub registerCreate-keeps : (n : Node) (sound : Bool) → length (n .kept) ≡ 16 → registerCreateRefusal n sound ≡ 0 → Keeps Kind.registerCreate n (registeredCreate n)
+pub registerCreate-keeps : (n : Node) (lent : ℕ) → length (n .kept) ≡ 16 → registerCreateRefusal n lent ≡ 0 → Keeps Kind.registerCreate n (registeredCreate n)
 unfolding registeredCreate instructed storedVersion takenOver forgotten equipped wentTo keptOk
-registerCreate-keeps n sound h e =
-    let p = registerCreate-passed n sound e in
+registerCreate-keeps n lent h e =
+    let p = registerCreate-passed n lent e in
     let v = p .rules in
     record {
       rules = valid-of (registeredCreate n) (record { some = v .some; few = v .few; stand = rw (has-with-same 0 (n .id) (p .own)) (given _ _ (at-node (λ s store create t own. gives (standing s store create t own && (isEmpty s)) (standing State.Registered true true t true)) refl n) (and-both (v .stand) (p .from))); ids = with-lt 0 (n .id) (omega arith); top = omega arith; keeps = refl });
@@ -51,24 +45,18 @@ registerCreate-keeps n sound h e =
 
 -- ---- register add
 
-pub registerAdd-later : (n : Node) (sound : Bool) (set : ℕ) (version : ℕ) → valid n ≡ true → sound ≡ true → Later (registerAddRefusal n sound set version)
+pub registerAdd-passed : (n : Node) (lent : ℕ) (set : ℕ) (version : ℕ) → registerAddRefusal n lent set version ≡ 0 → Passed n lent (takesStore (n .state) (n .store)) × Told n version set
 unfolding registerAddRefusal
-registerAdd-later n sound set version v l =
-    let ts : List Test = registerAddTests n sound set version in
-    later ts (ap not v) (ap not l)
+registerAdd-passed n lent set version e =
+    let ts : List Test = registerAddTests n lent set version in
+    (passes n lent (takesStore (n .state) (n .store)) (none-applies ts e 1 refl) (none-applies ts e 2 refl) (or-false (ltb 15 (n .id)) _ (none-applies ts e 3 refl) .0) (none-applies ts e 9 refl), tells n version set (or-false (ltb 15 (n .id)) (ltb 65535 set) (none-applies ts e 3 refl) .1) (none-applies ts e 10 refl) (none-applies ts e 14 refl))
 
-pub registerAdd-passed : (n : Node) (sound : Bool) (set : ℕ) (version : ℕ) → registerAddRefusal n sound set version ≡ 0 → Passed n sound (takesStore (n .state) (n .store)) × Told n version set
-unfolding registerAddRefusal
-registerAdd-passed n sound set version e =
-    let ts : List Test = registerAddTests n sound set version in
-    (passes n sound (takesStore (n .state) (n .store)) (none-applies ts e 0 (omega arith)) (none-applies ts e 1 (omega arith)) (or-false (ltb 15 (n .id)) _ (none-applies ts e 2 (omega arith)) .0) (none-applies ts e 8 (omega arith)), tells n version set (or-false (ltb 15 (n .id)) (ltb 65535 set) (none-applies ts e 2 (omega arith)) .1) (none-applies ts e 9 (omega arith)) (none-applies ts e 13 (omega arith)))
-
-pub registerAdd-keeps : (n : Node) (sound : Bool) (set : ℕ) (version : ℕ) → registerAddRefusal n sound set version ≡ 0 → Keeps Kind.registerAdd n (registeredAdd n set version)
+pub registerAdd-keeps : (n : Node) (lent : ℕ) (set : ℕ) (version : ℕ) → registerAddRefusal n lent set version ≡ 0 → Keeps Kind.registerAdd n (registeredAdd n set version)
 unfolding registeredAdd instructed storedVersion takenOver equipped wentTo keptOk
-registerAdd-keeps n sound set version e =
-    let p = registerAdd-passed n sound set version e .0 in
+registerAdd-keeps n lent set version e =
+    let p = registerAdd-passed n lent set version e .0 in
     let v = p .rules in
-    let w = registerAdd-passed n sound set version e .1 in
+    let w = registerAdd-passed n lent set version e .1 in
     record {
       rules = valid-of (registeredAdd n set version) (record { some = v .some; few = v .few; stand = rw (w .holds) (given _ _ (at-node (λ s store create t own. gives (standing s store create t own && (takesStore s store)) (standing (addedTo s) true false t true)) refl n) (and-both (v .stand) (p .from))); ids = w .set-lt; top = w .low; keeps = v .keeps });
       lawful = given _ _ (at-node (λ s store create t own. gives (standing s store create t own && (takesStore s store)) (legal Kind.registerAdd s (addedTo s))) refl n) (and-both (v .stand) (p .from));
@@ -79,22 +67,16 @@ registerAdd-keeps n sound set version e =
 
 -- ---- unregister
 
-pub unregister-later : (n : Node) (sound : Bool) (delete : Bool) → valid n ≡ true → sound ≡ true → Later (unregisterRefusal n sound delete)
+pub unregister-passed : (n : Node) (lent : ℕ) (delete : Bool) → unregisterRefusal n lent delete ≡ 0 → Passed n lent (givesStore (n .state) (n .store) delete)
 unfolding unregisterRefusal
-unregister-later n sound delete v l =
-    let ts : List Test = unregisterTests n sound delete in
-    later ts (ap not v) (ap not l)
+unregister-passed n lent delete e =
+    let ts : List Test = unregisterTests n lent delete in
+    passes n lent (givesStore (n .state) (n .store) delete) (none-applies ts e 1 refl) (none-applies ts e 2 refl) (none-applies ts e 3 refl) (none-applies ts e 9 refl)
 
-pub unregister-passed : (n : Node) (sound : Bool) (delete : Bool) → unregisterRefusal n sound delete ≡ 0 → Passed n sound (givesStore (n .state) (n .store) delete)
-unfolding unregisterRefusal
-unregister-passed n sound delete e =
-    let ts : List Test = unregisterTests n sound delete in
-    passes n sound (givesStore (n .state) (n .store) delete) (none-applies ts e 0 (omega arith)) (none-applies ts e 1 (omega arith)) (none-applies ts e 2 (omega arith)) (none-applies ts e 8 (omega arith))
-
-pub unregister-keeps : (n : Node) (sound : Bool) (delete : Bool) → unregisterRefusal n sound delete ≡ 0 → Keeps Kind.unregister n (unregistered n delete)
+pub unregister-keeps : (n : Node) (lent : ℕ) (delete : Bool) → unregisterRefusal n lent delete ≡ 0 → Keeps Kind.unregister n (unregistered n delete)
 unfolding unregistered wiped instructed storedVersion takenOver endedTransfer transferred equipped wentTo keptOk
-unregister-keeps n sound true e =
-    let p = unregister-passed n sound true e in
+unregister-keeps n lent true e =
+    let p = unregister-passed n lent true e in
     let v = p .rules in
     record {
       rules = valid-of (unregistered n true) (record { some = v .some; few = v .few; stand = rw (has-none (n .id)) (given _ _ (at-node (λ s store create t own. gives (standing s store create t own && (givesStore s store true)) (standing (unregisteredTo s) false false Transfer.Nothing false)) refl n) (and-both (v .stand) (p .from))); ids = omega arith; top = omega arith; keeps = v .keeps });
@@ -103,8 +85,8 @@ unregister-keeps n sound true e =
       same-chunks = refl;
       size = refl;
     }
-unregister-keeps n sound false e =
-    let p = unregister-passed n sound false e in
+unregister-keeps n lent false e =
+    let p = unregister-passed n lent false e in
     let v = p .rules in
     record {
       rules = valid-of (unregistered n false) (record { some = v .some; few = v .few; stand = given _ _ (at-node (λ s store create t own. gives (standing s store create t own && (givesStore s store false)) (standing (unregisteredTo s) false false Transfer.Nothing own)) refl n) (and-both (v .stand) (p .from)); ids = v .ids; top = v .top; keeps = v .keeps });

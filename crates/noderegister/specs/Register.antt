@@ -1,4 +1,4 @@
--- A node's store comes and goes: register create, register add, unregister. `sound` says that the lent maps are.
+-- A node's store comes and goes: register create, register add, unregister. `lent` is the number that the lent maps refuse with.
 use mathlib.Core.Bool.{Bool, true, false, not, _&&_, _||_}
 use mathlib.Core.List.{List, [], _∷_}
 use Prim.Native.Nat.{ℕ}
@@ -15,23 +15,22 @@ use Rattle.nodestate.specs.declared.Node.{Node}
 use Rattle.nodestate.specs.declared.Turn.{Turn}
 use Rattle.nodestate.specs.States.{isEmpty, isRegistered, isNoIo}
 use Rattle.nodestate.specs.Change.{wentTo, equipped, forgotten, endedTransfer, instructed}
-use Rattle.nodestate.specs.StateRules.{valid}
-use Rattle.nodestate.specs.Turns.{does, turn, settled}
+use Rattle.nodestate.specs.Turns.{commonTests, does, turn, settled}
 
 -- ---- register create: EMPTY to REGISTERED, marked create; map zeroed, kept chunks gone, membership itself, version 0
 
-abbrev pub registerCreateTests : Node → Bool → List Test
-registerCreateTests n sound =
-    test 1 (not (valid n)) ∷ test 2 (not sound) ∷ test 3 (ltb 15 (n .id)) ∷ test 9 (not (isEmpty (n .state))) ∷ []
+abbrev pub registerCreateTests : Node → ℕ → List Test
+registerCreateTests n lent =
+    commonTests n lent (test 3 (ltb 15 (n .id)) ∷ test 9 (not (isEmpty (n .state))) ∷ [])
 
-unfoldable pub registerCreateRefusal : Node → Bool → ℕ
-registerCreateRefusal n sound = refusal (registerCreateTests n sound)
+unfoldable pub registerCreateRefusal : Node → ℕ → ℕ
+registerCreateRefusal n lent = refusal (registerCreateTests n lent)
 
 unfoldable pub registeredCreate : Node → Node
 registeredCreate n = instructed (forgotten (equipped (wentTo n State.Registered) true true)) 0 (with 0 (n .id))
 
-unfoldable pub registerCreate : Node → Bool → Turn
-registerCreate n sound = settled (registerCreateRefusal n sound) n (turn Answer.Done (registeredCreate n) (does OnMap.Zero OnStaging.Keep))
+unfoldable pub registerCreate : Node → ℕ → Turn
+registerCreate n lent = settled (registerCreateRefusal n lent) n (turn Answer.Done (registeredCreate n) (does OnMap.Zero OnStaging.Keep))
 
 -- ---- register add (set, version): EMPTY to REGISTERED unmarked, map kept; NO_IO without store gets its store
 
@@ -47,25 +46,24 @@ addedTo State.Created = State.Created
 addedTo State.Normal = State.Normal
 addedTo State.NoIo = State.NoIo
 
-abbrev pub registerAddTests : Node → Bool → ℕ → ℕ → List Test
-registerAddTests n sound set version =
-    test 1 (not (valid n))
-    ∷ test 2 (not sound)
-    ∷ test 3 (ltb 15 (n .id) || ltb 65535 set)
+abbrev pub registerAddTests : Node → ℕ → ℕ → ℕ → List Test
+registerAddTests n lent set version =
+    commonTests n lent
+    (test 3 (ltb 15 (n .id) || ltb 65535 set)
     ∷ test 9 (not (takesStore (n .state) (n .store)))
     ∷ test 10 (not (has set (n .id)))
     ∷ test 14 (ltb versionLimit version)
-    ∷ []
+    ∷ [])
 
-unfoldable pub registerAddRefusal : Node → Bool → ℕ → ℕ → ℕ
-registerAddRefusal n sound set version = refusal (registerAddTests n sound set version)
+unfoldable pub registerAddRefusal : Node → ℕ → ℕ → ℕ → ℕ
+registerAddRefusal n lent set version = refusal (registerAddTests n lent set version)
 
 unfoldable pub registeredAdd : Node → ℕ → ℕ → Node
 registeredAdd n set version = instructed (equipped (wentTo n (addedTo (n .state))) true false) version set
 
-unfoldable pub registerAdd : Node → Bool → ℕ → ℕ → Turn
-registerAdd n sound set version =
-    settled (registerAddRefusal n sound set version) n (turn Answer.Done (registeredAdd n set version) (does OnMap.Keep OnStaging.Keep))
+unfoldable pub registerAdd : Node → ℕ → ℕ → ℕ → Turn
+registerAdd n lent set version =
+    settled (registerAddRefusal n lent set version) n (turn Answer.Done (registeredAdd n set version) (does OnMap.Keep OnStaging.Keep))
 
 -- ---- unregister: REGISTERED to EMPTY, mark gone (delete zeroes map, members, version); NO_IO with store stays, without it, staging dropped
 
@@ -81,16 +79,15 @@ unregisteredTo State.Created = State.Created
 unregisteredTo State.Normal = State.Normal
 unregisteredTo State.NoIo = State.NoIo
 
-abbrev pub unregisterTests : Node → Bool → Bool → List Test
-unregisterTests n sound delete =
-    test 1 (not (valid n))
-    ∷ test 2 (not sound)
-    ∷ test 3 (ltb 15 (n .id))
+abbrev pub unregisterTests : Node → ℕ → Bool → List Test
+unregisterTests n lent delete =
+    commonTests n lent
+    (test 3 (ltb 15 (n .id))
     ∷ test 9 (not (givesStore (n .state) (n .store) delete))
-    ∷ []
+    ∷ [])
 
-unfoldable pub unregisterRefusal : Node → Bool → Bool → ℕ
-unregisterRefusal n sound delete = refusal (unregisterTests n sound delete)
+unfoldable pub unregisterRefusal : Node → ℕ → Bool → ℕ
+unregisterRefusal n lent delete = refusal (unregisterTests n lent delete)
 
 -- members and version zeroed by delete
 unfoldable pub wiped : Bool → Node → Node
@@ -113,6 +110,6 @@ dropsStaging State.Created = OnStaging.Keep
 dropsStaging State.Normal = OnStaging.Keep
 dropsStaging State.NoIo = OnStaging.Zero
 
-unfoldable pub unregister : Node → Bool → Bool → Turn
-unregister n sound delete =
-    settled (unregisterRefusal n sound delete) n (turn Answer.Done (unregistered n delete) (does (wipes delete) (dropsStaging (n .state))))
+unfoldable pub unregister : Node → ℕ → Bool → Turn
+unregister n lent delete =
+    settled (unregisterRefusal n lent delete) n (turn Answer.Done (unregistered n delete) (does (wipes delete) (dropsStaging (n .state))))

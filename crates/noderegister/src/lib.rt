@@ -25,29 +25,23 @@ use nodestate::OnStaging;
 use nodestate::State;
 use nodestate::Turn;
 use nodestate::change;
-use nodestate::state_rules;
 use nodestate::states;
 use nodestate::turns;
 use refusals::first;
 
-fn register_create_refusal(n: Node, sound: bool) -> u64
-    ensures { λ r. ⌜ r ≡ registerCreateRefusal n sound ⌝ }
+fn register_create_refusal(n: Node, lent: u64) -> u64
+    ensures { λ r. ⌜ r ≡ registerCreateRefusal n lent ⌝ }
 {
-    let ok = state_rules::valid(n);
     let s = n.state;
     let empty = states::is_empty(s);
-    first(
-        !ok,
-        1,
-        first(!sound, 2, first(15 < n.id, 3, first(!empty, 9, 0))),
-    )
+    turns::common(n, lent, first(15 < n.id, 3, first(!empty, 9, 0)))
 }
 
 // EMPTY to REGISTERED, marked create: all that was known is gone.
-pub fn register_create(n: Node, sound: bool) -> Turn
-    ensures { λ r. ⌜ r ≡ registerCreate n sound ⌝ }
+pub fn register_create(n: Node, lent: u64) -> Turn
+    ensures { λ r. ⌜ r ≡ registerCreate n lent ⌝ }
 {
-    let why = register_create_refusal(n, sound);
+    let why = register_create_refusal(n, lent);
     let next = registered_create(n);
     let effect = turns::does(OnMap::Zero, OnStaging::Keep);
     let done = turns::turn(Answer::Done, next, effect);
@@ -64,35 +58,30 @@ fn registered_create(n: Node) -> Node
     change::instructed(bare, 0, own)
 }
 
-fn register_add_refusal(n: Node, sound: bool, set: u64, version: u64) -> u64
-    ensures { λ r. ⌜ r ≡ registerAddRefusal n sound set version ⌝ }
+fn register_add_refusal(n: Node, lent: u64, set: u64, version: u64) -> u64
+    ensures { λ r. ⌜ r ≡ registerAddRefusal n lent set version ⌝ }
 {
-    let ok = state_rules::valid(n);
     let s = n.state;
     let takes = takes_store(s, n.store);
     let own = sets::has(set, n.id);
     let ids = (15 < n.id) | (65535 < set);
     let high = refusals::VERSION_LIMIT < version;
-    first(
-        !ok,
-        1,
+    turns::common(
+        n,
+        lent,
         first(
-            !sound,
-            2,
-            first(
-                ids,
-                3,
-                first(!takes, 9, first(!own, 10, first(high, 14, 0))),
-            ),
+            ids,
+            3,
+            first(!takes, 9, first(!own, 10, first(high, 14, 0))),
         ),
     )
 }
 
 // EMPTY to REGISTERED unmarked; NO_IO without store gets its store. Set and version are those of the store.
-pub fn register_add(n: Node, sound: bool, set: u64, version: u64) -> Turn
-    ensures { λ r. ⌜ r ≡ registerAdd n sound set version ⌝ }
+pub fn register_add(n: Node, lent: u64, set: u64, version: u64) -> Turn
+    ensures { λ r. ⌜ r ≡ registerAdd n lent set version ⌝ }
 {
-    let why = register_add_refusal(n, sound, set, version);
+    let why = register_add_refusal(n, lent, set, version);
     let next = registered_add(n, set, version);
     let effect = turns::does(OnMap::Keep, OnStaging::Keep);
     let done = turns::turn(Answer::Done, next, effect);
@@ -127,24 +116,19 @@ fn added_to(s: State) -> State
     }
 }
 
-fn unregister_refusal(n: Node, sound: bool, delete: bool) -> u64
-    ensures { λ r. ⌜ r ≡ unregisterRefusal n sound delete ⌝ }
+fn unregister_refusal(n: Node, lent: u64, delete: bool) -> u64
+    ensures { λ r. ⌜ r ≡ unregisterRefusal n lent delete ⌝ }
 {
-    let ok = state_rules::valid(n);
     let s = n.state;
     let gives = gives_store(s, n.store, delete);
-    first(
-        !ok,
-        1,
-        first(!sound, 2, first(15 < n.id, 3, first(!gives, 9, 0))),
-    )
+    turns::common(n, lent, first(15 < n.id, 3, first(!gives, 9, 0)))
 }
 
 // REGISTERED to EMPTY; NO_IO stays without its store, and staging is dropped.
-pub fn unregister(n: Node, sound: bool, delete: bool) -> Turn
-    ensures { λ r. ⌜ r ≡ unregister n sound delete ⌝ }
+pub fn unregister(n: Node, lent: u64, delete: bool) -> Turn
+    ensures { λ r. ⌜ r ≡ unregister n lent delete ⌝ }
 {
-    let why = unregister_refusal(n, sound, delete);
+    let why = unregister_refusal(n, lent, delete);
     let next = unregistered(n, delete);
     let map = wipes(delete);
     let s = n.state;

@@ -9,29 +9,23 @@ use nodestate::State;
 use nodestate::Transfer;
 use nodestate::Turn;
 use nodestate::change;
-use nodestate::state_rules;
 use nodestate::states;
 use nodestate::turns;
 use refusals::first;
 
 // What refuses MAP_READY, give and MAP_GET_VER.
-fn serve_refusal(n: Node, sound: bool) -> u64
-    ensures { λ r. ⌜ r ≡ serveRefusal n sound ⌝ }
+fn serve_refusal(n: Node, lent: u64) -> u64
+    ensures { λ r. ⌜ r ≡ serveRefusal n lent ⌝ }
 {
-    let ok = state_rules::valid(n);
     let serves = states::is_serving(n);
-    first(
-        !ok,
-        1,
-        first(!sound, 2, first(15 < n.id, 3, first(!serves, 9, 0))),
-    )
+    turns::common(n, lent, first(15 < n.id, 3, first(!serves, 9, 0)))
 }
 
 // To NO_IO, with a transfer in hand that starts from what the map holds (keep) or from nothing.
-pub fn map_ready(n: Node, sound: bool, keep: bool) -> Turn
-    ensures { λ r. ⌜ r ≡ mapReady n sound keep ⌝ }
+pub fn map_ready(n: Node, lent: u64, keep: bool) -> Turn
+    ensures { λ r. ⌜ r ≡ mapReady n lent keep ⌝ }
 {
-    let why = serve_refusal(n, sound);
+    let why = serve_refusal(n, lent);
     let next = readied(n);
     let staging = fills(keep);
     let effect = turns::does(OnMap::Keep, staging);
@@ -57,42 +51,37 @@ fn fills(keep: bool) -> OnStaging
 }
 
 // The map goes out as it is; where it goes is the caller's.
-pub fn give(n: Node, sound: bool) -> Turn
-    ensures { λ r. ⌜ r ≡ give n sound ⌝ }
+pub fn give(n: Node, lent: u64) -> Turn
+    ensures { λ r. ⌜ r ≡ give n lent ⌝ }
 {
-    let why = serve_refusal(n, sound);
+    let why = serve_refusal(n, lent);
     let effect = turns::does(OnMap::Keep, OnStaging::Keep);
     let done = turns::turn(Answer::Done, n, effect);
     turns::settled(why, n, done)
 }
 
-pub fn map_get_ver(n: Node, sound: bool) -> Turn
-    ensures { λ r. ⌜ r ≡ mapGetVer n sound ⌝ }
+pub fn map_get_ver(n: Node, lent: u64) -> Turn
+    ensures { λ r. ⌜ r ≡ mapGetVer n lent ⌝ }
 {
-    let why = serve_refusal(n, sound);
+    let why = serve_refusal(n, lent);
     let effect = turns::does(OnMap::Keep, OnStaging::Keep);
     let done = turns::turn(Answer::Version(n.version), n, effect);
     turns::settled(why, n, done)
 }
 
-fn last_io_refusal(n: Node, sound: bool, chosen: u64) -> u64
-    ensures { λ r. ⌜ r ≡ lastIoRefusal n sound chosen ⌝ }
+fn last_io_refusal(n: Node, lent: u64, chosen: u64) -> u64
+    ensures { λ r. ⌜ r ≡ lastIoRefusal n lent chosen ⌝ }
 {
-    let ok = state_rules::valid(n);
     let serves = states::is_serving(n);
     let ids = (15 < n.id) | (15 < chosen);
-    first(
-        !ok,
-        1,
-        first(!sound, 2, first(ids, 3, first(!serves, 9, 0))),
-    )
+    turns::common(n, lent, first(ids, 3, first(!serves, 9, 0)))
 }
 
 // The kept chunks go into the map, for every member but the chosen.
-pub fn last_io_to_map(n: Node, sound: bool, chosen: u64) -> Turn
-    ensures { λ r. ⌜ r ≡ lastIoToMap n sound chosen ⌝ }
+pub fn last_io_to_map(n: Node, lent: u64, chosen: u64) -> Turn
+    ensures { λ r. ⌜ r ≡ lastIoToMap n lent chosen ⌝ }
 {
-    let why = last_io_refusal(n, sound, chosen);
+    let why = last_io_refusal(n, lent, chosen);
     let effect = turns::does(OnMap::LastIos(chosen), OnStaging::Keep);
     let done = turns::turn(Answer::Done, n, effect);
     turns::settled(why, n, done)

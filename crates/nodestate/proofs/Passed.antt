@@ -1,38 +1,34 @@
 -- What an accepted event knows and keeps. Assumes nothing.
 use mathlib.Core.Path.{_≡_, refl}
-use mathlib.Core.Logic.{_≢_}
-use mathlib.Core.Bool.{Bool, true, false, not, _&&_, _||_}
-use mathlib.Core.List.{List, [], _∷_}
+use mathlib.Core.Bool.{Bool, true, false, not, _||_}
 use Prim.Native.Nat.{ℕ, _≤_, _<_}
 use native.Mathlib.Omega.{arith}
-use lib.Dec.{leb, ltb}
+use lib.Dec.{eqb, ltb}
 use lib.ListN.{length}
-use borrow.Author.Tests.{ltb-false, leb-true, not-false}
-use Rattle.laws.specs.Words.{pick}
-use Rattle.laws.specs.Tests.{clash, and-left, and-right}
+use borrow.Author.Tests.{ltb-false, not-false}
+use Rattle.laws.specs.Tests.{clash}
 use Rattle.refusals.specs.Limits.{versionLimit, versionTop}
 use Rattle.sets.specs.Sets.{has}
 use Rattle.nodestate.specs.declared.Node.{Node}
 use Rattle.nodestate.specs.StateRules.{valid}
 use Rattle.nodestate.specs.Table.{Kind, legal}
 use Rattle.nodestate.proofs.Valid.{Valid, valid-facts, valid-of}
-use Rattle.refusals.specs.Refusals.{Test, applies, firstOf, refusal}
 
 pub or-false : (a b : Bool) → (a || b) ≡ false → (a ≡ false) × (b ≡ false)
 or-false true b e = clash refl e
 or-false false b e = (refl, e)
 
--- what every accepted event knows: the node's rules, its own id, that the lent maps are sound, and that the event may come
-pub record Passed (n : Node) (lent may : Bool) : Type 0 where
+-- what every accepted event knows: the node's rules, its own id, that the lent maps do not refuse, and that the event may come
+pub record Passed (n : Node) (lent : ℕ) (may : Bool) : Type 0 where
   pub rules : Valid n
-  pub sure : lent ≡ true
+  pub sure : eqb lent 2 ≡ false
   pub own : n .id < 16
   pub from : may ≡ true
 
-pub passes : (n : Node) (lent may : Bool) → not (valid n) ≡ false → not lent ≡ false → ltb 15 (n .id) ≡ false → not may ≡ false → Passed n lent may
+pub passes : (n : Node) (lent : ℕ) (may : Bool) → not (valid n) ≡ false → eqb lent 2 ≡ false → ltb 15 (n .id) ≡ false → not may ≡ false → Passed n lent may
 passes n lent may v s i m =
     let l : n .id ≤ 15 = ltb-false 15 (n .id) i in
-    record { rules = valid-facts n (not-false (valid n) v); sure = not-false lent s; own = omega arith; from = not-false may m }
+    record { rules = valid-facts n (not-false (valid n) v); sure = s; own = omega arith; from = not-false may m }
 
 -- what the version and the set that a node is told are known to be
 pub record Told (n : Node) (version set : ℕ) : Type 0 where
@@ -57,26 +53,3 @@ pub record Keeps (k : Kind) (n m : Node) : Type 0 where
 -- an event that leaves the node as it is
 pub unchanged : (k : Kind) (n : Node) → Valid n → legal k (n .state) (n .state) ≡ true → Keeps k n n
 unchanged k n v l = record { rules = valid-of n v; lawful = l; same-id = refl; same-chunks = refl; size = refl }
-
--- a refusal that is neither 1 nor 2
-pub record Later (why : ℕ) : Type 0 where
-  pub not-1 : why ≢ 1
-  pub not-2 : why ≢ 2
-
--- a list of numbers from 3 on
-abbrev late : List ℕ → Bool
-late [] = true
-late (n ∷ ns) = leb 3 n && late ns
-
-later-pick : (b : Bool) (n rest : ℕ) → 3 ≤ n → Later rest → Later (pick b n rest)
-later-pick true n rest l r = record { not-1 = λ e. omega arith; not-2 = λ e. omega arith }
-later-pick false n rest l r = r
-
-later-of : (ns : List ℕ) (ts : List Test) → late ns ≡ true → Later (firstOf ns ts)
-later-of [] ts h = record { not-1 = λ e. omega arith; not-2 = λ e. omega arith }
-later-of (n ∷ ns) ts h =
-    later-pick (applies n ts) n (firstOf ns ts) (leb-true 3 n (and-left (leb 3 n) (late ns) h)) (later-of ns ts (and-right (leb 3 n) (late ns) h))
-
--- tests 1 and 2 do not hold: the refusal is another, or none
-pub later : (ts : List Test) → applies 1 ts ≡ false → applies 2 ts ≡ false → Later (refusal ts)
-later ts a b = rw (a, b) (later-of (3 ∷ 4 ∷ 5 ∷ 6 ∷ 7 ∷ 8 ∷ 9 ∷ 10 ∷ 11 ∷ 12 ∷ 13 ∷ 14 ∷ 15 ∷ []) ts refl)

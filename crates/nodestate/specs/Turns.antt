@@ -1,13 +1,21 @@
 -- How a turn is put together: refused, or done.
+use mathlib.Core.Bool.{not}
+use mathlib.Core.List.{List, _∷_}
 use Prim.Native.Nat.{ℕ}
 use lib.Dec.{eqb}
 use Rattle.laws.specs.Words.{pick}
+use Rattle.refusals.specs.Refusals.{Test, test}
 use Rattle.nodestate.specs.declared.OnMap.{OnMap}
 use Rattle.nodestate.specs.declared.OnStaging.{OnStaging}
 use Rattle.nodestate.specs.declared.Effect.{Effect}
 use Rattle.nodestate.specs.declared.Answer.{Answer}
 use Rattle.nodestate.specs.declared.Node.{Node}
 use Rattle.nodestate.specs.declared.Turn.{Turn}
+use Rattle.nodestate.specs.StateRules.{valid}
+
+-- What every event of a node tests before its own tests: the state rules, and what the lent maps refuse with, 0 where they do not. The one place where both are named.
+abbrev pub commonTests : Node → ℕ → List Test → List Test
+commonTests n lent own = test 1 (not (valid n)) ∷ test 2 (eqb lent 2) ∷ own
 
 -- what is done to map and staging
 abbrev pub does : OnMap → OnStaging → Effect

@@ -1,5 +1,9 @@
 // How a turn is put together: refused, or done.
+ghost use mathlib.Core.Bool.{not};
 ghost use mathlib.Core.Path.{_≡_};
+ghost use lib.Dec.{eqb};
+ghost use Rattle.laws.specs.Words.{pick};
+ghost use Rattle.nodestate.specs.StateRules.{valid};
 ghost use Rattle.nodestate.specs.Turns.{does, turn, refused, settled};
 use crate::Answer;
 use crate::Effect;
@@ -7,6 +11,16 @@ use crate::Node;
 use crate::OnMap;
 use crate::OnStaging;
 use crate::Turn;
+use crate::state_rules;
+use refusals::first;
+
+// What every event tests before its own tests: the state rules, and the number that the lent maps refuse with.
+pub fn common(n: Node, lent: u64, own: u64) -> u64
+    ensures { λ r. ⌜ r ≡ pick (not (valid n)) 1 (pick (eqb lent 2) 2 own) ⌝ }
+{
+    let ok = state_rules::valid(n);
+    first(!ok, 1, first(lent == 2, 2, own))
+}
 
 // What is done to map and staging.
 pub fn does(map: OnMap, staging: OnStaging) -> Effect

@@ -1,6 +1,6 @@
 -- Write, synced, POOL_INFO: what an accepted one knows, and that it keeps the state rules and the table of legal changes. Assumes nothing.
-use mathlib.Core.Path.{_≡_, refl, sym, ap}
-use mathlib.Core.Bool.{Bool, true, not, _&&_}
+use mathlib.Core.Path.{_≡_, refl, sym}
+use mathlib.Core.Bool.{true, _&&_}
 use mathlib.Core.List.{List, [], _∷_, _++_}
 use Prim.Native.Nat.{ℕ, _+_, _≤_}
 use native.Mathlib.Omega.{arith}
@@ -16,11 +16,11 @@ use Rattle.order.proofs.Order.{none-applies}
 use Rattle.nodestate.specs.declared.Node.{Node}
 use Rattle.nodestate.specs.States.{isNormal, isJoined}
 use Rattle.nodestate.specs.Change.{takenOver, memberEntered, memberDropped, storedVersion, keptChunk}
-use Rattle.nodestate.specs.StateRules.{keptOk, standing, valid}
+use Rattle.nodestate.specs.StateRules.{keptOk, standing}
 use Rattle.nodestate.specs.Table.{Kind, legal}
 use Rattle.nodestate.proofs.Tables.{gives, given}
 use Rattle.nodestate.proofs.Valid.{valid-of, at-node, keptChunk-keeps}
-use Rattle.nodestate.proofs.Passed.{or-false, Passed, passes, Keeps, unchanged, Later, later}
+use Rattle.nodestate.proofs.Passed.{or-false, Passed, passes, Keeps, unchanged}
 use mathlib.Core.Logic.{_≢_}
 use Rattle.state.specs.declared.Op.{Op}
 use Rattle.nodewrites.specs.Write.{writeTests, writeRefusal, written, syncedTests, syncedRefusal}
@@ -28,31 +28,25 @@ use Rattle.nodewrites.specs.Info.{lacks, poolInfoTests, poolInfoRefusal,
 
 -- ---- write
 
-pub write-later : (n : Node) (sound : Bool) (chunk : ℕ) (set : ℕ) (version : ℕ) → valid n ≡ true → sound ≡ true → Later (writeRefusal n sound chunk set version)
+pub write-passed : (n : Node) (lent : ℕ) (chunk : ℕ) (set : ℕ) (version : ℕ) → writeRefusal n lent chunk set version ≡ 0 → Passed n lent (isNormal (n .state))
 unfolding writeRefusal
-write-later n sound chunk set version v l =
-    let ts : List Test = writeTests n sound chunk set version in
-    later ts (ap not v) (ap not l)
-
-pub write-passed : (n : Node) (sound : Bool) (chunk : ℕ) (set : ℕ) (version : ℕ) → writeRefusal n sound chunk set version ≡ 0 → Passed n sound (isNormal (n .state))
-unfolding writeRefusal
-write-passed n sound chunk set version e =
-    let ts : List Test = writeTests n sound chunk set version in
-    passes n sound (isNormal (n .state)) (none-applies ts e 0 (omega arith)) (none-applies ts e 1 (omega arith)) (or-false (ltb 15 (n .id)) _ (none-applies ts e 2 (omega arith)) .0) (none-applies ts e 8 (omega arith))
+write-passed n lent chunk set version e =
+    let ts : List Test = writeTests n lent chunk set version in
+    passes n lent (isNormal (n .state)) (none-applies ts e 1 refl) (none-applies ts e 2 refl) (or-false (ltb 15 (n .id)) _ (none-applies ts e 3 refl) .0) (none-applies ts e 9 refl)
 
 -- the chunk is below the chunk count
-pub write-chunk : (n : Node) (sound : Bool) (chunk set version : ℕ) → writeRefusal n sound chunk set version ≡ 0 → ltb chunk (n .chunks) ≡ true
+pub write-chunk : (n : Node) (lent : ℕ) (chunk set version : ℕ) → writeRefusal n lent chunk set version ≡ 0 → ltb chunk (n .chunks) ≡ true
 unfolding writeRefusal
-write-chunk n sound chunk set version e =
-    let ts : List Test = writeTests n sound chunk set version in
-    not-false _ (none-applies ts e 3 (omega arith))
+write-chunk n lent chunk set version e =
+    let ts : List Test = writeTests n lent chunk set version in
+    not-false _ (none-applies ts e 4 refl)
 
 -- the version is within the bound of the state rules
-pub write-version : (n : Node) (sound : Bool) (chunk set version : ℕ) → writeRefusal n sound chunk set version ≡ 0 → version ≤ versionTop
+pub write-version : (n : Node) (lent : ℕ) (chunk set version : ℕ) → writeRefusal n lent chunk set version ≡ 0 → version ≤ versionTop
 unfolding writeRefusal
-write-version n sound chunk set version e =
-    let ts : List Test = writeTests n sound chunk set version in
-    ltb-false versionTop version (none-applies ts e 13 (omega arith))
+write-version n lent chunk set version e =
+    let ts : List Test = writeTests n lent chunk set version in
+    ltb-false versionTop version (none-applies ts e 14 refl)
 
 shifted-size : (k : List ℕ) (c : ℕ) → length k ≡ 16 → length (drop 1 k ++ (c ∷ [])) ≡ length k
 shifted-size [] c h = absurd (let z : ⊥ = omega arith in z)
@@ -62,13 +56,13 @@ shifted-size (x ∷ k) c h = one-more k
     one-more [] = refl
     one-more (y ∷ l) = let q = one-more l in omega arith
 
-pub write-keeps : (n : Node) (sound : Bool) (chunk : ℕ) (set : ℕ) (version : ℕ) → length (n .kept) ≡ 16 → writeRefusal n sound chunk set version ≡ 0 → Keeps Kind.write n (written n chunk version)
+pub write-keeps : (n : Node) (lent : ℕ) (chunk : ℕ) (set : ℕ) (version : ℕ) → length (n .kept) ≡ 16 → writeRefusal n lent chunk set version ≡ 0 → Keeps Kind.write n (written n chunk version)
 unfolding written keptChunk storedVersion keptOk
-write-keeps n sound chunk set version h e =
-    let p = write-passed n sound chunk set version e in
+write-keeps n lent chunk set version h e =
+    let p = write-passed n lent chunk set version e in
     let v = p .rules in
     record {
-      rules = valid-of (written n chunk version) (record { some = v .some; few = v .few; stand = given _ _ (at-node (λ s store create t own. gives (standing s store create t own && (isNormal s)) (standing s store create t own)) refl n) (and-both (v .stand) (p .from)); ids = v .ids; top = write-version n sound chunk set version e; keeps = keptChunk-keeps (storedVersion n version) chunk h (v .keeps) (ltb-true _ _ (write-chunk n sound chunk set version e)) });
+      rules = valid-of (written n chunk version) (record { some = v .some; few = v .few; stand = given _ _ (at-node (λ s store create t own. gives (standing s store create t own && (isNormal s)) (standing s store create t own)) refl n) (and-both (v .stand) (p .from)); ids = v .ids; top = write-version n lent chunk set version e; keeps = keptChunk-keeps (storedVersion n version) chunk h (v .keeps) (ltb-true _ _ (write-chunk n lent chunk set version e)) });
       lawful = given _ _ (at-node (λ s store create t own. gives (standing s store create t own && (isNormal s)) (legal Kind.write s (s))) refl n) (and-both (v .stand) (p .from));
       same-id = refl;
       same-chunks = refl;
@@ -77,51 +71,39 @@ write-keeps n sound chunk set version h e =
 
 -- ---- synced
 
-pub synced-later : (n : Node) (sound : Bool) (member : ℕ) (chunk : ℕ) → valid n ≡ true → sound ≡ true → Later (syncedRefusal n sound member chunk)
+pub synced-passed : (n : Node) (lent : ℕ) (member : ℕ) (chunk : ℕ) → syncedRefusal n lent member chunk ≡ 0 → Passed n lent (isNormal (n .state))
 unfolding syncedRefusal
-synced-later n sound member chunk v l =
-    let ts : List Test = syncedTests n sound member chunk in
-    later ts (ap not v) (ap not l)
+synced-passed n lent member chunk e =
+    let ts : List Test = syncedTests n lent member chunk in
+    passes n lent (isNormal (n .state)) (none-applies ts e 1 refl) (none-applies ts e 2 refl) (or-false (ltb 15 (n .id)) _ (none-applies ts e 3 refl) .0) (none-applies ts e 9 refl)
 
-pub synced-passed : (n : Node) (sound : Bool) (member : ℕ) (chunk : ℕ) → syncedRefusal n sound member chunk ≡ 0 → Passed n sound (isNormal (n .state))
-unfolding syncedRefusal
-synced-passed n sound member chunk e =
-    let ts : List Test = syncedTests n sound member chunk in
-    passes n sound (isNormal (n .state)) (none-applies ts e 0 (omega arith)) (none-applies ts e 1 (omega arith)) (or-false (ltb 15 (n .id)) _ (none-applies ts e 2 (omega arith)) .0) (none-applies ts e 8 (omega arith))
-
-pub synced-keeps : (n : Node) (sound : Bool) (member : ℕ) (chunk : ℕ) → syncedRefusal n sound member chunk ≡ 0 → Keeps Kind.synced n n
-synced-keeps n sound member chunk e =
-    let p = synced-passed n sound member chunk e in
+pub synced-keeps : (n : Node) (lent : ℕ) (member : ℕ) (chunk : ℕ) → syncedRefusal n lent member chunk ≡ 0 → Keeps Kind.synced n n
+synced-keeps n lent member chunk e =
+    let p = synced-passed n lent member chunk e in
     unchanged Kind.synced n (p .rules) (given _ _ (at-node (λ s store create t own. gives (standing s store create t own && (isNormal s)) (legal Kind.synced s s)) refl n) (and-both (p .rules .stand) (p .from)))
 
 -- ---- POOL_INFO
 
-pub poolInfo-later : (n : Node) (sound : Bool) (op : Op) (member : ℕ) → valid n ≡ true → sound ≡ true → Later (poolInfoRefusal n sound op member)
+pub poolInfo-passed : (n : Node) (lent : ℕ) (op : Op) (member : ℕ) → poolInfoRefusal n lent op member ≡ 0 → Passed n lent (isJoined (n .state))
 unfolding poolInfoRefusal
-poolInfo-later n sound op member v l =
-    let ts : List Test = poolInfoTests n sound op member in
-    later ts (ap not v) (ap not l)
-
-pub poolInfo-passed : (n : Node) (sound : Bool) (op : Op) (member : ℕ) → poolInfoRefusal n sound op member ≡ 0 → Passed n sound (isJoined (n .state))
-unfolding poolInfoRefusal
-poolInfo-passed n sound op member e =
-    let ts : List Test = poolInfoTests n sound op member in
-    passes n sound (isJoined (n .state)) (none-applies ts e 0 (omega arith)) (none-applies ts e 1 (omega arith)) (or-false (ltb 15 (n .id)) _ (none-applies ts e 2 (omega arith)) .0) (none-applies ts e 8 (omega arith))
+poolInfo-passed n lent op member e =
+    let ts : List Test = poolInfoTests n lent op member in
+    passes n lent (isJoined (n .state)) (none-applies ts e 1 refl) (none-applies ts e 2 refl) (or-false (ltb 15 (n .id)) _ (none-applies ts e 3 refl) .0) (none-applies ts e 9 refl)
 
 -- never about itself
-pub poolInfo-other : (n : Node) (sound : Bool) (op : Op) (member : ℕ) → poolInfoRefusal n sound op member ≡ 0 → n .id ≢ member
+pub poolInfo-other : (n : Node) (lent : ℕ) (op : Op) (member : ℕ) → poolInfoRefusal n lent op member ≡ 0 → n .id ≢ member
 unfolding poolInfoRefusal
-poolInfo-other n sound op member e =
-    let ts : List Test = poolInfoTests n sound op member in
-    let d : member ≢ n .id = eqb-false member (n .id) (or-false (eqb member (n .id)) (lacks op (has (n .members) member)) (none-applies ts e 9 (omega arith)) .0) in
+poolInfo-other n lent op member e =
+    let ts : List Test = poolInfoTests n lent op member in
+    let d : member ≢ n .id = eqb-false member (n .id) (or-false (eqb member (n .id)) (lacks op (has (n .members) member)) (none-applies ts e 10 refl) .0) in
     λ q. d (sym q)
 
-pub poolInfo-keeps : (n : Node) (sound : Bool) (op : Op) (member : ℕ) → poolInfoRefusal n sound op member ≡ 0 → Keeps Kind.poolInfo n (informed op n member)
+pub poolInfo-keeps : (n : Node) (lent : ℕ) (op : Op) (member : ℕ) → poolInfoRefusal n lent op member ≡ 0 → Keeps Kind.poolInfo n (informed op n member)
 unfolding informed memberEntered memberDropped takenOver keptOk
-poolInfo-keeps n sound Op.AddCreate member e =
-    let p = poolInfo-passed n sound Op.AddCreate member e in
+poolInfo-keeps n lent Op.AddCreate member e =
+    let p = poolInfo-passed n lent Op.AddCreate member e in
     let v = p .rules in
-    let d = poolInfo-other n sound Op.AddCreate member e in
+    let d = poolInfo-other n lent Op.AddCreate member e in
     record {
       rules = valid-of (memberEntered n member) (record { some = v .some; few = v .few; stand = rw (has-with-other (n .members) member (n .id) d) (given _ _ (at-node (λ s store create t own. gives (standing s store create t own && (isJoined s)) (standing s store create t own)) refl n) (and-both (v .stand) (p .from))); ids = with-lt (n .members) member (v .ids); top = v .top; keeps = v .keeps });
       lawful = given _ _ (at-node (λ s store create t own. gives (standing s store create t own && (isJoined s)) (legal Kind.poolInfo s (s))) refl n) (and-both (v .stand) (p .from));
@@ -129,13 +111,13 @@ poolInfo-keeps n sound Op.AddCreate member e =
       same-chunks = refl;
       size = refl;
     }
-poolInfo-keeps n sound Op.AddAssemble member e =
-    let p = poolInfo-passed n sound Op.AddAssemble member e in
+poolInfo-keeps n lent Op.AddAssemble member e =
+    let p = poolInfo-passed n lent Op.AddAssemble member e in
     unchanged Kind.poolInfo n (p .rules) (given _ _ (at-node (λ s store create t own. gives (standing s store create t own && (isJoined s)) (legal Kind.poolInfo s s)) refl n) (and-both (p .rules .stand) (p .from)))
-poolInfo-keeps n sound Op.RemoveDelete member e =
-    let p = poolInfo-passed n sound Op.RemoveDelete member e in
+poolInfo-keeps n lent Op.RemoveDelete member e =
+    let p = poolInfo-passed n lent Op.RemoveDelete member e in
     let v = p .rules in
-    let d = poolInfo-other n sound Op.RemoveDelete member e in
+    let d = poolInfo-other n lent Op.RemoveDelete member e in
     record {
       rules = valid-of (memberDropped n member) (record { some = v .some; few = v .few; stand = rw (has-without-other (n .members) member (n .id) d) (given _ _ (at-node (λ s store create t own. gives (standing s store create t own && (isJoined s)) (standing s store create t own)) refl n) (and-both (v .stand) (p .from))); ids = without-lt (n .members) member (v .ids); top = v .top; keeps = v .keeps });
       lawful = given _ _ (at-node (λ s store create t own. gives (standing s store create t own && (isJoined s)) (legal Kind.poolInfo s (s))) refl n) (and-both (v .stand) (p .from));
@@ -143,6 +125,6 @@ poolInfo-keeps n sound Op.RemoveDelete member e =
       same-chunks = refl;
       size = refl;
     }
-poolInfo-keeps n sound Op.RemoveDisassemble member e =
-    let p = poolInfo-passed n sound Op.RemoveDisassemble member e in
+poolInfo-keeps n lent Op.RemoveDisassemble member e =
+    let p = poolInfo-passed n lent Op.RemoveDisassemble member e in
     unchanged Kind.poolInfo n (p .rules) (given _ _ (at-node (λ s store create t own. gives (standing s store create t own && (isJoined s)) (legal Kind.poolInfo s s)) refl n) (and-both (p .rules .stand) (p .from)))

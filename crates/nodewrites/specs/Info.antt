@@ -1,4 +1,4 @@
--- POOL_INFO: in CREATED, NORMAL and NO_IO, never about itself. `sound` says that the lent maps are.
+-- POOL_INFO: in CREATED, NORMAL and NO_IO, never about itself. `lent` is the number that the lent maps refuse with.
 use mathlib.Core.Bool.{Bool, false, not, _||_}
 use mathlib.Core.List.{List, [], _∷_}
 use Prim.Native.Nat.{ℕ}
@@ -13,8 +13,7 @@ use Rattle.nodestate.specs.declared.Turn.{Turn}
 use Rattle.state.specs.declared.Op.{Op}
 use Rattle.nodestate.specs.States.{isJoined}
 use Rattle.nodestate.specs.Change.{memberEntered, memberDropped}
-use Rattle.nodestate.specs.StateRules.{valid}
-use Rattle.nodestate.specs.Turns.{does, turn, settled}
+use Rattle.nodestate.specs.Turns.{commonTests, does, turn, settled}
 
 -- add-assemble demands the member
 abbrev pub lacks : Op → Bool → Bool
@@ -23,17 +22,16 @@ lacks Op.AddAssemble member = not member
 lacks Op.RemoveDelete member = false
 lacks Op.RemoveDisassemble member = false
 
-abbrev pub poolInfoTests : Node → Bool → Op → ℕ → List Test
-poolInfoTests n sound op member =
-    test 1 (not (valid n))
-    ∷ test 2 (not sound)
-    ∷ test 3 (ltb 15 (n .id) || ltb 15 member)
+abbrev pub poolInfoTests : Node → ℕ → Op → ℕ → List Test
+poolInfoTests n lent op member =
+    commonTests n lent
+    (test 3 (ltb 15 (n .id) || ltb 15 member)
     ∷ test 9 (not (isJoined (n .state)))
     ∷ test 10 (eqb member (n .id) || lacks op (has (n .members) member))
-    ∷ []
+    ∷ [])
 
-unfoldable pub poolInfoRefusal : Node → Bool → Op → ℕ → ℕ
-poolInfoRefusal n sound op member = refusal (poolInfoTests n sound op member)
+unfoldable pub poolInfoRefusal : Node → ℕ → Op → ℕ → ℕ
+poolInfoRefusal n lent op member = refusal (poolInfoTests n lent op member)
 
 -- add-create enters the member, remove-delete drops it
 unfoldable pub informed : Op → Node → ℕ → Node
@@ -49,6 +47,6 @@ informs Op.AddAssemble member = OnMap.Keep
 informs Op.RemoveDelete member = OnMap.ZeroRow member
 informs Op.RemoveDisassemble member = OnMap.Keep
 
-unfoldable pub poolInfo : Node → Bool → Op → ℕ → Turn
-poolInfo n sound op member =
-    settled (poolInfoRefusal n sound op member) n (turn Answer.Done (informed op n member) (does (informs op member) OnStaging.Keep))
+unfoldable pub poolInfo : Node → ℕ → Op → ℕ → Turn
+poolInfo n lent op member =
+    settled (poolInfoRefusal n lent op member) n (turn Answer.Done (informed op n member) (does (informs op member) OnStaging.Keep))

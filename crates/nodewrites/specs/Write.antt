@@ -1,5 +1,5 @@
--- Writes and syncs at a node: NORMAL only. `sound` says that the lent maps are.
-use mathlib.Core.Bool.{Bool, not, _||_}
+-- Writes and syncs at a node: NORMAL only. `lent` is the number that the lent maps refuse with.
+use mathlib.Core.Bool.{not, _||_}
 use mathlib.Core.List.{List, [], _∷_}
 use Prim.Native.Nat.{ℕ}
 use lib.Dec.{ltb}
@@ -12,44 +12,41 @@ use Rattle.nodestate.specs.declared.Node.{Node}
 use Rattle.nodestate.specs.declared.Turn.{Turn}
 use Rattle.nodestate.specs.States.{isNormal}
 use Rattle.nodestate.specs.Change.{storedVersion, keptChunk}
-use Rattle.nodestate.specs.StateRules.{valid}
-use Rattle.nodestate.specs.Turns.{does, turn, settled}
+use Rattle.nodestate.specs.Turns.{commonTests, does, turn, settled}
 
 -- ---- write (chunk, set, version): marks the chunk for each of the set, stores the version, keeps the chunk number
 
-abbrev pub writeTests : Node → Bool → ℕ → ℕ → ℕ → List Test
-writeTests n sound chunk set version =
-    test 1 (not (valid n))
-    ∷ test 2 (not sound)
-    ∷ test 3 (ltb 15 (n .id) || ltb 65535 set)
+abbrev pub writeTests : Node → ℕ → ℕ → ℕ → ℕ → List Test
+writeTests n lent chunk set version =
+    commonTests n lent
+    (test 3 (ltb 15 (n .id) || ltb 65535 set)
     ∷ test 4 (not (ltb chunk (n .chunks)))
     ∷ test 9 (not (isNormal (n .state)))
     ∷ test 14 (ltb versionTop version)
-    ∷ []
+    ∷ [])
 
-unfoldable pub writeRefusal : Node → Bool → ℕ → ℕ → ℕ → ℕ
-writeRefusal n sound chunk set version = refusal (writeTests n sound chunk set version)
+unfoldable pub writeRefusal : Node → ℕ → ℕ → ℕ → ℕ → ℕ
+writeRefusal n lent chunk set version = refusal (writeTests n lent chunk set version)
 
 unfoldable pub written : Node → ℕ → ℕ → Node
 written n chunk version = keptChunk (storedVersion n version) chunk
 
-unfoldable pub write : Node → Bool → ℕ → ℕ → ℕ → Turn
-write n sound chunk set version =
-    settled (writeRefusal n sound chunk set version) n (turn Answer.Done (written n chunk version) (does (OnMap.Mark set chunk) OnStaging.Keep))
+unfoldable pub write : Node → ℕ → ℕ → ℕ → ℕ → Turn
+write n lent chunk set version =
+    settled (writeRefusal n lent chunk set version) n (turn Answer.Done (written n chunk version) (does (OnMap.Mark set chunk) OnStaging.Keep))
 
 -- ---- synced (member, chunk): clears the chunk for the member
 
-abbrev pub syncedTests : Node → Bool → ℕ → ℕ → List Test
-syncedTests n sound member chunk =
-    test 1 (not (valid n))
-    ∷ test 2 (not sound)
-    ∷ test 3 (ltb 15 (n .id) || ltb 15 member)
+abbrev pub syncedTests : Node → ℕ → ℕ → ℕ → List Test
+syncedTests n lent member chunk =
+    commonTests n lent
+    (test 3 (ltb 15 (n .id) || ltb 15 member)
     ∷ test 4 (not (ltb chunk (n .chunks)))
     ∷ test 9 (not (isNormal (n .state)))
-    ∷ []
+    ∷ [])
 
-unfoldable pub syncedRefusal : Node → Bool → ℕ → ℕ → ℕ
-syncedRefusal n sound member chunk = refusal (syncedTests n sound member chunk)
+unfoldable pub syncedRefusal : Node → ℕ → ℕ → ℕ → ℕ
+syncedRefusal n lent member chunk = refusal (syncedTests n lent member chunk)
 
-unfoldable pub synced : Node → Bool → ℕ → ℕ → Turn
-synced n sound member chunk = settled (syncedRefusal n sound member chunk) n (turn Answer.Done n (does (OnMap.Clear member chunk) OnStaging.Keep))
+unfoldable pub synced : Node → ℕ → ℕ → ℕ → Turn
+synced n lent member chunk = settled (syncedRefusal n lent member chunk) n (turn Answer.Done n (does (OnMap.Clear member chunk) OnStaging.Keep))

@@ -7,37 +7,31 @@ use nodestate::OnMap;
 use nodestate::OnStaging;
 use nodestate::Turn;
 use nodestate::change;
-use nodestate::state_rules;
 use nodestate::states;
 use nodestate::turns;
 use refusals::first;
 use state::Op;
 
-fn pool_info_refusal(n: Node, sound: bool, op: Op, member: u64) -> u64
-    ensures { λ r. ⌜ r ≡ poolInfoRefusal n sound op member ⌝ }
+fn pool_info_refusal(n: Node, lent: u64, op: Op, member: u64) -> u64
+    ensures { λ r. ⌜ r ≡ poolInfoRefusal n lent op member ⌝ }
 {
-    let ok = state_rules::valid(n);
     let s = n.state;
     let joined = states::is_joined(s);
     let ids = (15 < n.id) | (15 < member);
     let there = sets::has(n.members, member);
     let bars = (member == n.id) | lacks(op, there);
-    first(
-        !ok,
-        1,
-        first(
-            !sound,
-            2,
-            first(ids, 3, first(!joined, 9, first(bars, 10, 0))),
-        ),
+    turns::common(
+        n,
+        lent,
+        first(ids, 3, first(!joined, 9, first(bars, 10, 0))),
     )
 }
 
 // Another member came or went.
-pub fn pool_info(n: Node, sound: bool, op: Op, member: u64) -> Turn
-    ensures { λ r. ⌜ r ≡ poolInfo n sound op member ⌝ }
+pub fn pool_info(n: Node, lent: u64, op: Op, member: u64) -> Turn
+    ensures { λ r. ⌜ r ≡ poolInfo n lent op member ⌝ }
 {
-    let why = pool_info_refusal(n, sound, op, member);
+    let why = pool_info_refusal(n, lent, op, member);
     let next = informed(op, n, member);
     let map = informs(op, member);
     let effect = turns::does(map, OnStaging::Keep);

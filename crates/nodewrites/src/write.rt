@@ -7,40 +7,34 @@ use nodestate::OnMap;
 use nodestate::OnStaging;
 use nodestate::Turn;
 use nodestate::change;
-use nodestate::state_rules;
 use nodestate::states;
 use nodestate::turns;
 use refusals::first;
 
-fn write_refusal(n: Node, sound: bool, chunk: u64, set: u64, version: u64) -> u64
-    ensures { λ r. ⌜ r ≡ writeRefusal n sound chunk set version ⌝ }
+fn write_refusal(n: Node, lent: u64, chunk: u64, set: u64, version: u64) -> u64
+    ensures { λ r. ⌜ r ≡ writeRefusal n lent chunk set version ⌝ }
 {
-    let ok = state_rules::valid(n);
     let s = n.state;
     let normal = states::is_normal(s);
     let ids = (15 < n.id) | (65535 < set);
     let below = chunk < n.chunks;
     let high = refusals::VERSION_TOP < version;
-    first(
-        !ok,
-        1,
+    turns::common(
+        n,
+        lent,
         first(
-            !sound,
-            2,
-            first(
-                ids,
-                3,
-                first(!below, 4, first(!normal, 9, first(high, 14, 0))),
-            ),
+            ids,
+            3,
+            first(!below, 4, first(!normal, 9, first(high, 14, 0))),
         ),
     )
 }
 
 // A write that reached this node: the chunk is marked for those it did not reach, the version stored, the chunk number kept.
-pub fn write(n: Node, sound: bool, chunk: u64, set: u64, version: u64) -> Turn
-    ensures { λ r. ⌜ r ≡ write n sound chunk set version ⌝ }
+pub fn write(n: Node, lent: u64, chunk: u64, set: u64, version: u64) -> Turn
+    ensures { λ r. ⌜ r ≡ write n lent chunk set version ⌝ }
 {
-    let why = write_refusal(n, sound, chunk, set, version);
+    let why = write_refusal(n, lent, chunk, set, version);
     let next = written(n, chunk, version);
     let effect = turns::does(OnMap::Mark(set, chunk), OnStaging::Keep);
     let done = turns::turn(Answer::Done, next, effect);
@@ -54,30 +48,25 @@ fn written(n: Node, chunk: u64, version: u64) -> Node
     change::kept_chunk(stored, chunk)
 }
 
-fn synced_refusal(n: Node, sound: bool, member: u64, chunk: u64) -> u64
-    ensures { λ r. ⌜ r ≡ syncedRefusal n sound member chunk ⌝ }
+fn synced_refusal(n: Node, lent: u64, member: u64, chunk: u64) -> u64
+    ensures { λ r. ⌜ r ≡ syncedRefusal n lent member chunk ⌝ }
 {
-    let ok = state_rules::valid(n);
     let s = n.state;
     let normal = states::is_normal(s);
     let ids = (15 < n.id) | (15 < member);
     let below = chunk < n.chunks;
-    first(
-        !ok,
-        1,
-        first(
-            !sound,
-            2,
-            first(ids, 3, first(!below, 4, first(!normal, 9, 0))),
-        ),
+    turns::common(
+        n,
+        lent,
+        first(ids, 3, first(!below, 4, first(!normal, 9, 0))),
     )
 }
 
 // A chunk was synced for a member: it is clean.
-pub fn synced(n: Node, sound: bool, member: u64, chunk: u64) -> Turn
-    ensures { λ r. ⌜ r ≡ synced n sound member chunk ⌝ }
+pub fn synced(n: Node, lent: u64, member: u64, chunk: u64) -> Turn
+    ensures { λ r. ⌜ r ≡ synced n lent member chunk ⌝ }
 {
-    let why = synced_refusal(n, sound, member, chunk);
+    let why = synced_refusal(n, lent, member, chunk);
     let effect = turns::does(OnMap::Clear(member, chunk), OnStaging::Keep);
     let done = turns::turn(Answer::Done, n, effect);
     turns::settled(why, n, done)

@@ -10,7 +10,7 @@ use lib.ListN.{length, getD}
 use borrow.Author.Tests.{eqb-true, eq-eqb}
 use Rattle.laws.specs.Words.{pick}
 use Rattle.laws.specs.Tests.{by-cases, clash, passed}
-use Rattle.refusals.specs.Refusals.{Test, places, applies, firstOf, refusal}
+use Rattle.refusals.specs.Refusals.{Test, places, hasPlace, applies, firstOf, refusal}
 use Rattle.order.specs.Order.{Given, SomeApplies, FirstApplies, NoneApplies}
 
 -- ---- what it means that a number applies
@@ -81,15 +81,20 @@ counted [] = true
 counted (zero ∷ ns) = false
 counted (suc n ∷ ns) = counted ns
 
-none-in : (ns : List ℕ) (ts : List Test) → counted ns ≡ true → firstOf ns ts ≡ 0 → (i : ℕ) → i < length ns → applies (getD ns i 0) ts ≡ false
-none-in [] ts h e i l = absurd (let z : ⊥ = omega arith in z)
-none-in (zero ∷ ns) ts h e i l = clash h refl
-none-in (suc n ∷ ns) ts h e zero l = passed (applies (suc n) ts) (suc n) (firstOf ns ts) (λ q. omega arith) e .0
-none-in (suc n ∷ ns) ts h e (suc i) l = none-in ns ts h (passed (applies (suc n) ts) (suc n) (firstOf ns ts) (λ q. omega arith) e .1) i (omega arith)
+none-in : (ns : List ℕ) (ts : List Test) → counted ns ≡ true → firstOf ns ts ≡ 0 → (n : ℕ) → hasPlace n ns ≡ true → applies n ts ≡ false
+none-in [] ts h e n l = clash l refl
+none-in (zero ∷ ns) ts h e n l = clash h refl
+none-in (suc k ∷ ns) ts h e n l =
+    let p = passed (applies (suc k) ts) (suc k) (firstOf ns ts) (λ q. omega arith) e in
+    at (eqb n (suc k)) refl l (p .0) (none-in ns ts h (p .1) n)
+  where
+    at : (b : Bool) → eqb n (suc k) ≡ b → (b || hasPlace n ns) ≡ true → applies (suc k) ts ≡ false → (hasPlace n ns ≡ true → applies n ts ≡ false) → applies n ts ≡ false
+    at true q l here rec = rw (eqb-true n (suc k) q) here
+    at false q l here rec = rec l
 
--- Where none was given, none applies.
+-- Where none was given, none applies: whoever names a number with a place gives `refl` for it.
 pub none-applies : NoneApplies
-none-applies ts e i l = none-in places ts refl e i l
+none-applies ts e n l = none-in places ts refl e n l
 
 -- Two values that are both what a contract names are equal.
 pub one-only : {A : Type 0} (spec a b : A) → a ≡ spec → b ≡ spec → a ≡ b

@@ -4,8 +4,8 @@ use mathlib.Core.Logic.{_≢_}
 use mathlib.Core.Bool.{true, false}
 use mathlib.Core.List.{List, _∷_}
 use Prim.Native.Nat.{ℕ, _<_}
-use lib.ListN.{getD}
-use Rattle.refusals.specs.Refusals.{Test, places, applies, refusal}
+use lib.ListN.{length, getD}
+use Rattle.refusals.specs.Refusals.{Test, places, hasPlace, applies, refusal}
 
 -- A test with the number n is among them, and holds.
 pub data Given (n : ℕ) : List Test → Type 0 where
@@ -16,17 +16,17 @@ pub data Given (n : ℕ) : List Test → Type 0 where
 abbrev pub SomeApplies : Type 0
 SomeApplies = (n : ℕ) (ts : List Test) → (applies n ts ≡ true → Given n ts) × (Given n ts → applies n ts ≡ true)
 
--- The number n is the first of the tests that applies: it stands at one of the fifteen places of document 01's order, it applies, and none at an earlier place does.
+-- The number n is the first of the tests that applies: it stands at a place of document 01's order, it applies, and none at an earlier place does.
 pub record First (ts : List Test) (n : ℕ) : Type 0 where
   pub place : ℕ
-  pub listed : place < 15
+  pub listed : place < length places
   pub number : getD places place 0 ≡ n
   pub given : applies n ts ≡ true
   pub before : (i : ℕ) → i < place → applies (getD places i 0) ts ≡ false
 
 -- None of document 01's numbers applies.
 abbrev pub None : List Test → Type 0
-None ts = (i : ℕ) → i < 15 → applies (getD places i 0) ts ≡ false
+None ts = (n : ℕ) → hasPlace n places ≡ true → applies n ts ≡ false
 
 -- What `refusal` gives, of any tests: the first that applies; 0 where none does.
 abbrev pub FirstApplies : Type 0

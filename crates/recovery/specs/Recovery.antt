@@ -1,4 +1,4 @@
--- The awaited message of a job: its sending, the end of a job, recovery tried.
+-- The awaited message of a job: its sending, the end of a run and of a removal, recovery tried.
 use Prim.Native.Nat.{ℕ, _+_, _%_}
 use lib.Dec.{eqb}
 use Rattle.laws.specs.Words.{pick}
@@ -34,9 +34,17 @@ posted p j m =
 abbrev pub quiet : Pool → Posted
 quiet p = record { pool = p; awaited = Message.Nothing }
 
--- No job is in hand any more: the one end of every run, finished, failed or cut off, and of every removal.
-abbrev pub jobEnded : Pool → Pool
-jobEnded p = record { roster = p .roster; job = Job.Idle; number = p .number; chunks = p .chunks }
+-- no job is in hand any more
+abbrev pub jobless : Pool → Pool
+jobless p = record { roster = p .roster; job = Job.Idle; number = p .number; chunks = p .chunks }
+
+-- The one end of every run: finished, failed or cut off.
+abbrev pub runEnded : Pool → Pool
+runEnded p = jobless p
+
+-- The one end of every removal: finished or halted.
+abbrev pub removalEnded : Pool → Pool
+removalEnded p = jobless p
 
 -- a run sends the message that it awaits
 abbrev pub sentBy : Pool → Run → Posted
@@ -44,7 +52,7 @@ sentBy p r = posted p (Job.Running r) (awaitedIn (p .roster .members) (p .roster
 
 -- a run goes on, or is over
 abbrev pub goneOn : Next → Pool → Posted
-goneOn Next.Over p = quiet (jobEnded p)
+goneOn Next.Over p = quiet (runEnded p)
 goneOn (Next.On r) p = sentBy p r
 
 -- a run begins, or nothing changes

@@ -1,8 +1,8 @@
-// The awaited message of a job: its sending, the end of a job, recovery tried.
+// The awaited message of a job: its sending, the end of a run and of a removal, recovery tried.
 pub mod cases;
 
 ghost use mathlib.Core.Path.{_≡_};
-ghost use Rattle.recovery.specs.Recovery.{nextNumber, withRoster, posted, quiet, jobEnded, sentBy, goneOn, beginning, tried, disabling, disablingBut};
+ghost use Rattle.recovery.specs.Recovery.{nextNumber, withRoster, posted, quiet, jobless, runEnded, removalEnded, sentBy, goneOn, beginning, tried, disabling, disablingBut};
 use run::Next;
 use run::Who;
 use state::Job;
@@ -65,8 +65,8 @@ pub fn rest(p: Pool) -> Posted
 }
 
 // No job is in hand any more.
-pub fn end_job(p: Pool) -> Pool
-    ensures { λ r. ⌜ r ≡ jobEnded p ⌝ }
+fn jobless(p: Pool) -> Pool
+    ensures { λ r. ⌜ r ≡ jobless p ⌝ }
 {
     let ro = p.roster;
     Pool {
@@ -75,6 +75,20 @@ pub fn end_job(p: Pool) -> Pool
         number: p.number,
         chunks: p.chunks,
     }
+}
+
+// A run is over: finished, failed or cut off.
+pub fn end_run(p: Pool) -> Pool
+    ensures { λ r. ⌜ r ≡ runEnded p ⌝ }
+{
+    jobless(p)
+}
+
+// A removal is over: finished or halted.
+pub fn end_removal(p: Pool) -> Pool
+    ensures { λ r. ⌜ r ≡ removalEnded p ⌝ }
+{
+    jobless(p)
 }
 
 fn send_by(p: Pool, r: Run) -> Posted
@@ -91,7 +105,7 @@ pub fn go_on(n: Next, p: Pool) -> Posted
 {
     match n {
         Next::Over => {
-            let idle = end_job(p);
+            let idle = end_run(p);
             rest(idle)
         }
         Next::On(r) => send_by(p, r),

@@ -5,9 +5,14 @@ use Prim.Native.Nat.{ℕ}
 use lib.Dec.{eqb}
 use Rattle.laws.specs.Words.{pick}
 
--- The order in which the numbers are tried.
+-- The order in which the numbers are tried. 16 to 19, which requests after the base name, have their places.
 abbrev pub places : List ℕ
-places = 1 ∷ 2 ∷ 3 ∷ 4 ∷ 5 ∷ 6 ∷ 7 ∷ 8 ∷ 9 ∷ 10 ∷ 11 ∷ 12 ∷ 13 ∷ 14 ∷ 15 ∷ []
+places = 1 ∷ 2 ∷ 18 ∷ 3 ∷ 4 ∷ 5 ∷ 6 ∷ 7 ∷ 8 ∷ 9 ∷ 17 ∷ 10 ∷ 11 ∷ 19 ∷ 12 ∷ 13 ∷ 14 ∷ 15 ∷ 16 ∷ []
+
+-- the number n has a place among them
+abbrev pub hasPlace : ℕ → List ℕ → Bool
+hasPlace n [] = false
+hasPlace n (k ∷ ks) = eqb n k || hasPlace n ks
 
 -- A number, and whether it applies to the event at hand.
 pub record Test : Type 0 where

@@ -6,7 +6,7 @@ use native.Mathlib.Omega.{arith}
 use lib.Dec.{eqb, ltb}
 use borrow.Author.Tests.{eqb-true, ltb-true, ltb-false}
 use Rattle.laws.specs.Words.{pick}
-use Rattle.laws.specs.Tests.{by-cases, clash, passed, and-left, and-both}
+use Rattle.laws.specs.Tests.{by-cases, clash, passed, and-left, and-both, picked}
 use Rattle.refusals.specs.Limits.{chunkLimit}
 use Rattle.sets.specs.Sets.{has, lowest}
 use Rattle.sets.proofs.Laws.{lowest-in}
@@ -58,10 +58,6 @@ or-second : (a b : Bool) → b ≡ true → (a || b) ≡ true
 or-second true b e = refl
 or-second false b e = e
 
-pub keep-pick : (b : Bool) (x y : Gone) → (b ≡ true → Keeps x) → (b ≡ false → Keeps y) → Keeps (pick b x y)
-keep-pick true x y f g = f refl
-keep-pick false x y f g = g refl
-
 asks : (p : Pool) (id : ℕ) (st : Stage) (m : Message) (e : Effect) → stageOk st id ≡ true → Removes p id → Keeps (record { posted = asked p id st m; effect = e })
 unfolding posted
 asks p id st m e s h = record { some = h .some; most = h .most; ok = h .ok; job = and-both (h .removing) s }
@@ -109,21 +105,21 @@ another p id st h z = and-both z (by-cases (eqb d id) (λ e. clash (h .removing)
 goes-on : (p : Pool) (id : ℕ) (st : Stage) (e : Effect) → Removes p id → Keeps (onward p id st e)
 unfolding onward
 goes-on p id st e h =
-    keep-pick (ltb (due st (p .roster)) 16) _ (freedFrom p id e)
+    picked Keeps (ltb (due st (p .roster)) 16) _ (freedFrom p id e)
     (λ z. asks p id (Stage.Info (due st (p .roster))) (Message.Info (due st (p .roster)) (opOf (stateOf p id)) id) e (another p id st h z) h)
     (λ z. frees p id e h)
 
 departs : (p : Pool) (id : ℕ) → Removes p id → Keeps (departed p id)
 unfolding departed
 departs p id h =
-    keep-pick (isDeleting (stateOf p id) && not (p .roster .sync)) _ _
+    picked Keeps (isDeleting (stateOf p id) && not (p .roster .sync)) _ _
     (λ z. goes-on (withRoster p (memberDropped (p .roster) id)) id Stage.Leave (Effect.ZeroRow id)
     (record { some = h .some; most = h .most; ok = drop-keeps (p .roster) id (h .ok) (or-second (isFree (stateOf p id)) (isRemoving (stateOf p id)) (h .removing)); below = h .below; removing = h .removing }))
     (λ z. goes-on p id Stage.Leave Effect.Keep h)
 
 starts : (p : Pool) (id : ℕ) → Removes p id → Keeps (started p id)
 unfolding started
-starts p id h = keep-pick (isOwed (stateOf p id)) _ _ (λ z. asks p id Stage.Leave (Message.Leave id (modeOf (stateOf p id))) Effect.Keep refl h) (λ z. departs p id h)
+starts p id h = picked Keeps (isOwed (stateOf p id)) _ _ (λ z. asks p id Stage.Leave (Message.Leave id (modeOf (stateOf p id))) Effect.Keep refl h) (λ z. departs p id h)
 
 pays : (p : Pool) (id : ℕ) → Removes p id → Removes (paid p id) id
 unfolding went

@@ -20,7 +20,7 @@ use Rattle.roster.specs.declared.Kind.{Kind}
 use Rattle.roster.specs.Roster.{sessionAt, idsOf}
 use Rattle.changes.specs.Changes.{went, freed, memberDropped}
 use Rattle.recovery.specs.declared.Posted.{Posted}
-use Rattle.recovery.specs.Recovery.{withRoster, posted, quiet, jobEnded}
+use Rattle.recovery.specs.Recovery.{withRoster, posted, quiet, removalEnded}
 use Rattle.removal.specs.declared.Gone.{Gone}
 
 -- a removal in the pool's hand: the session's state says its mode
@@ -50,7 +50,7 @@ asked p id st m = posted p (Job.Removing (record { id = id; stage = st })) m
 unfoldable pub freedFrom : Pool → ℕ → Effect → Gone
 freedFrom p id effect =
     record {
-      posted = quiet (jobEnded (withRoster p (freed (p .roster) id)));
+      posted = quiet (removalEnded (withRoster p (freed (p .roster) id)));
       effect = pick (eqb (idsOf Kind.Present (freed (p .roster) id)) 0 && not (p .roster .sync)) Effect.ZeroAll effect;
     }
 
@@ -81,7 +81,7 @@ paid p id = withRoster p (went (p .roster) id (State.Removing (modeOf (stateOf p
 
 -- a failed answer halts the removal
 abbrev pub halted : Pool → Gone
-halted p = record { posted = quiet (jobEnded p); effect = Effect.Keep }
+halted p = record { posted = quiet (removalEnded p); effect = Effect.Keep }
 
 abbrev pub wellAnswered : Stage → Pool → ℕ → Gone
 wellAnswered Stage.Leave p id = departed (paid p id) id

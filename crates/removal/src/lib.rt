@@ -93,7 +93,7 @@ fn free(p: Pool, id: u64, effect: Effect) -> Gone
     let present = roster::ids(Kind::Present, next);
     let zeroed = zero_all((present == 0) & !ro.sync, effect);
     let freed = recovery::with_roster(p, next);
-    let idle = recovery::end_job(freed);
+    let idle = recovery::end_removal(freed);
     let posted = recovery::rest(idle);
     Gone {
         posted: posted,
@@ -164,7 +164,7 @@ fn pay(p: Pool, id: u64) -> Pool
 fn halt(p: Pool) -> Gone
     ensures { λ r. ⌜ r ≡ halted p ⌝ }
 {
-    let idle = recovery::end_job(p);
+    let idle = recovery::end_removal(p);
     let posted = recovery::rest(idle);
     Gone {
         posted: posted,

@@ -6,7 +6,7 @@ use native.Mathlib.Omega.{arith}
 use lib.Dec.{eqb, ltb}
 use borrow.Author.Tests.{eqb-true, eqb-false, lt-ltb}
 use Rattle.laws.specs.Words.{pick}
-use Rattle.laws.specs.Tests.{by-cases, clash}
+use Rattle.laws.specs.Tests.{by-cases, clash, either}
 use Rattle.refusals.specs.Limits.{answerLimit}
 use Rattle.sets.specs.Sets.{has, without, size, lowest}
 use Rattle.sets.proofs.Laws.{lowest-le, lowest-in, empty-set, size-zero, size-without, without-lt, still}
@@ -144,10 +144,6 @@ one-fewer r s = size-without (r .left) (hand r) (lowest-in (r .left) (s .1))
 
 rest-lt : (r : Run) → Some r → rest r < 65536
 rest-lt r s = without-lt (r .left) (hand r) (s .0)
-
-either : (P : ℕ → Type 0) (b : Bool) (x y : ℕ) → P x → P y → P (pick b x y)
-either P true x y p q = p
-either P false x y p q = q
 
 -- ---- one answer
 

@@ -89,7 +89,7 @@ heard w f t =
 
 -- the client's answer event, by the definitions that the contract of its method cites
 abbrev pub hears : World → Delivered → World
-hears w d = heard w (d .nodes) (answerTurn (record { pool = w .pool }) (w .map) (w .sent .number) (d .reply))
+hears w d = heard w (d .nodes) (answerTurn (w .pool) (w .map) (w .sent .number) (d .reply))
 
 -- one exchange
 unfoldable pub exchange : World → World

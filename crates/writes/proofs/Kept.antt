@@ -26,7 +26,7 @@ use Rattle.roster.specs.Roster.{sessionAt, idsOf}
 use Rattle.changes.specs.Changes.{more, failed}
 use Rattle.recovery.specs.Recovery.{withRoster}
 use Rattle.exits.specs.Exit.{haltedIf}
-use Rattle.exits.proofs.Laws.{picked, turned, halts}
+use Rattle.exits.proofs.Laws.{pools, turned, halts}
 use Rattle.rules.specs.Rules.{validPool, jobOk}
 use Rattle.rules.specs.Jobs.{isRunning}
 use Rattle.keeps.specs.Ids.{Long, ids-none}
@@ -192,7 +192,7 @@ halted-valid b p v = halts Valid b p (record { some = v .some; most = v .most; o
 
 pub marks-pool : (P : Pool → Type 0) (before after : Pool) (chunk reached : ℕ) → P after → P (marks before after chunk reached .pool)
 unfolding marks
-marks-pool P before after chunk reached h = picked P (eqb reached 0) _ _ (λ e. h) (λ e. h)
+marks-pool P before after chunk reached h = pools P (eqb reached 0) _ _ (λ e. h) (λ e. h)
 
 pub record Writes (p : Pool) (reached : ℕ) : Type 0 where
   pub plain : p .roster .sync ≡ false

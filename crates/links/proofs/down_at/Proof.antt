@@ -17,8 +17,8 @@ accept-requires c κs = search needs
 enum-known-j : tie.Need-enum-known-j
 enum-known-j c = search needs
 
-end-job-requires : tie.Need-end-job-requires
-end-job-requires c κs = search needs
+end-run-requires : tie.Need-end-run-requires
+end-run-requires c κs = search needs
 
 receiver-requires : tie.Need-receiver-requires
 receiver-requires c κs = search needs
@@ -45,7 +45,7 @@ returns : tie.Need-returns
 returns c = simp (c .accept .ensures, c .before .enum-told .given .1, c .before .before .before .with-roster .ensures, c .before .before .before .before .drop-link .ensures)
 
 returns-2 : tie.Need-returns-2
-returns-2 c = simp (c .try-after .ensures, c .before .disable-but .ensures, c .before .before .receiver .ensures, c .before .before .before .end-job .ensures, c .before .before .before .before .before .j .given .1, c .before .before .before .before .before .before .before .with-roster .ensures, c .before .before .before .before .before .before .before .before .drop-link .ensures)
+returns-2 c = simp (c .try-after .ensures, c .before .disable-but .ensures, c .before .before .receiver .ensures, c .before .before .before .end-run .ensures, c .before .before .before .before .before .j .given .1, c .before .before .before .before .before .before .before .with-roster .ensures, c .before .before .before .before .before .before .before .before .drop-link .ensures)
 
 returns-3 : tie.Need-returns-3
 returns-3 c = simp (c .accept2 .ensures, c .before .halt-if .ensures, c .before .before .is-peer .ensures, c .before .before .before .before .j2 .given .1, c .before .before .before .before .before .before .with-roster .ensures, c .before .before .before .before .before .before .before .drop-link .ensures)
@@ -59,7 +59,7 @@ down-at-spec =
     enum-told
     accept-requires
     enum-known-j
-    end-job-requires
+    end-run-requires
     receiver-requires
     disable-but-requires
     try-after-requires

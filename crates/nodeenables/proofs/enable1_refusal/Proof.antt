@@ -3,9 +3,6 @@ use Rattle.nodeenables.specs.Enable.{enable1Refusal}
 use Rattle.nodeenables.proofs.enable1_refusal.Statement.{statement}
 use Rattle.nodeenables.proofs.enable1_refusal.Tie as tie
 
-valid-requires : tie.Need-valid-requires
-valid-requires c κs = search needs
-
 is-serving-requires : tie.Need-is-serving-requires
 is-serving-requires c κs = search needs
 
@@ -24,15 +21,12 @@ first-requires-3 c κs = search needs
 first-requires-4 : tie.Need-first-requires-4
 first-requires-4 c κs = search needs
 
-first-requires-5 : tie.Need-first-requires-5
-first-requires-5 c κs = search needs
-
-first-requires-6 : tie.Need-first-requires-6
-first-requires-6 c κs = search needs
+common-requires : tie.Need-common-requires
+common-requires c κs = search needs
 
 returns : tie.Need-returns
 unfolding enable1Refusal
 returns c = cc
 
 pub enable1-refusal-spec : {M : Type 1} → statement M
-enable1-refusal-spec = tie.close (tie.spec valid-requires is-serving-requires has-requires first-requires first-requires-2 first-requires-3 first-requires-4 first-requires-5 first-requires-6 returns)
+enable1-refusal-spec = tie.close (tie.spec is-serving-requires has-requires first-requires first-requires-2 first-requires-3 first-requires-4 common-requires returns)

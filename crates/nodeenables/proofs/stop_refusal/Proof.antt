@@ -3,9 +3,6 @@ use Rattle.nodeenables.specs.Enable.{stopRefusal}
 use Rattle.nodeenables.proofs.stop_refusal.Statement.{statement}
 use Rattle.nodeenables.proofs.stop_refusal.Tie as tie
 
-valid-requires : tie.Need-valid-requires
-valid-requires c κs = search needs
-
 stoppable-requires : tie.Need-stoppable-requires
 stoppable-requires c κs = search needs
 
@@ -15,15 +12,12 @@ first-requires c κs = search needs
 first-requires-2 : tie.Need-first-requires-2
 first-requires-2 c κs = search needs
 
-first-requires-3 : tie.Need-first-requires-3
-first-requires-3 c κs = search needs
-
-first-requires-4 : tie.Need-first-requires-4
-first-requires-4 c κs = search needs
+common-requires : tie.Need-common-requires
+common-requires c κs = search needs
 
 returns : tie.Need-returns
 unfolding stopRefusal
 returns c = cc
 
 pub stop-refusal-spec : {M : Type 1} → statement M
-stop-refusal-spec = tie.close (tie.spec valid-requires stoppable-requires first-requires first-requires-2 first-requires-3 first-requires-4 returns)
+stop-refusal-spec = tie.close (tie.spec stoppable-requires first-requires first-requires-2 common-requires returns)

@@ -3,9 +3,6 @@ use Rattle.nodehand.specs.Hand.{handRefusal}
 use Rattle.nodehand.proofs.hand_refusal.Statement.{statement}
 use Rattle.nodehand.proofs.hand_refusal.Tie as tie
 
-valid-requires : tie.Need-valid-requires
-valid-requires c κs = search needs
-
 in-hand-requires : tie.Need-in-hand-requires
 in-hand-requires c κs = search needs
 
@@ -15,15 +12,12 @@ first-requires c κs = search needs
 first-requires-2 : tie.Need-first-requires-2
 first-requires-2 c κs = search needs
 
-first-requires-3 : tie.Need-first-requires-3
-first-requires-3 c κs = search needs
-
-first-requires-4 : tie.Need-first-requires-4
-first-requires-4 c κs = search needs
+common-requires : tie.Need-common-requires
+common-requires c κs = search needs
 
 returns : tie.Need-returns
 unfolding handRefusal
 returns c = cc
 
 pub hand-refusal-spec : {M : Type 1} → statement M
-hand-refusal-spec = tie.close (tie.spec valid-requires in-hand-requires first-requires first-requires-2 first-requires-3 first-requires-4 returns)
+hand-refusal-spec = tie.close (tie.spec in-hand-requires first-requires first-requires-2 common-requires returns)

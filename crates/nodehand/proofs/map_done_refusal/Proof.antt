@@ -3,9 +3,6 @@ use Rattle.nodehand.specs.Hand.{mapDoneRefusal}
 use Rattle.nodehand.proofs.map_done_refusal.Statement.{statement}
 use Rattle.nodehand.proofs.map_done_refusal.Tie as tie
 
-valid-requires : tie.Need-valid-requires
-valid-requires c κs = search needs
-
 is-map-taken-requires : tie.Need-is-map-taken-requires
 is-map-taken-requires c κs = search needs
 
@@ -24,15 +21,12 @@ first-requires-3 c κs = search needs
 first-requires-4 : tie.Need-first-requires-4
 first-requires-4 c κs = search needs
 
-first-requires-5 : tie.Need-first-requires-5
-first-requires-5 c κs = search needs
-
-first-requires-6 : tie.Need-first-requires-6
-first-requires-6 c κs = search needs
+common-requires : tie.Need-common-requires
+common-requires c κs = search needs
 
 returns : tie.Need-returns
 unfolding mapDoneRefusal
 returns c = cc
 
 pub map-done-refusal-spec : {M : Type 1} → statement M
-map-done-refusal-spec = tie.close (tie.spec valid-requires is-map-taken-requires has-requires first-requires first-requires-2 first-requires-3 first-requires-4 first-requires-5 first-requires-6 returns)
+map-done-refusal-spec = tie.close (tie.spec is-map-taken-requires has-requires first-requires first-requires-2 first-requires-3 first-requires-4 common-requires returns)

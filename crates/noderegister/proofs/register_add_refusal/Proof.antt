@@ -3,9 +3,6 @@ use borrow.Author.Needs.{needs}
 use Rattle.noderegister.proofs.register_add_refusal.Statement.{statement}
 use Rattle.noderegister.proofs.register_add_refusal.Tie as tie
 
-valid-requires : tie.Need-valid-requires
-valid-requires c κs = search needs
-
 takes-store-requires : tie.Need-takes-store-requires
 takes-store-requires c κs = search needs
 
@@ -24,11 +21,8 @@ first-requires-3 c κs = search needs
 first-requires-4 : tie.Need-first-requires-4
 first-requires-4 c κs = search needs
 
-first-requires-5 : tie.Need-first-requires-5
-first-requires-5 c κs = search needs
-
-first-requires-6 : tie.Need-first-requires-6
-first-requires-6 c κs = search needs
+common-requires : tie.Need-common-requires
+common-requires c κs = search needs
 
 returns : tie.Need-returns
 unfolding registerAddRefusal
@@ -38,13 +32,4 @@ pub register-add-refusal-spec : {M : Type 1} → statement M
 register-add-refusal-spec =
     tie.close
     (tie.spec
-    valid-requires
-    takes-store-requires
-    has-requires
-    first-requires
-    first-requires-2
-    first-requires-3
-    first-requires-4
-    first-requires-5
-    first-requires-6
-    returns)
+    takes-store-requires has-requires first-requires first-requires-2 first-requires-3 first-requires-4 common-requires returns)

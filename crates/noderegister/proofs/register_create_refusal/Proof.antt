@@ -3,9 +3,6 @@ use borrow.Author.Needs.{needs}
 use Rattle.noderegister.proofs.register_create_refusal.Statement.{statement}
 use Rattle.noderegister.proofs.register_create_refusal.Tie as tie
 
-valid-requires : tie.Need-valid-requires
-valid-requires c κs = search needs
-
 is-empty-requires : tie.Need-is-empty-requires
 is-empty-requires c κs = search needs
 
@@ -15,11 +12,8 @@ first-requires c κs = search needs
 first-requires-2 : tie.Need-first-requires-2
 first-requires-2 c κs = search needs
 
-first-requires-3 : tie.Need-first-requires-3
-first-requires-3 c κs = search needs
-
-first-requires-4 : tie.Need-first-requires-4
-first-requires-4 c κs = search needs
+common-requires : tie.Need-common-requires
+common-requires c κs = search needs
 
 returns : tie.Need-returns
 unfolding registerCreateRefusal
@@ -29,10 +23,4 @@ pub register-create-refusal-spec : {M : Type 1} → statement M
 register-create-refusal-spec =
     tie.close
     (tie.spec
-    valid-requires
-    is-empty-requires
-    first-requires
-    first-requires-2
-    first-requires-3
-    first-requires-4
-    returns)
+    is-empty-requires first-requires first-requires-2 common-requires returns)

@@ -15,15 +15,15 @@ zero-all-requires c κs = search needs
 with-roster-requires : tie.Need-with-roster-requires
 with-roster-requires c κs = search needs
 
-end-job-requires : tie.Need-end-job-requires
-end-job-requires c κs = search needs
+end-removal-requires : tie.Need-end-removal-requires
+end-removal-requires c κs = search needs
 
 rest-requires : tie.Need-rest-requires
 rest-requires c κs = search needs
 
 returns : tie.Need-returns
 unfolding freedFrom
-returns c = simp (c .rest .ensures, c .before .end-job .ensures, c .before .before .with-roster .ensures, c .before .before .before .zero-all .ensures, c .before .before .before .before .before .ids .ensures, c .before .before .before .before .before .before .free .ensures)
+returns c = simp (c .rest .ensures, c .before .end-removal .ensures, c .before .before .with-roster .ensures, c .before .before .before .zero-all .ensures, c .before .before .before .before .before .ids .ensures, c .before .before .before .before .before .before .free .ensures)
 
 pub free-spec : {M : Type 1} → statement M
 free-spec =
@@ -33,6 +33,6 @@ free-spec =
     ids-requires
     zero-all-requires
     with-roster-requires
-    end-job-requires
+    end-removal-requires
     rest-requires
     returns)

@@ -2,8 +2,8 @@ use borrow.Author.Needs.{needs}
 use Rattle.node.proofs.StorageNode.give.Statement.{statement}
 use Rattle.node.proofs.StorageNode.give.Tie as tie
 
-both-sound-requires : tie.Need-both-sound-requires
-both-sound-requires c κs = search needs
+lent-number-requires : tie.Need-lent-number-requires
+lent-number-requires c κs = search needs
 
 give-requires : tie.Need-give-requires
 give-requires c κs = search needs
@@ -21,10 +21,10 @@ returns : tie.Need-returns
 returns c =
     let f = c .before .before .before .before .finish .ensures in
     let w = c .before .before .before .before .before .before .before .give .ensures in
-    let s = c .before .before .before .before .before .before .before .before .both-sound .ensures in
+    let s = c .before .before .before .before .before .before .before .before .lent-number .ensures in
     (rw (f .0, w, s), (rw (f .1 .0, w, s), rw (f .1 .1, w, s)))
 
 pub give-spec : {M : Type 1} → statement M
 give-spec =
     tie.close
-    (tie.spec both-sound-requires give-requires finish-requires same-length same-length-2 returns)
+    (tie.spec lent-number-requires give-requires finish-requires same-length same-length-2 returns)

@@ -5,8 +5,8 @@ use Rattle.node.proofs.StorageNode.take.Tie as tie
 is-sound-requires : tie.Need-is-sound-requires
 is-sound-requires c κs = search needs
 
-both-sound-requires : tie.Need-both-sound-requires
-both-sound-requires c κs = search needs
+lent-number-requires : tie.Need-lent-number-requires
+lent-number-requires c κs = search needs
 
 take-requires : tie.Need-take-requires
 take-requires c κs = search needs
@@ -28,7 +28,7 @@ returns c =
     let k = c .before .before .take-in .ensures in
     let f = c .before .before .before .before .before .before .before .before .finish .ensures in
     let w = c .before .before .before .before .before .before .before .before .before .before .before .before .take .ensures in
-    let b = c .before .before .before .before .before .before .before .before .before .before .before .before .before .both-sound .ensures in
+    let b = c .before .before .before .before .before .before .before .before .before .before .before .before .before .lent-number .ensures in
     let i = c .before .before .before .before .before .before .before .before .before .before .before .before .before .before .before .before .is-sound .ensures in
     (rw (f .0, w, b, i), (rw (f .1 .0, w, b, i), rw (k, f .1 .1, w, b, i)))
 
@@ -37,7 +37,7 @@ take-spec =
     tie.close
     (tie.spec
     is-sound-requires
-    both-sound-requires
+    lent-number-requires
     take-requires
     finish-requires
     take-in-requires

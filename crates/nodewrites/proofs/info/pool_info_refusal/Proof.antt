@@ -3,9 +3,6 @@ use Rattle.nodewrites.specs.Info.{poolInfoRefusal}
 use Rattle.nodewrites.proofs.info.pool_info_refusal.Statement.{statement}
 use Rattle.nodewrites.proofs.info.pool_info_refusal.Tie as tie
 
-valid-requires : tie.Need-valid-requires
-valid-requires c κs = search needs
-
 is-joined-requires : tie.Need-is-joined-requires
 is-joined-requires c κs = search needs
 
@@ -24,15 +21,12 @@ first-requires-2 c κs = search needs
 first-requires-3 : tie.Need-first-requires-3
 first-requires-3 c κs = search needs
 
-first-requires-4 : tie.Need-first-requires-4
-first-requires-4 c κs = search needs
-
-first-requires-5 : tie.Need-first-requires-5
-first-requires-5 c κs = search needs
+common-requires : tie.Need-common-requires
+common-requires c κs = search needs
 
 returns : tie.Need-returns
 unfolding poolInfoRefusal
 returns c = cc
 
 pub pool-info-refusal-spec : {M : Type 1} → statement M
-pool-info-refusal-spec = tie.close (tie.spec valid-requires is-joined-requires has-requires lacks-requires first-requires first-requires-2 first-requires-3 first-requires-4 first-requires-5 returns)
+pool-info-refusal-spec = tie.close (tie.spec is-joined-requires has-requires lacks-requires first-requires first-requires-2 first-requires-3 common-requires returns)

@@ -3,9 +3,6 @@ use Rattle.nodewrites.specs.Write.{syncedRefusal}
 use Rattle.nodewrites.proofs.write.synced_refusal.Statement.{statement}
 use Rattle.nodewrites.proofs.write.synced_refusal.Tie as tie
 
-valid-requires : tie.Need-valid-requires
-valid-requires c κs = search needs
-
 is-normal-requires : tie.Need-is-normal-requires
 is-normal-requires c κs = search needs
 
@@ -18,15 +15,12 @@ first-requires-2 c κs = search needs
 first-requires-3 : tie.Need-first-requires-3
 first-requires-3 c κs = search needs
 
-first-requires-4 : tie.Need-first-requires-4
-first-requires-4 c κs = search needs
-
-first-requires-5 : tie.Need-first-requires-5
-first-requires-5 c κs = search needs
+common-requires : tie.Need-common-requires
+common-requires c κs = search needs
 
 returns : tie.Need-returns
 unfolding syncedRefusal
 returns c = cc
 
 pub synced-refusal-spec : {M : Type 1} → statement M
-synced-refusal-spec = tie.close (tie.spec valid-requires is-normal-requires first-requires first-requires-2 first-requires-3 first-requires-4 first-requires-5 returns)
+synced-refusal-spec = tie.close (tie.spec is-normal-requires first-requires first-requires-2 first-requires-3 common-requires returns)

@@ -3,9 +3,6 @@ use Rattle.nodewrites.specs.Write.{writeRefusal}
 use Rattle.nodewrites.proofs.write.write_refusal.Statement.{statement}
 use Rattle.nodewrites.proofs.write.write_refusal.Tie as tie
 
-valid-requires : tie.Need-valid-requires
-valid-requires c κs = search needs
-
 is-normal-requires : tie.Need-is-normal-requires
 is-normal-requires c κs = search needs
 
@@ -21,15 +18,12 @@ first-requires-3 c κs = search needs
 first-requires-4 : tie.Need-first-requires-4
 first-requires-4 c κs = search needs
 
-first-requires-5 : tie.Need-first-requires-5
-first-requires-5 c κs = search needs
-
-first-requires-6 : tie.Need-first-requires-6
-first-requires-6 c κs = search needs
+common-requires : tie.Need-common-requires
+common-requires c κs = search needs
 
 returns : tie.Need-returns
 unfolding writeRefusal
 returns c = cc
 
 pub write-refusal-spec : {M : Type 1} → statement M
-write-refusal-spec = tie.close (tie.spec valid-requires is-normal-requires first-requires first-requires-2 first-requires-3 first-requires-4 first-requires-5 first-requires-6 returns)
+write-refusal-spec = tie.close (tie.spec is-normal-requires first-requires first-requires-2 first-requires-3 first-requires-4 common-requires returns)

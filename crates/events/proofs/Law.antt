@@ -1,0 +1,307 @@
+-- The law of every event: one record an event. What holds of all of them is drawn from it in Every.
+use mathlib.Core.Path.{_≡_, refl, ap}
+use mathlib.Core.Logic.{_≢_}
+use mathlib.Core.Bool.{true, false, not}
+use Prim.Native.Nat.{ℕ, _≤_}
+use lib.Dec.{eqb}
+use borrow.Author.Tests.{eqb-true, not-false}
+use Rattle.laws.specs.Tests.{clash, and-left, either}
+use Rattle.laws.specs.Words.{pick}
+use Rattle.refusals.specs.Refusals.{applies}
+use Rattle.order.proofs.Order.{none-applies}
+use Rattle.sets.specs.Sets.{has}
+use Rattle.state.specs.Session.{isFree, isCreated, isDelete}
+use Rattle.state.specs.declared.Effect.{Effect}
+use Rattle.state.specs.declared.Job.{Job}
+use Rattle.state.specs.declared.Outcome.{Outcome}
+use Rattle.state.specs.declared.Run.{Run}
+use Rattle.state.specs.declared.Told.{Told}
+use Rattle.state.specs.declared.Turn.{Turn}
+use Rattle.roster.specs.Roster.{sessionAt}
+use Rattle.exits.specs.Exit.{refused, triedAfter}
+use Rattle.rules.specs.Jobs.{isIdle, isRunning}
+use Rattle.rules.specs.Rules.{validPool}
+use Rattle.keeps.specs.Pools.{Valid}
+use Rattle.joins.proofs.Kept.{create-keeps, assemble-keeps}
+use Rattle.joins.specs.Joins.{createRefusal, createDone, joinCreate, assembleRefusal, assembleDone, joinAssemble}
+use Rattle.enables.proofs.Kept.{enable-keeps, maintenance-keeps}
+use Rattle.enables.specs.Enables.{enableRefusal, enable, maintenance, maintenanceRefusal, maintenanceDone, enableDone}
+use Rattle.links.proofs.Kept.{down-keeps, check-keeps, try-keeps}
+use Rattle.links.specs.Links.{downRefusal, downDone, linkDown, checkRefusal, storeCheck, checkDone, tryRefusal, tryRun}
+use Rattle.removal.proofs.Kept.{remove-keeps}
+use Rattle.removal.specs.Remove.{removeRefusal, remove, removeBegun, gone}
+use Rattle.writes.proofs.Kept.{write-keeps, synced-keeps}
+use Rattle.writes.specs.Writes.{writeRefusal, writeEnded, marks, writeDone, syncRefusal, syncDone, synced}
+use Rattle.answers.proofs.Kept.{answer-keeps}
+use Rattle.answers.specs.Answers.{answerRefusal, answered, answer, awaits}
+use Rattle.client.specs.Client.{carried, soundFor, removeTurn, writeTurn, answerTurn, syncedTurn, cleanTo}
+use Rattle.client.specs.declared.Client.{Client}
+use Rattle.events.specs.Demand2.{Kept, soundLent}
+use Rattle.events.specs.Events.{Event, turnOf, isAccepted, Lent, lentTo, mapLeft, testsOf, outOf, next, stateOf, isSync, concerns, partOf, touches, raises, isAnswer, isDown}
+use Rattle.events.specs.Said.{membersOf, versionOf, frees, takesOut}
+use Rattle.events.proofs.Fates.{isPart, Fate, create-fate, assemble-fate, enable-fate, maintenance-fate, down-fate, check-fate, remove-fate, write-fate, answer-fate}
+use Rattle.events.proofs.Others.{create-others, assemble-others, enable-others, maintenance-others, down-others, check-others, try-others, remove-others, write-others, synced-others, answer-others}
+use Rattle.events.proofs.Removals.{remove-frees, answer-frees, create-stays, assemble-stays, enable-stays, maintenance-stays, down-stays, check-stays, try-stays, write-stays, synced-stays, answer-stays, remove-takes-out, answer-takes-out}
+use Rattle.events.proofs.Shape.{whyNot, down-done, answer-done, off}
+use Rattle.events.proofs.Sound.{create-count, assemble-count, enable-count, maintenance-count, down-count, check-count, try-count, remove-count, write-count, synced-count, answer-count, removal-inside, answer-inside, write-inside, left-sound}
+use Rattle.events.proofs.Touches.{create-touches, assemble-touches, enable-touches, maintenance-touches, down-touches, check-touches, try-touches, remove-touches, write-touches, synced-touches, answer-touches}
+use Rattle.events.proofs.Tries.{Tries, create-trial, assemble-trial, enable-trial, maintenance-trial, down-trial, check-trial, try-trial, remove-trial, write-trial, synced-trial}
+use Rattle.events.proofs.Versions.{Level, remove-level, create-level, enable-level, maintenance-level, check-level, try-level, synced-level, answer-level, assemble-loud, down-loud, write-loud, Risen}
+
+-- does, same, plain: an event is what it does where nothing refuses it, else it is refused by the first that applies. one, six: what its first and sixth test say. rules: the
+-- state rules. count: the chunk count. touch, same-map, left: the lent map. others, fate: the sessions that it is not about, and those that it is. level, loud: the version.
+-- freeing, stays, taking: its part in a removal. tries: a run that is in hand after it is one that recovery tried began.
+pub record Law (e : Event) (c : Client) : Type 0 where
+  pub does : Turn
+  pub same : turnOf e c ≡ pick (eqb (whyNot e c) 0) does (refused (c .pool) (whyNot e c))
+  pub plain : whyNot e c ≡ 0 → isAccepted (does .answer) ≡ true
+  pub one : applies 1 (testsOf e c) ≡ not (validPool (c .pool))
+  pub six : (r : Run) → c .pool .job ≡ Job.Running r → isAnswer e ≡ false → isDown e ≡ false → applies 6 (testsOf e c) ≡ true
+  pub rules : Valid (c .pool) → Valid (next e c .pool)
+  pub count : next e c .pool .chunks ≡ c .pool .chunks
+  pub touch : Valid (c .pool) → touches e c (next e c .pool .roster) (turnOf e c .effect) ≡ true
+  pub same-map : turnOf e c .effect ≡ Effect.Keep → mapLeft e c ≡ lentTo e
+  pub left : Valid (c .pool) → soundLent (c .pool .chunks) (lentTo e) ≡ true → soundLent (c .pool .chunks) (mapLeft e c) ≡ true
+  pub others : (j : ℕ) → Valid (c .pool) → concerns e c j ≡ false → Kept c (next e c) j
+  pub fate : (j : ℕ) → Valid (c .pool) → concerns e c j ≡ true → Fate c e (next e c) j
+  pub level : Valid (c .pool) → raises e ≡ false → Level c (next e c .pool)
+  pub loud : Valid (c .pool) → raises e ≡ true
+      → (isSync (next e c) ≡ isSync c) × (versionOf c ≤ versionOf (next e c)) × (((id set version : ℕ) → e ≢ Event.joinAssemble id set version) → Risen c (next e c .pool))
+  pub freeing : Valid (c .pool) → isAccepted (outOf e c .answer) ≡ true → isPart (partOf e c) ≡ true → (id : ℕ) → isFree (stateOf c id) ≡ false → isFree (stateOf (next e c) id) ≡ frees (partOf e c) c id
+  pub stays : Valid (c .pool) → isPart (partOf e c) ≡ false → (id : ℕ) → has (membersOf c) id ≡ true → has (membersOf (next e c)) id ≡ true
+  pub taking : Valid (c .pool) → isAccepted (outOf e c .answer) ≡ true → isPart (partOf e c) ≡ true → (id : ℕ) → has (membersOf c) id ≡ true → has (membersOf (next e c)) id ≡ not (takesOut (partOf e c) c id)
+  pub tries : isAnswer e ≡ false → isAccepted (outOf e c .answer) ≡ true → Tries (c .pool) (turnOf e c)
+
+pub law : (e : Event) (c : Client) → Law e c
+unfolding joinCreate createRefusal createDone joinAssemble assembleRefusal assembleDone enable enableRefusal enableDone maintenance maintenanceRefusal maintenanceDone linkDown downRefusal downDone storeCheck checkRefusal checkDone tryRun tryRefusal remove removeRefusal removeTurn writeEnded writeRefusal writeDone marks writeTurn synced syncRefusal syncDone syncedTurn answer answerRefusal answerTurn
+law (Event.joinCreate id) c =
+    record {
+      does = createDone (c .pool) id;
+      same = refl;
+      plain = λ e. refl;
+      one = refl;
+      six = λ r q a d. ap (λ (j : Job). not (isIdle j)) q;
+      rules = create-keeps (c .pool) id;
+      count = create-count id c;
+      touch = create-touches id c;
+      same-map = λ q. refl;
+      left = λ v s. refl;
+      others = create-others id c;
+      fate = λ j v n. rw (eqb-true j id n) (create-fate c id v);
+      level = create-level id c;
+      loud = λ v f. clash f refl;
+      freeing = λ v d p id was. clash p refl;
+      stays = create-stays id c;
+      taking = λ v d p id was. clash p refl;
+      tries = create-trial id c;
+    }
+law (Event.joinAssemble id set version) c =
+    record {
+      does = assembleDone (c .pool) id set version;
+      same = refl;
+      plain = λ e. refl;
+      one = refl;
+      six = λ r q a d. ap (λ (j : Job). not (isIdle j)) q;
+      rules = assemble-keeps (c .pool) id set version;
+      count = assemble-count id set version c;
+      touch = assemble-touches id set version c;
+      same-map = λ q. refl;
+      left = λ v s. refl;
+      others = assemble-others id set version c;
+      fate = λ j v n. rw (eqb-true j id n) (assemble-fate c id set version v);
+      level = λ v f. clash refl f;
+      loud = assemble-loud id set version c;
+      freeing = λ v d p id was. clash p refl;
+      stays = assemble-stays id set version c;
+      taking = λ v d p id was. clash p refl;
+      tries = assemble-trial id set version c;
+    }
+law (Event.enable id) c =
+    record {
+      does = enableDone (c .pool) id;
+      same = refl;
+      plain = λ e. either (λ (t : Turn). isAccepted (t .answer) ≡ true) (isCreated (sessionAt (c .pool .roster) id .state)) _ _ refl refl;
+      one = refl;
+      six = λ r q a d. ap (λ (j : Job). not (isIdle j)) q;
+      rules = enable-keeps (c .pool) id;
+      count = enable-count id c;
+      touch = enable-touches id c;
+      same-map = λ q. refl;
+      left = λ v s. refl;
+      others = enable-others id c;
+      fate = λ j v n. rw (eqb-true j id n) (enable-fate c id v);
+      level = enable-level id c;
+      loud = λ v f. clash f refl;
+      freeing = λ v d p id was. clash p refl;
+      stays = enable-stays id c;
+      taking = λ v d p id was. clash p refl;
+      tries = enable-trial id c;
+    }
+law (Event.maintenance id) c =
+    record {
+      does = maintenanceDone (c .pool) id;
+      same = refl;
+      plain = λ e. refl;
+      one = refl;
+      six = λ r q a d. ap (λ (j : Job). not (isIdle j)) q;
+      rules = maintenance-keeps (c .pool) id;
+      count = maintenance-count id c;
+      touch = maintenance-touches id c;
+      same-map = λ q. refl;
+      left = λ v s. refl;
+      others = maintenance-others id c;
+      fate = λ j v n. rw (eqb-true j id n) (maintenance-fate c id v (maintenance-keeps (c .pool) id v));
+      level = maintenance-level id c;
+      loud = λ v f. clash f refl;
+      freeing = λ v d p id was. clash p refl;
+      stays = maintenance-stays id c;
+      taking = λ v d p id was. clash p refl;
+      tries = maintenance-trial id c;
+    }
+law (Event.linkDown id) c =
+    record {
+      does = downDone (c .pool) id;
+      same = refl;
+      plain = λ e. down-done (c .pool .job) (c .pool) id;
+      one = refl;
+      six = λ r q a d. clash refl d;
+      rules = down-keeps (c .pool) id;
+      count = down-count id c;
+      touch = down-touches id c;
+      same-map = λ q. refl;
+      left = λ v s. refl;
+      others = down-others id c;
+      fate = λ j v n. rw (eqb-true j id n) (down-fate c id v (down-keeps (c .pool) id v));
+      level = λ v f. clash refl f;
+      loud = down-loud id c;
+      freeing = λ v d p id was. clash p refl;
+      stays = down-stays id c;
+      taking = λ v d p id was. clash p refl;
+      tries = down-trial id c;
+    }
+law (Event.storeCheck id) c =
+    record {
+      does = checkDone (c .pool) id;
+      same = refl;
+      plain = λ e. either (λ (t : Turn). isAccepted (t .answer) ≡ true) (c .pool .roster .sync) _ _ refl refl;
+      one = refl;
+      six = λ r q a d. ap (λ (j : Job). not (isIdle j)) q;
+      rules = check-keeps (c .pool) id;
+      count = check-count id c;
+      touch = check-touches id c;
+      same-map = λ q. refl;
+      left = λ v s. refl;
+      others = check-others id c;
+      fate = λ j v n. rw (eqb-true j id n) (check-fate c id v);
+      level = check-level id c;
+      loud = λ v f. clash f refl;
+      freeing = λ v d p id was. clash p refl;
+      stays = check-stays id c;
+      taking = λ v d p id was. clash p refl;
+      tries = check-trial id c;
+    }
+law Event.tryRun c =
+    record {
+      does = triedAfter (c .pool) (c .pool) Outcome.Plain Told.Nothing;
+      same = refl;
+      plain = λ e. refl;
+      one = refl;
+      six = λ r q a d. ap (λ (j : Job). not (isIdle j)) q;
+      rules = try-keeps (c .pool);
+      count = try-count c;
+      touch = try-touches c;
+      same-map = λ q. refl;
+      left = λ v s. refl;
+      others = try-others c;
+      fate = λ j v n. clash n refl;
+      level = try-level c;
+      loud = λ v f. clash f refl;
+      freeing = λ v d p id was. clash p refl;
+      stays = try-stays c;
+      taking = λ v d p id was. clash p refl;
+      tries = try-trial c;
+    }
+law (Event.remove xs id mode) c =
+    record {
+      does = gone (c .pool) (removeBegun (c .pool) id mode);
+      same = refl;
+      plain = λ e. refl;
+      one = refl;
+      six = λ r q a d. ap (λ (j : Job). not (isIdle j)) q;
+      rules = remove-keeps (c .pool) (soundFor (c .pool) xs) id mode;
+      count = remove-count xs id mode c;
+      touch = remove-touches xs id mode c;
+      same-map = ap (λ (ef : Effect). Lent.some (carried ef xs));
+      left = λ v s. left-sound (c .pool .chunks) (removeTurn (c .pool) xs id mode .effect) xs (removal-inside (c .pool .chunks) id (isDelete mode) (next (Event.remove xs id mode) c .pool .roster) (removeTurn (c .pool) xs id mode .effect) (remove-touches xs id mode c v)) s;
+      others = remove-others xs id mode c;
+      fate = λ j v n. rw (eqb-true j id n) (remove-fate c xs id mode v);
+      level = λ v f. remove-level c xs id mode v;
+      loud = λ v f. clash f refl;
+      freeing = remove-frees xs id mode c;
+      stays = λ v p id was. clash refl p;
+      taking = remove-takes-out xs id mode c;
+      tries = remove-trial xs id mode c;
+    }
+law (Event.write xs chunk reached) c =
+    record {
+      does = writeDone (c .pool) chunk reached;
+      same = refl;
+      plain = λ e. either (λ (t : Turn). isAccepted (t .answer) ≡ true) (eqb reached 0) _ _ refl refl;
+      one = refl;
+      six = λ r q a d. ap isRunning q;
+      rules = write-keeps (c .pool) (soundFor (c .pool) xs) chunk reached;
+      count = write-count xs chunk reached c;
+      touch = write-touches xs chunk reached c;
+      same-map = ap (λ (ef : Effect). Lent.some (carried ef xs));
+      left = λ v s. left-sound (c .pool .chunks) (writeTurn (c .pool) xs chunk reached .effect) xs (write-inside c xs chunk reached) s;
+      others = write-others xs chunk reached c;
+      fate = write-fate c xs chunk reached;
+      level = λ v f. clash refl f;
+      loud = write-loud xs chunk reached c;
+      freeing = λ v d p id was. clash p refl;
+      stays = write-stays xs chunk reached c;
+      taking = λ v d p id was. clash p refl;
+      tries = write-trial xs chunk reached c;
+    }
+law (Event.synced xs member chunk) c =
+    record {
+      does = syncDone (c .pool) member chunk;
+      same = refl;
+      plain = λ e. refl;
+      one = refl;
+      six = λ r q a d. ap isRunning q;
+      rules = synced-keeps (c .pool) (soundFor (c .pool) xs) member chunk (cleanTo xs chunk 16);
+      count = synced-count xs member chunk c;
+      touch = synced-touches xs member chunk c;
+      same-map = λ q. refl;
+      left = λ v s. s;
+      others = synced-others xs member chunk c;
+      fate = λ j v n. clash n refl;
+      level = synced-level xs member chunk c;
+      loud = λ v f. clash f refl;
+      freeing = λ v d p id was. clash p refl;
+      stays = synced-stays xs member chunk c;
+      taking = λ v d p id was. clash p refl;
+      tries = synced-trial xs member chunk c;
+    }
+law (Event.answer xs number a) c =
+    record {
+      does = answered (c .pool .job) (c .pool) a;
+      same = refl;
+      plain = λ e. let w : awaits (c .pool) number ≡ true = not-false (awaits (c .pool) number) (none-applies (testsOf (Event.answer xs number a) c) e 13 refl) in answer-done (c .pool .job) (c .pool) a (off (isIdle (c .pool .job)) (and-left (not (isIdle (c .pool .job))) (eqb number (c .pool .number)) w));
+      one = refl;
+      six = λ r q a d. clash refl a;
+      rules = answer-keeps (c .pool) (soundFor (c .pool) xs) number a;
+      count = answer-count xs number a c;
+      touch = answer-touches xs number a c;
+      same-map = ap (λ (ef : Effect). Lent.some (carried ef xs));
+      left = λ v s. left-sound (c .pool .chunks) (answerTurn (c .pool) xs number a .effect) xs (answer-inside (c .pool .job) (c .pool .chunks) c (next (Event.answer xs number a) c .pool .roster) (answerTurn (c .pool) xs number a .effect) (answer-touches xs number a c v)) s;
+      others = answer-others xs number a c;
+      fate = answer-fate c xs number a;
+      level = answer-level xs number a c;
+      loud = λ v f. clash f refl;
+      freeing = answer-frees xs number a c;
+      stays = answer-stays xs number a c;
+      taking = answer-takes-out xs number a c;
+      tries = clash refl;
+    }

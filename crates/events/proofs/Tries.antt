@@ -1,0 +1,192 @@
+-- A run that is in hand after an event, which is no answer, is one that recovery tried began.
+use mathlib.Core.Path.{_≡_, refl, ap, sym}
+use mathlib.Core.Bool.{true, false, not, _&&_}
+use mathlib.Core.List.{List}
+use Prim.Native.Nat.{ℕ}
+use lib.Dec.{eqb, ltb}
+use borrow.Author.Tests.{not-false}
+use Rattle.laws.specs.Tests.{clash, either}
+use Rattle.order.proofs.Order.{none-applies}
+use Rattle.state.specs.Session.{isCreated, isOwed, isDeleting}
+use Rattle.state.specs.declared.Effect.{Effect}
+use Rattle.state.specs.declared.Job.{Job}
+use Rattle.state.specs.declared.Mode.{Mode}
+use Rattle.state.specs.declared.Outcome.{Outcome}
+use Rattle.state.specs.declared.Pool.{Pool}
+use Rattle.state.specs.declared.Removal.{Removal}
+use Rattle.state.specs.declared.Reply.{Reply}
+use Rattle.state.specs.declared.Roster.{Roster}
+use Rattle.state.specs.declared.Stage.{Stage}
+use Rattle.state.specs.declared.Told.{Told}
+use Rattle.state.specs.declared.Turn.{Turn}
+use Rattle.roster.specs.Roster.{sessionAt}
+use Rattle.changes.specs.Changes.{memberDropped}
+use Rattle.run.specs.Run.{receiver}
+use Rattle.recovery.specs.Recovery.{withRoster, posted, runEnded, jobless, disablingBut}
+use Rattle.exits.proofs.Laws.{halts}
+use Rattle.exits.specs.Exit.{triedAfter}
+use Rattle.rules.specs.Jobs.{isIdle, isPeer, isRunning}
+use Rattle.joins.specs.Joins.{createRefusal, createDone, joinCreate, assembleRefusal, assembleDone, joinAssemble}
+use Rattle.enables.specs.Enables.{enableRefusal, enable, maintenanceRefusal, maintenanceDone, enableDone, maintenance}
+use Rattle.links.specs.Links.{downRefusal, dropped, downDone, linkDown, checkRefusal, storeCheck, checkDone, tryRefusal, tryRun, downAt}
+use Rattle.removal.specs.Removal as removal
+use Rattle.removal.specs.Remove.{removeRefusal, remove}
+use Rattle.removal.specs.declared.Gone.{Gone}
+use Rattle.writes.specs.Writes.{missed, writeRefusal, writeEnded, marks, writeDone, syncRefusal, syncDone, synced, loses}
+use Rattle.client.specs.Client.{soundFor, removeTurn, writeTurn, syncedTurn, cleanTo}
+use Rattle.client.specs.declared.Client.{Client}
+use Rattle.events.specs.Events.{Event, turnOf, isAccepted, testsOf, outOf, isAnswer}
+use Rattle.events.proofs.Shape.{taken}
+
+-- ---- the run in hand after an event is one that recovery tried began
+
+-- The turn is that of an event that tried recovery in a pool without a job.
+pub record ByTrial (p : Pool) (u : Turn) : Type 0 where
+  pub after : Pool
+  pub outcome : Outcome
+  pub told : Told
+  pub turn : u ≡ triedAfter p after outcome told
+  pub idle : after ≡ jobless (withRoster p (after .roster))
+
+abbrev pub Tries : Pool → Turn → Type 0
+Tries p u = isRunning (u .pool .job) ≡ true → ByTrial p u
+
+pub no-run : (p : Pool) (u : Turn) → isRunning (u .pool .job) ≡ false → Tries p u
+no-run p u e z = clash z e
+
+pub idle-none : (j : Job) → isIdle j ≡ true → isRunning j ≡ false
+idle-none Job.Idle e = refl
+idle-none (Job.Running r) e = clash refl (sym e)
+idle-none (Job.Removing m) e = refl
+
+idle-is : (j : Job) → isIdle j ≡ true → j ≡ Job.Idle
+idle-is Job.Idle e = refl
+idle-is (Job.Running r) e = clash refl (sym e)
+idle-is (Job.Removing m) e = clash refl (sym e)
+
+pub by-trial : (p : Pool) (ro : Roster) (outcome : Outcome) (told : Told) → isIdle (p .job) ≡ true → Tries p (triedAfter p (withRoster p ro) outcome told)
+by-trial p ro outcome told i z =
+    record {
+      after = withRoster p ro;
+      outcome = outcome;
+      told = told;
+      turn = refl;
+      idle = ap (λ (j : Job). at j) (idle-is (p .job) i);
+    }
+  where
+    at : Job → Pool
+    at j = record { roster = ro; job = j; number = p .number; chunks = p .chunks }
+
+-- ---- no removal begins a run
+
+abbrev Calm : Gone → Type 0
+Calm g = isRunning (g .posted .pool .job) ≡ false
+
+freed-calm : (p : Pool) (id : ℕ) (ef : Effect) → Calm (removal.freedFrom p id ef)
+unfolding removal.freedFrom
+freed-calm p id ef = refl
+
+onward-calm : (p : Pool) (id : ℕ) (st : Stage) (ef : Effect) → Calm (removal.onward p id st ef)
+unfolding removal.onward posted
+onward-calm p id st ef = either Calm (ltb (removal.due st (p .roster)) 16) _ _ refl (freed-calm p id ef)
+
+departed-calm : (p : Pool) (id : ℕ) → Calm (removal.departed p id)
+unfolding removal.departed
+departed-calm p id =
+    either Calm (isDeleting (removal.stateOf p id) && not (p .roster .sync)) _ _
+    (onward-calm (withRoster p (memberDropped (p .roster) id)) id Stage.Leave (Effect.ZeroRow id))
+    (onward-calm p id Stage.Leave Effect.Keep)
+
+pub started-calm : (p : Pool) (id : ℕ) → Calm (removal.started p id)
+unfolding removal.started posted
+started-calm p id = either Calm (isOwed (removal.stateOf p id)) _ _ refl (departed-calm p id)
+
+well-calm : (st : Stage) (p : Pool) (id : ℕ) → Calm (removal.wellAnswered st p id)
+well-calm Stage.Leave p id = departed-calm (removal.paid p id) id
+well-calm (Stage.Info peer) p id = onward-calm p id (Stage.Info peer) Effect.Keep
+
+pub answered-calm : (m : Removal) (p : Pool) (a : Reply) → Calm (removal.removalAnswered m p a)
+answered-calm m p Reply.Failed = refl
+answered-calm m p (Reply.Good b) = well-calm (m .stage) p (m .id)
+
+-- ---- every event but an answer
+
+-- a pool without a run
+abbrev Quiet : Pool → Type 0
+Quiet q = isRunning (q .job) ≡ false
+
+down-tries : (j : Job) (p : Pool) (id : ℕ) → p .job ≡ j → Tries p (downAt j p id)
+down-tries Job.Idle p id e = no-run p _ (ap isRunning e)
+down-tries (Job.Running r) p id e =
+    λ z. record { after = runEnded (withRoster p (dropped (p .roster) id)); outcome = Outcome.Taken (r .taken); told = disablingBut id (receiver r); turn = refl; idle = refl }
+down-tries (Job.Removing m) p id e =
+    no-run p _ (halts Quiet (isPeer (Job.Removing m) id) (withRoster p (dropped (p .roster) id)) refl (ap isRunning e))
+
+-- no job is in hand where the sixth test does not hold
+idle-at : (p : Pool) → not (isIdle (p .job)) ≡ false → isIdle (p .job) ≡ true
+idle-at p e = not-false (isIdle (p .job)) e
+
+marks-quiet : (p q : Pool) (chunk reached : ℕ) → Quiet q → Quiet (marks p q chunk reached .pool)
+unfolding marks
+marks-quiet p q chunk reached f = either (λ (u : Turn). Quiet (u .pool)) (eqb reached 0) _ _ f f
+
+pub create-trial : (id : ℕ) (c : Client) → isAnswer (Event.joinCreate id) ≡ false → isAccepted (outOf (Event.joinCreate id) c .answer) ≡ true → Tries (c .pool) (turnOf (Event.joinCreate id) c)
+unfolding joinCreate createRefusal createDone joinAssemble assembleRefusal assembleDone enable enableRefusal enableDone maintenance maintenanceRefusal maintenanceDone linkDown downDone storeCheck checkRefusal checkDone tryRun tryRefusal remove removeTurn writeEnded writeRefusal writeDone writeTurn synced syncRefusal syncDone syncedTurn
+create-trial id c n =
+    taken (Tries (c .pool)) (createRefusal (c .pool) id) _ (c .pool)
+    (λ e. no-run (c .pool) _ (idle-none (c .pool .job) (idle-at (c .pool) (none-applies (testsOf (Event.joinCreate id) c) e 6 refl))))
+
+pub assemble-trial : (id set version : ℕ) (c : Client) → isAnswer (Event.joinAssemble id set version) ≡ false → isAccepted (outOf (Event.joinAssemble id set version) c .answer) ≡ true → Tries (c .pool) (turnOf (Event.joinAssemble id set version) c)
+unfolding joinCreate createRefusal createDone joinAssemble assembleRefusal assembleDone enable enableRefusal enableDone maintenance maintenanceRefusal maintenanceDone linkDown downDone storeCheck checkRefusal checkDone tryRun tryRefusal remove removeTurn writeEnded writeRefusal writeDone writeTurn synced syncRefusal syncDone syncedTurn
+assemble-trial id set version c n =
+    taken (Tries (c .pool)) (assembleRefusal (c .pool) id set version) _ (c .pool)
+    (λ e. by-trial (c .pool) _ _ _ (idle-at (c .pool) (none-applies (testsOf (Event.joinAssemble id set version) c) e 6 refl)))
+
+pub enable-trial : (id : ℕ) (c : Client) → isAnswer (Event.enable id) ≡ false → isAccepted (outOf (Event.enable id) c .answer) ≡ true → Tries (c .pool) (turnOf (Event.enable id) c)
+unfolding joinCreate createRefusal createDone joinAssemble assembleRefusal assembleDone enable enableRefusal enableDone maintenance maintenanceRefusal maintenanceDone linkDown downDone storeCheck checkRefusal checkDone tryRun tryRefusal remove removeTurn writeEnded writeRefusal writeDone writeTurn synced syncRefusal syncDone syncedTurn
+enable-trial id c n =
+    taken (Tries (c .pool)) (enableRefusal (c .pool) id) _ (c .pool)
+    (λ e. let i = idle-at (c .pool) (none-applies (testsOf (Event.enable id) c) e 6 refl) in
+    either (Tries (c .pool)) (isCreated (sessionAt (c .pool .roster) id .state)) _ _ (no-run (c .pool) _ (idle-none (c .pool .job) i)) (by-trial (c .pool) _ _ _ i))
+
+pub maintenance-trial : (id : ℕ) (c : Client) → isAnswer (Event.maintenance id) ≡ false → isAccepted (outOf (Event.maintenance id) c .answer) ≡ true → Tries (c .pool) (turnOf (Event.maintenance id) c)
+unfolding joinCreate createRefusal createDone joinAssemble assembleRefusal assembleDone enable enableRefusal enableDone maintenance maintenanceRefusal maintenanceDone linkDown downDone storeCheck checkRefusal checkDone tryRun tryRefusal remove removeTurn writeEnded writeRefusal writeDone writeTurn synced syncRefusal syncDone syncedTurn
+maintenance-trial id c n =
+    taken (Tries (c .pool)) (maintenanceRefusal (c .pool) id) _ (c .pool)
+    (λ e. no-run (c .pool) _ (idle-none (c .pool .job) (idle-at (c .pool) (none-applies (testsOf (Event.maintenance id) c) e 6 refl))))
+
+pub down-trial : (id : ℕ) (c : Client) → isAnswer (Event.linkDown id) ≡ false → isAccepted (outOf (Event.linkDown id) c .answer) ≡ true → Tries (c .pool) (turnOf (Event.linkDown id) c)
+unfolding joinCreate createRefusal createDone joinAssemble assembleRefusal assembleDone enable enableRefusal enableDone maintenance maintenanceRefusal maintenanceDone linkDown downDone storeCheck checkRefusal checkDone tryRun tryRefusal remove removeTurn writeEnded writeRefusal writeDone writeTurn synced syncRefusal syncDone syncedTurn
+down-trial id c n = taken (Tries (c .pool)) (downRefusal (c .pool) id) _ (c .pool) (λ e. down-tries (c .pool .job) (c .pool) id refl)
+
+pub check-trial : (id : ℕ) (c : Client) → isAnswer (Event.storeCheck id) ≡ false → isAccepted (outOf (Event.storeCheck id) c .answer) ≡ true → Tries (c .pool) (turnOf (Event.storeCheck id) c)
+unfolding joinCreate createRefusal createDone joinAssemble assembleRefusal assembleDone enable enableRefusal enableDone maintenance maintenanceRefusal maintenanceDone linkDown downDone storeCheck checkRefusal checkDone tryRun tryRefusal remove removeTurn writeEnded writeRefusal writeDone writeTurn synced syncRefusal syncDone syncedTurn
+check-trial id c n =
+    taken (Tries (c .pool)) (checkRefusal (c .pool) id) _ (c .pool)
+    (λ e. let i = idle-at (c .pool) (none-applies (testsOf (Event.storeCheck id) c) e 6 refl) in
+    either (Tries (c .pool)) (c .pool .roster .sync) _ _ (no-run (c .pool) _ (idle-none (c .pool .job) i)) (by-trial (c .pool) _ _ _ i))
+
+pub try-trial : (c : Client) → isAnswer Event.tryRun ≡ false → isAccepted (outOf Event.tryRun c .answer) ≡ true → Tries (c .pool) (turnOf Event.tryRun c)
+unfolding joinCreate createRefusal createDone joinAssemble assembleRefusal assembleDone enable enableRefusal enableDone maintenance maintenanceRefusal maintenanceDone linkDown downDone storeCheck checkRefusal checkDone tryRun tryRefusal remove removeTurn writeEnded writeRefusal writeDone writeTurn synced syncRefusal syncDone syncedTurn
+try-trial c n =
+    taken (Tries (c .pool)) (tryRefusal (c .pool)) _ (c .pool)
+    (λ e. by-trial (c .pool) (c .pool .roster) _ _ (idle-at (c .pool) (none-applies (testsOf Event.tryRun c) e 6 refl)))
+
+pub remove-trial : (xs : List ℕ) (id : ℕ) (mode : Mode) (c : Client) → isAnswer (Event.remove xs id mode) ≡ false → isAccepted (outOf (Event.remove xs id mode) c .answer) ≡ true → Tries (c .pool) (turnOf (Event.remove xs id mode) c)
+unfolding joinCreate createRefusal createDone joinAssemble assembleRefusal assembleDone enable enableRefusal enableDone maintenance maintenanceRefusal maintenanceDone linkDown downDone storeCheck checkRefusal checkDone tryRun tryRefusal remove removeTurn writeEnded writeRefusal writeDone writeTurn synced syncRefusal syncDone syncedTurn
+remove-trial xs id mode c n = taken (Tries (c .pool)) (removeRefusal (c .pool) (soundFor (c .pool) xs) id mode) _ (c .pool) (λ e. no-run (c .pool) _ (started-calm _ id))
+
+pub write-trial : (xs : List ℕ) (chunk reached : ℕ) (c : Client) → isAnswer (Event.write xs chunk reached) ≡ false → isAccepted (outOf (Event.write xs chunk reached) c .answer) ≡ true → Tries (c .pool) (turnOf (Event.write xs chunk reached) c)
+unfolding joinCreate createRefusal createDone joinAssemble assembleRefusal assembleDone enable enableRefusal enableDone maintenance maintenanceRefusal maintenanceDone linkDown downDone storeCheck checkRefusal checkDone tryRun tryRefusal remove removeTurn writeEnded writeRefusal writeDone writeTurn synced syncRefusal syncDone syncedTurn
+write-trial xs chunk reached c n =
+    taken (Tries (c .pool)) (writeRefusal (c .pool) (soundFor (c .pool) xs) chunk reached) _ (c .pool)
+    (λ e. let i : isRunning (c .pool .job) ≡ false = none-applies (testsOf (Event.write xs chunk reached) c) e 6 refl in
+    no-run (c .pool) _
+    (marks-quiet (c .pool) _ chunk reached
+    (halts Quiet (loses (c .pool .job) (c .pool .roster) reached) (withRoster (c .pool) (missed (c .pool .roster) reached)) refl i)))
+
+pub synced-trial : (xs : List ℕ) (member chunk : ℕ) (c : Client) → isAnswer (Event.synced xs member chunk) ≡ false → isAccepted (outOf (Event.synced xs member chunk) c .answer) ≡ true → Tries (c .pool) (turnOf (Event.synced xs member chunk) c)
+unfolding joinCreate createRefusal createDone joinAssemble assembleRefusal assembleDone enable enableRefusal enableDone maintenance maintenanceRefusal maintenanceDone linkDown downDone storeCheck checkRefusal checkDone tryRun tryRefusal remove removeTurn writeEnded writeRefusal writeDone writeTurn synced syncRefusal syncDone syncedTurn
+synced-trial xs member chunk c n =
+    taken (Tries (c .pool)) (syncRefusal (c .pool) (soundFor (c .pool) xs) member chunk (cleanTo xs chunk 16)) _ (c .pool)
+    (λ e. no-run (c .pool) _ (none-applies (testsOf (Event.synced xs member chunk) c) e 6 refl))

@@ -1,0 +1,18 @@
+use borrow.Author.Needs.{needs}
+use Rattle.nodestate.proofs.turns.common.Statement.{statement}
+use Rattle.nodestate.proofs.turns.common.Tie as tie
+
+valid-requires : tie.Need-valid-requires
+valid-requires c κs = search needs
+
+first-requires : tie.Need-first-requires
+first-requires c κs = search needs
+
+first-requires-2 : tie.Need-first-requires-2
+first-requires-2 c κs = search needs
+
+returns : tie.Need-returns
+returns c = cc
+
+pub common-spec : {M : Type 1} → statement M
+common-spec = tie.close (tie.spec valid-requires first-requires first-requires-2 returns)
