@@ -1,17 +1,18 @@
 #!/usr/bin/env python3
-"""The full matrix of state and event, as a history for the program `matrix` and as a page made from its output.
+"""The full matrix of state and event, as the last history that the program `lab` is run on and as a page made from what it answers.
 
-  matrix.py history   writes the history that crates/matrix is run on
-  matrix.py page      writes docs/MATRIX.md from crates/matrix/stdin and crates/matrix/stdout
+  matrix.py history   writes the history into crates/lab/stdin, after the histories that stand before it
+  matrix.py page      writes docs/MATRIX.md from the end of crates/lab/stdout
   matrix.py check     says whether the history and the page are those that this script makes
 """
 import os
 import sys
 
 ROOT = os.path.dirname(os.path.dirname(os.path.abspath(__file__)))
-STDIN = os.path.join(ROOT, "crates", "matrix", "stdin")
-STDOUT = os.path.join(ROOT, "crates", "matrix", "stdout")
+STDIN = os.path.join(ROOT, "crates", "lab", "stdin")
+STDOUT = os.path.join(ROOT, "crates", "lab", "stdout")
 PAGE = os.path.join(ROOT, "docs", "MATRIX.md")
+FIRST = "# The matrix: every state with every event.\n"  # where it begins in STDIN
 
 # The acted-on session is 1. Its state: the words, the lab's numbers (state, maintenance, mark, mode, owed), and whether it is a member.
 NONE, CREATED, NORMAL, FAILED, RECONNECTING, REMOVING = range(6)
@@ -178,6 +179,12 @@ def blocks():
             yield ("node",), words, name, lines, "node 1 " + line, LOOKS
 
 
+def before():
+    """The histories that stand before the matrix."""
+    with open(STDIN, encoding="ascii") as f:
+        return f.read().partition(FIRST)[0]
+
+
 def history():
     out = []
     for _, words, name, lines, line, looks in blocks():
@@ -185,7 +192,7 @@ def history():
         out += lines
         out.append(line)
         out += looks
-    return "\n".join(out) + "\n"
+    return before() + FIRST + "\n".join(out) + "\n"
 
 
 def cell(line):
@@ -262,7 +269,7 @@ def left_of(answer, looked):
 def page():
     with open(STDOUT, encoding="ascii") as f:
         answers = f.read().split("\n")
-    at = 0
+    at = sum(1 for line in before().split("\n") if line and not line.startswith("#"))  # each command has one line of answer
     tables = {}
     for table, words, name, lines, _, looks in blocks():
         at += len(lines)
@@ -274,7 +281,7 @@ def page():
     out = [
         "# The matrix: every state with every event",
         "",
-        "Made by `scripts/matrix.py` from the output of the program `matrix`, which the gate runs; the gate also compares this page with it.",
+        "Made by `scripts/matrix.py` from what the program `lab` answers to the last history of `crates/lab/stdin`, which the gate runs; the gate also compares this page with it.",
         "",
         "A number alone is the refusal. Else the answer: for the client the session letters (session 0 first; the acted-on session is 1), `v` the pool version,",
         "`n` the NORMAL count, the sets that are not empty, the job, what the answer counts, and after each `;` a message; for the node its state and fields.",

@@ -20,7 +20,7 @@ LAYERS = {
     "client": "state roster changes run recovery rules exits joins enables links writes removal answers client",
     "node": "nodestate noderegister nodejoins nodeenables nodewrites nodeserve nodehand nodemaps node",
     "theorems": "order events bounds table nodeevents world honest demand3",
-    "lab": "text names lines forms eventlines commands say sayclient saynode sayrow post lending anyclient anynode lendclient lendnode bench delivery reading history lab matrix",
+    "lab": "text names lines forms eventlines commands say sayclient saynode sayrow saylab post lending anyclient anynode lendclient lendnode bench delivery reading arranging lab",
 }
 LAWS = "laws keeps"  # crates of laws: what they say is proved of the others; only the definitions named in the table change what a contract or statement means
 THEOREMS = set((LAYERS["theorems"] + " versions").split())  # crates with statements in specs/

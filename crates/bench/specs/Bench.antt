@@ -19,6 +19,7 @@ use Rattle.nodestate.specs.declared.State as node
 use Rattle.nodestate.specs.declared.Transfer.{Transfer}
 use Rattle.node.specs.declared.StorageNode.{StorageNode}
 use Rattle.node.specs.Face.{freshNode}
+use Rattle.forms.specs.declared.Command.{Command}
 use Rattle.forms.specs.declared.Which.{Which}
 use Rattle.lending.specs.declared.Lent.{Lent}
 use Rattle.bench.specs.declared.Lab.{Lab}
@@ -163,3 +164,23 @@ poked n state store create members version transfer =
 unfoldable pub pokeNode : Lab → ℕ → ℕ → Bool → Bool → ℕ → ℕ → ℕ → Lab
 pokeNode l n state store create members version transfer =
     withNode l n (record { node = poked (nodeAt l n .node) state store create members version transfer })
+
+-- ---- a line that sets the lab up; the others leave it
+
+abbrev pub arranged : Lab → Command → Lab
+arranged l (Command.Pool sync chunks) = freshLab sync chunks
+arranged l (Command.Auto on) = withAuto l on
+arranged l (Command.Lend w n) = withLent l (lentBy (l .lent) w n)
+arranged l (Command.PokeVersion v) = pokeVersion l v
+arranged l (Command.PokeCount v) = pokeCount l v
+arranged l (Command.PokeChunks v) = pokeChunks l v
+arranged l (Command.PokeMembers v) = pokeMembers l v
+arranged l (Command.PokeSession id s) = pokeSession l id s
+arranged l (Command.PokeNode n state store create members version transfer) = pokeNode l n state store create members version transfer
+arranged l Command.Passed = l
+arranged l Command.Unreadable = l
+arranged l (Command.Client e) = l
+arranged l (Command.Node n e) = l
+arranged l Command.Deliver = l
+arranged l (Command.Row w m) = l
+arranged l (Command.Byte w i v) = l

@@ -2,8 +2,9 @@
 // program: the client's 8,192 bytes, and 16 times 8,192 for the nodes' maps and for their staging maps.
 ghost use mathlib.Core.Path.{_≡_};
 ghost use lib.ListN.{set};
-ghost use Rattle.bench.specs.Bench.{freshBelow, freshLab, withAuto, withLent, awaiting, stillAwaiting, afterEvent, lentBy, withRoster, rosterOf, pokeVersion, pokeCount, pokeMembers, pokeChunks, pokeSession, nodeStateOf, transferOf, pokeNode};
+ghost use Rattle.bench.specs.Bench.{freshBelow, freshLab, withAuto, withLent, awaiting, stillAwaiting, afterEvent, arranged, lentBy, withRoster, rosterOf, pokeVersion, pokeCount, pokeMembers, pokeChunks, pokeSession, nodeStateOf, transferOf, pokeNode};
 use client::Client;
+use forms::Command;
 use forms::Which;
 use lending::Lent;
 use node::StorageNode;
@@ -100,14 +101,38 @@ fn renewed(l: Lab, awaited: Message, number: u32) -> Lab
     }
 }
 
-pub fn set_auto(mut l: Lab, on: bool) -> Lab
+// What a line that sets the lab up does to it; the others leave it.
+pub fn arrange(l: Lab, c: Command) -> Lab
+    ensures { λ r. ⌜ r ≡ arranged l c ⌝ }
+{
+    match c {
+        Command::Pool(sync, chunks) => fresh(sync, chunks),
+        Command::Auto(on) => set_auto(l, on),
+        Command::Lend(w, n) => lend(l, w, n),
+        Command::PokeVersion(v) => poke_version(l, v),
+        Command::PokeCount(v) => poke_count(l, v),
+        Command::PokeChunks(v) => poke_chunks(l, v),
+        Command::PokeMembers(v) => poke_members(l, v),
+        Command::PokeSession(id, s) => poke_session(l, id, s),
+        Command::PokeNode(n, s, st, cr, m, v, t) => poke_node(l, n, s, st, cr, m, v, t),
+        Command::Passed => l,
+        Command::Unreadable => l,
+        Command::Client(e) => l,
+        Command::Node(n, e) => l,
+        Command::Deliver => l,
+        Command::Row(w, m) => l,
+        Command::Byte(w, i, v) => l,
+    }
+}
+
+fn set_auto(mut l: Lab, on: bool) -> Lab
     ensures { λ r. ⌜ r ≡ withAuto l on ⌝ }
 {
     l.auto = on;
     l
 }
 
-pub fn lend(mut l: Lab, w: Which, n: u64) -> Lab
+fn lend(mut l: Lab, w: Which, n: u64) -> Lab
     ensures { λ r. ⌜ r ≡ withLent l (lentBy (l .lent) w n) ⌝ }
 {
     let was = l.lent;
@@ -177,7 +202,7 @@ fn roster_of(l: Lab) -> Roster
     p.roster
 }
 
-pub fn poke_version(l: Lab, v: u64) -> Lab
+fn poke_version(l: Lab, v: u64) -> Lab
     ensures { λ r. ⌜ r ≡ pokeVersion l v ⌝ }
 {
     let mut ro = roster_of(l);
@@ -185,7 +210,7 @@ pub fn poke_version(l: Lab, v: u64) -> Lab
     with_roster(l, ro)
 }
 
-pub fn poke_count(l: Lab, v: u64) -> Lab
+fn poke_count(l: Lab, v: u64) -> Lab
     ensures { λ r. ⌜ r ≡ pokeCount l v ⌝ }
 {
     let mut ro = roster_of(l);
@@ -193,7 +218,7 @@ pub fn poke_count(l: Lab, v: u64) -> Lab
     with_roster(l, ro)
 }
 
-pub fn poke_members(l: Lab, v: u64) -> Lab
+fn poke_members(l: Lab, v: u64) -> Lab
     ensures { λ r. ⌜ r ≡ pokeMembers l v ⌝ }
 {
     let mut ro = roster_of(l);
@@ -201,7 +226,7 @@ pub fn poke_members(l: Lab, v: u64) -> Lab
     with_roster(l, ro)
 }
 
-pub fn poke_chunks(mut l: Lab, v: u64) -> Lab
+fn poke_chunks(mut l: Lab, v: u64) -> Lab
     ensures { λ r. ⌜ r ≡ pokeChunks l v ⌝ }
 {
     let c = l.client;
@@ -212,7 +237,7 @@ pub fn poke_chunks(mut l: Lab, v: u64) -> Lab
     l
 }
 
-pub fn poke_session(l: Lab, id: u64, s: Session) -> Lab
+fn poke_session(l: Lab, id: u64, s: Session) -> Lab
     ensures { λ r. ⌜ r ≡ pokeSession l id s ⌝ }
 {
     let ro = roster_of(l);
@@ -221,7 +246,7 @@ pub fn poke_session(l: Lab, id: u64, s: Session) -> Lab
 }
 
 // A node's state put in, unchecked. Own id, chunk count and kept chunks stay.
-pub fn poke_node(
+fn poke_node(
     mut l: Lab,
     n: u64,
     state: u64,

@@ -1,8 +1,8 @@
 use borrow.Author.Needs.{needs}
 use lib.ListN.{length}
 use mathlib.Core.Path.{_≡_, refl}
-use Rattle.history.proofs.run_all.Statement.{statement}
-use Rattle.history.proofs.run_all.Tie as tie
+use Rattle.lab.proofs.run_all.Statement.{statement}
+use Rattle.lab.proofs.run_all.Tie as tie
 
 abbrev Inv-loop : tie.InvT-loop
 Inv-loop own₀ maps₀ stagings₀ buf₀ line₀ out₀ s₀ turns₀ own maps stagings buf line out s turns = (length own ≡ length own₀) × (length maps ≡ length maps₀) × (length stagings ≡ length stagings₀) × (length buf ≡ length buf₀) × (length line ≡ length line₀) × (length out ≡ length out₀)

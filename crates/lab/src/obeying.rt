@@ -1,0 +1,118 @@
+// What a command does to the lab, and what there is to say of it.
+use bench::Lab;
+use client::Client;
+use forms::Command;
+use forms::Event;
+use forms::NodeEvent;
+use saylab::Said;
+use state::Answer;
+use state::Sent;
+
+// The lab after a command, and what is said.
+pub struct Obeyed {
+    pub lab: Lab,
+    pub said: Said,
+}
+
+pub(crate) fn obey(
+    l: Lab,
+    c: Command,
+    own: &mut [u8],
+    maps: &mut [u8],
+    stagings: &mut [u8],
+) -> Obeyed {
+    match c {
+        Command::Client(e) => client_event(l, e, own, maps, stagings),
+        Command::Node(n, e) => node_event(l, n, e, maps, stagings),
+        Command::Deliver => deliver(l, own, maps, stagings),
+        _ => arrange(l, c, own, maps, stagings),
+    }
+}
+
+fn client_event(l: Lab, e: Event, own: &mut [u8], maps: &mut [u8], stagings: &mut [u8]) -> Obeyed {
+    let before = l.client;
+    let lent = l.lent;
+    let o = lendclient::client_event(before, lent, e, own, maps);
+    let a = o.answer;
+    let c = o.client;
+    match a {
+        Answer::Refused(n) => Obeyed {
+            lab: l,
+            said: Said::Refused(n),
+        },
+        Answer::Done(sent) => accepted(l, c, sent, maps, stagings),
+    }
+}
+
+// The messages that are not awaited go to their nodes where auto is on.
+fn accepted(l: Lab, c: Client, sent: Sent, maps: &mut [u8], stagings: &mut [u8]) -> Obeyed {
+    let awaited = sent.awaited;
+    let told = sent.told;
+    let k = bench::after(l, c, awaited, sent.number);
+    let next = delivery::tell_auto(k, told, maps, stagings);
+    Obeyed {
+        lab: next,
+        said: Said::Client(sent),
+    }
+}
+
+fn node_event(l: Lab, n: u64, e: NodeEvent, maps: &mut [u8], stagings: &mut [u8]) -> Obeyed {
+    let r = delivery::node_event(l, n, e, maps, stagings);
+    let next = r.lab;
+    let a = r.answer;
+    Obeyed {
+        lab: next,
+        said: node_said(n, a),
+    }
+}
+
+fn node_said(n: u64, a: nodestate::Answer) -> Said {
+    match a {
+        nodestate::Answer::Refused(why) => Said::Refused(why),
+        nodestate::Answer::Done => Said::Node(n),
+        nodestate::Answer::Version(v) => Said::Node(n),
+    }
+}
+
+// The awaited message to its node, and the node's answer to the client.
+fn deliver(l: Lab, own: &mut [u8], maps: &mut [u8], stagings: &mut [u8]) -> Obeyed {
+    let m = l.awaited;
+    let none = state::is_nothing(m);
+    if none {
+        return Obeyed {
+            lab: l,
+            said: Said::Idle,
+        };
+    }
+    let number = l.number as u64;
+    let r = delivery::deliver(l, m, maps, stagings);
+    let next = r.lab;
+    let a = r.reply;
+    client_event(next, Event::Answer(number, a), own, maps, stagings)
+}
+
+// A line that sets the lab up, or looks at it.
+fn arrange(l: Lab, c: Command, own: &mut [u8], maps: &mut [u8], stagings: &mut [u8]) -> Obeyed {
+    arrange_maps(c, own, maps, stagings);
+    Obeyed {
+        lab: bench::arrange(l, c),
+        said: said_of(c),
+    }
+}
+
+fn arrange_maps(c: Command, own: &mut [u8], maps: &mut [u8], stagings: &mut [u8]) {
+    match c {
+        Command::Pool(sync, chunks) => arranging::zero_all(own, maps, stagings),
+        Command::Byte(w, i, v) => arranging::store(w, i, v, own, maps, stagings),
+        _ => {}
+    }
+}
+
+fn said_of(c: Command) -> Said {
+    match c {
+        Command::Passed => Said::Nothing,
+        Command::Unreadable => Said::Unreadable,
+        Command::Row(w, m) => Said::Row(w, m),
+        _ => Said::Done,
+    }
+}

@@ -1,0 +1,40 @@
+-- The lines that answer a command, each with its newline.
+use mathlib.Core.List.{List}
+use Prim.Native.Nat.{ℕ, _+_, _*_}
+use lib.Dec.{ltb}
+use lib.ListN.{length, take, drop}
+use Rattle.laws.specs.Words.{pick}
+use Rattle.text.specs.Bytes.{bytes}
+use Rattle.text.specs.Ink.{Ink, emit, emits}
+use Rattle.state.specs.declared.Pool.{Pool}
+use Rattle.nodestate.specs.declared.Node.{Node}
+use Rattle.forms.specs.declared.Which.{Which}
+use Rattle.say.specs.Say.{paired}
+use Rattle.sayclient.specs.Client.{clientText}
+use Rattle.saynode.specs.NodeLine.{nodeText}
+use Rattle.sayrow.specs.Row.{rowText}
+use Rattle.saylab.specs.declared.Said.{Said}
+
+-- a text and its newline
+abbrev pub ended : Ink → List ℕ → Ink
+ended k s = emit (emits k s) 10
+
+-- what is said, p being the client's state and n the node's; a row is written apart
+abbrev pub lineIn : Ink → Said → Pool → Node → Ink
+lineIn k Said.Nothing p n = k
+lineIn k Said.Unreadable p n = ended k (bytes "unreadable")
+lineIn k Said.Done p n = ended k (bytes "done")
+lineIn k Said.Idle p n = ended k (bytes "idle")
+lineIn k (Said.Refused why) p n = ended k (paired (bytes "refused ") why)
+lineIn k (Said.Client sent) p n = ended k (clientText p sent)
+lineIn k (Said.Node id) p n = ended k (nodeText n)
+lineIn k (Said.Row w m) p n = k
+
+-- the row of member m in the nth map of xs; nothing where that map is not there
+abbrev pub rowOf : Ink → List ℕ → ℕ → ℕ → Ink
+rowOf k xs n m = pick (ltb 15 n) k (pick (ltb (length xs) (n * 8192 + 8192)) k (ended k (rowText (take 8192 (drop (n * 8192) xs)) m)))
+
+abbrev pub rowIn : Ink → Which → ℕ → List ℕ → List ℕ → List ℕ → Ink
+rowIn k Which.Client m own maps stagings = rowOf k own 0 m
+rowIn k (Which.Node n) m own maps stagings = rowOf k maps n m
+rowIn k (Which.Staging n) m own maps stagings = rowOf k stagings n m

@@ -1,0 +1,104 @@
+// What there is to say of a command, and the line that says it.
+ghost use mathlib.Core.Path.{_≡_};
+ghost use Rattle.text.specs.Bytes.{bytes};
+ghost use Rattle.text.specs.Ink.{ink};
+ghost use Rattle.say.specs.Say.{paired};
+ghost use Rattle.sayclient.specs.Client.{clientText};
+ghost use Rattle.saynode.specs.NodeLine.{nodeText};
+ghost use Rattle.saylab.specs.Lines.{ended, lineIn, rowOf, rowIn};
+use forms::Which;
+use nodestate::Node;
+use state::Pool;
+use state::Sent;
+
+// Nothing: of a line that is passed over. Done: of one that sets the lab up. Client: an accepted event of the client. Node: one of this node. Row: a member's
+// row of a map.
+pub enum Said {
+    Nothing,
+    Unreadable,
+    Done,
+    Idle,
+    Refused(u64),
+    Client(Sent),
+    Node(u64),
+    Row(Which, u64),
+}
+
+// The line: p is the client's state after the command, n the state of the node that it went to. A row is written by put_row.
+pub fn put_line(out: &mut [u8], at: usize, s: Said, p: Pool, n: Node) -> usize
+    ensures { λ r. ⌜ ink (now (out .exit)) r ≡ lineIn (ink (now (out .entry)) at) s p n ⌝ }
+{
+    match s {
+        Said::Nothing => at,
+        Said::Unreadable => word_line(out, at, b"unreadable"),
+        Said::Done => word_line(out, at, b"done"),
+        Said::Idle => word_line(out, at, b"idle"),
+        Said::Refused(why) => refused_line(out, at, why),
+        Said::Client(sent) => client_line(out, at, p, sent),
+        Said::Node(id) => node_line(out, at, n),
+        Said::Row(w, m) => at,
+    }
+}
+
+fn word_line(out: &mut [u8], at: usize, s: &[u8]) -> usize
+    ensures { λ r. ⌜ ink (now (out .exit)) r ≡ ended (ink (now (out .entry)) at) (now (s .entry)) ⌝ }
+{
+    let to = text::put_bytes(out, at, s);
+    text::put(out, to, 10)
+}
+
+fn refused_line(out: &mut [u8], at: usize, why: u64) -> usize
+    ensures { λ r. ⌜ ink (now (out .exit)) r ≡ ended (ink (now (out .entry)) at) (paired (bytes "refused ") why) ⌝ }
+{
+    let to = say::put_pair(out, at, b"refused ", why);
+    text::put(out, to, 10)
+}
+
+fn client_line(out: &mut [u8], at: usize, p: Pool, sent: Sent) -> usize
+    ensures { λ r. ⌜ ink (now (out .exit)) r ≡ ended (ink (now (out .entry)) at) (clientText p sent) ⌝ }
+{
+    let to = sayclient::put_client(out, at, p, sent);
+    text::put(out, to, 10)
+}
+
+fn node_line(out: &mut [u8], at: usize, n: Node) -> usize
+    ensures { λ r. ⌜ ink (now (out .exit)) r ≡ ended (ink (now (out .entry)) at) (nodeText n) ⌝ }
+{
+    let to = saynode::put_node(out, at, n);
+    text::put(out, to, 10)
+}
+
+// The line of member m's row in one of the maps; own is the client's, maps and stagings hold those of the nodes.
+pub fn put_row(
+    out: &mut [u8],
+    at: usize,
+    w: Which,
+    m: u64,
+    own: &[u8],
+    maps: &[u8],
+    stagings: &[u8],
+) -> usize
+    ensures { λ r. ⌜ ink (now (out .exit)) r ≡ rowIn (ink (now (out .entry)) at) w m (now (own .entry)) (now (maps .entry)) (now (stagings .entry)) ⌝ }
+{
+    match w {
+        Which::Client => row_line(out, at, own, 0, m),
+        Which::Node(n) => row_line(out, at, maps, n, m),
+        Which::Staging(n) => row_line(out, at, stagings, n, m),
+    }
+}
+
+// The row of member m in the nth map of all.
+fn row_line(out: &mut [u8], at: usize, all: &[u8], n: u64, m: u64) -> usize
+    ensures { λ r. ⌜ ink (now (out .exit)) r ≡ rowOf (ink (now (out .entry)) at) (now (all .entry)) n m ⌝ }
+{
+    if 15 < n {
+        return at;
+    }
+    let x = (n as usize) * 8192;
+    let e = x + 8192;
+    if all.len() < e {
+        return at;
+    }
+    let to = sayrow::put_row(out, at, &all[x..e], m);
+    text::put(out, to, 10)
+}
