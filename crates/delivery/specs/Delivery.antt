@@ -48,6 +48,7 @@ ranAt n e w =
 abbrev pub dueAt : Due → ℕ → Whole → Whole
 dueAt Due.Nothing i w = w
 dueAt (Due.One e) i w = ranAt i e w
+dueAt (Due.Two e f) i w = ranAt i f (ranAt i e w)
 
 -- each goes to its node; the nodes below n, one after the other
 unfoldable pub toldBelow : Told → ℕ → Whole → Whole

@@ -41,14 +41,26 @@ pub fn node_event(mut l: Lab, n: u64, e: NodeEvent, maps: &mut [u8], stagings: &
     }
 }
 
+// One message to node i; nobody waits for its answer.
+fn hand(l: Lab, e: NodeEvent, i: u64, maps: &mut [u8], stagings: &mut [u8]) -> Lab
+    ensures { λ r. ⌜ whole r (now (maps .exit)) (now (stagings .exit)) ≡ ranAt i e (whole l (now (maps .entry)) (now (stagings .entry))) ⌝ }
+{
+    let r = node_event(l, i, e, maps, stagings);
+    r.lab
+}
+
+// What node i gets.
 fn tell(l: Lab, d: Due, i: u64, maps: &mut [u8], stagings: &mut [u8]) -> Lab
     ensures { λ r. ⌜ whole r (now (maps .exit)) (now (stagings .exit)) ≡ dueAt d i (whole l (now (maps .entry)) (now (stagings .entry))) ⌝ }
 {
-    let Due::One(e) = d else {
-        return l;
-    };
-    let r = node_event(l, i, e, maps, stagings);
-    r.lab
+    match d {
+        Due::Nothing => l,
+        Due::One(e) => hand(l, e, i, maps, stagings),
+        Due::Two(e, f) => {
+            let k = hand(l, e, i, maps, stagings);
+            hand(k, f, i, maps, stagings)
+        }
+    }
 }
 
 // Each message that is not awaited goes to its node.

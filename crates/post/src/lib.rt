@@ -8,10 +8,11 @@ use state::Message;
 use state::Reply;
 use state::Told;
 
-// The event of a node that a message is, if one goes there.
+// The events of a node that the messages are, as many as go there. Two: of two kinds, in this order.
 pub enum Due {
     Nothing,
     One(NodeEvent),
+    Two(NodeEvent, NodeEvent),
 }
 
 fn one_if(to: bool, e: NodeEvent) -> Due
