@@ -21,10 +21,11 @@ LAYERS = {
     "node": "nodestate noderegister nodejoins nodeenables nodewrites nodeserve nodehand nodemaps node",
     "theorems": "order events bounds table nodeevents world honest demand3",
     "lab": "text names lines forms eventlines commands say sayclient saynode sayrow saylab post lending anyclient anynode lendclient lendnode bench delivery reading arranging lab",
+    "backup": "descriptors statuswriter statusreader statuslaws statustool status statusread statusrefused",
     "compare": "dumps differences saydifferences comparing compare comparesame comparelong",
 }
 LAWS = "laws keeps"  # crates of laws: what they say is proved of the others; only the definitions named in the table change what a contract or statement means
-THEOREMS = set((LAYERS["theorems"] + " versions dumps differences saydifferences").split())  # crates with statements in specs/
+THEOREMS = set((LAYERS["theorems"] + " versions statuslaws dumps differences saydifferences").split())  # crates with statements in specs/
 
 HEAD = re.compile(r"^(?:(?:abbrev|unfoldable) )?(?:pub )?(?:(?:record|data) ([^\s(){}:;]+)|([^\s(){}:;]+)(?: \{[^}]*\})? :)")
 USE = re.compile(r"^(?:ghost )?use Rattle·(\w+?)(?:·specs\.specs|\.specs)\.([\w.]+?)(?:\.\{([^}]*)\}| as (\w[\w-]*));?$")

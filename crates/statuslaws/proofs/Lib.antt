@@ -1,0 +1,5 @@
+pub mod Rows
+pub mod Back
+pub mod Written
+pub mod Cases
+pub mod Laws

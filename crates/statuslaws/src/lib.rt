@@ -1,0 +1,1 @@
+// No code: what holds of a row written as descriptors and read back.
