@@ -28,14 +28,15 @@ def main():
     edits = re.findall(r"^rt: must-fail (\w+)/(\w+): refused.*?(?:first at ([^;]*); )?(\d+) s\)", log, re.M)
     last = re.findall(r"^\d+ passed, \d+ failed$", log, re.M)[-1]
     minutes, seconds = re.findall(r"^real\t(\d+)m(\d+)", log, re.M)[-1]
+    cpu = sum(60 * int(m) + float(t) for m, t in re.findall(r"^(?:user|sys)\t(\d+)m([\d.]+)", log, re.M))
     out = [
         "# Check times",
         "",
         "Made by `scripts/check-times.py` from the log of a whole run of the gate on two cores, two checks at a time, so that every later change can say what it cost:",
         "seconds of wall time. Lines: code with contracts, definitions, proofs and laws (of `laws` and `keeps`, which hold nothing but laws, under definitions).",
         "",
-        "Last line of that run: `%s`, after %s minutes and %s seconds. Sum of the times below: %d s of proofs, %d s of must-fail edits."
-        % (last, minutes, seconds, sum(int(s) for _, s in proved), sum(int(e[3]) for e in edits)),
+        "Last line of that run: `%s`, after %s minutes and %s seconds, %d minutes of CPU time. Sum of the times below: %d s of proofs, %d s of must-fail edits."
+        % (last, minutes, seconds, round(cpu / 60), sum(int(s) for _, s in proved), sum(int(e[3]) for e in edits)),
         "",
         "| crate | seconds | code | definitions | proofs | edits |",
         "|---|---|---|---|---|---|",
