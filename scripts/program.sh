@@ -1,0 +1,44 @@
+# What the scripts ./lab, ./compare and ./status share: a program is built by proving it, once, and run. To be sourced, with root set to the repository's folder.
+
+# crates_of NAME: the crates of the repository that a program is made of, itself with them, in the order of crates.txt: by level, in each the slowest check first.
+crates_of() {
+	awk -F: -v name="$1" '
+		/^[a-z]/ { uses[$1] = $2; listed[++lines] = $1 }
+		END {
+			n = split(name, todo, " ")
+			for (i = 1; i <= n; i++) {
+				if (todo[i] in seen || !(todo[i] in uses)) continue
+				seen[todo[i]]
+				m = split(uses[todo[i]], more, " ")
+				for (k = 1; k <= m; k++) todo[++n] = more[k]
+			}
+			for (i = 1; i <= lines; i++) if (listed[i] in seen) print listed[i]
+		}' "$root/crates.txt"
+}
+
+# build NAME: some minutes the first time, and it says how far it is. Checks that are started together are waited for together, so four are started at a time even on two
+# processors: none is idle while one check is slow.
+build() {
+	[ ! -x "$root/target/bin/$1" ] || return 0
+	mkdir -p "$root/target"
+	echo "$1: proving and building the program, once" >&2
+	# shellcheck disable=SC2046
+	(cd "$root" && RT_JOBS=${RT_JOBS:-4} rt check $(crates_of "$1") 2>&1 || echo 'rt: failed') | tee "$root/target/$1.log" |
+		awk -v name="$1" -v n="$(crates_of "$1" | wc -l)" '/^rt: [a-z]+ proved/ { printf "%s: crate %d of %d: %s\n", name, ++k, n, $2; fflush() }' >&2
+	if [ ! -x "$root/target/bin/$1" ]; then
+		tail -n 20 "$root/target/$1.log" >&2
+		exit 1
+	fi
+}
+
+# run NAME WORD..: it is an x86-64 program; on another processor the kit's emulator runs it.
+run() {
+	program=$root/target/bin/$1
+	shift
+	kit=$(dirname "$(dirname "$(rt doc | head -n 1)")")
+	tools=$kit/on/$(uname -m)/toolchain
+	[ -d "$tools" ] || tools=$kit/toolchain
+	set -- "$tools/lib/ld-linux-x86-64.so.2" --library-path "$tools/lib" "$program" "$@"
+	[ "$(uname -m)" = x86_64 ] || set -- "$tools/bin/qemu-x86_64" "$@"
+	"$@"
+}
