@@ -96,17 +96,18 @@ def client_setups(sync):
             yield words, beside, lines + job, client_events(members, after)
 
 
-# A node's state: the words, and the lab's numbers (state, store, create, transfer). Node 1, members 0, 1 and 2, version 4; kept chunks 9 and 16.
+# A node's state: the words, and the lab's numbers (state, store, create, transfer, bytes taken of one that is not whole). Node 1, members 0, 1 and 2, version 4; kept chunks 9 and 16.
 NODES = [
-    ("EMPTY", (0, 0, 0, 0)),
-    ("REGISTERED", (1, 1, 0, 0)),
-    ("REGISTERED, marked create", (1, 1, 1, 0)),
-    ("CREATED", (2, 1, 0, 0)),
-    ("NORMAL", (3, 1, 0, 0)),
-    ("NO_IO", (4, 1, 0, 0)),
-    ("NO_IO, MAP_READY taken", (4, 1, 0, 1)),
-    ("NO_IO, a map taken", (4, 1, 0, 2)),
-    ("NO_IO without store", (4, 0, 0, 0)),
+    ("EMPTY", (0, 0, 0, 0, 0)),
+    ("REGISTERED", (1, 1, 0, 0, 0)),
+    ("REGISTERED, marked create", (1, 1, 1, 0, 0)),
+    ("CREATED", (2, 1, 0, 0, 0)),
+    ("NORMAL", (3, 1, 0, 0, 0)),
+    ("NO_IO", (4, 1, 0, 0, 0)),
+    ("NO_IO, MAP_READY taken", (4, 1, 0, 1, 0)),
+    ("NO_IO, a part taken", (4, 1, 0, 1, 1024)),
+    ("NO_IO, a map taken", (4, 1, 0, 2, 0)),
+    ("NO_IO without store", (4, 0, 0, 0, 0)),
 ]
 NODE_EVENTS = [
     ("register create", "register_create"),
@@ -126,8 +127,12 @@ NODE_EVENTS = [
     ("synced", "synced 2 18"),
     ("MAP_READY, start empty", "map_ready 0"),
     ("MAP_READY, keep", "map_ready 1"),
-    ("give", "give"),
-    ("take a map", "take 2"),
+    ("give a part", "give_part 512 1024"),
+    ("give a part past the end", "give_part 8192 1"),
+    ("take the first part", "take_part 0 1024 2"),
+    ("take the second part", "take_part 1024 1024 2"),
+    ("take a part that is too long", "take_part 0 1025 2"),
+    ("take a map, part by part", "take 2"),
     ("MAP_DONE", "map_done 0 5 7"),
     ("MAP_DONE, enabling", "map_done 1 5 7"),
     ("MAP_DISABLE", "map_disable"),
@@ -162,9 +167,10 @@ def bytes_of(command, first):
 def node_setups():
     kept = ["poke_node 1 3 1 0 7 4 0", "node 1 write 9 0 4", "node 1 write 16 0 4"]
     maps = bytes_of("byte 1", MAP) + bytes_of("staging_byte 1", STAGING) + bytes_of("byte 2", TAKEN)
-    for words, (state, store, create, transfer) in NODES:
+    for words, (state, store, create, transfer, got) in NODES:
         members = 0 if state == 0 else 7
         lines = ["pool 0 4096"] + kept + maps + ["poke_node 1 %d %d %d %d 4 %d" % (state, store, create, members, transfer)]
+        lines += ["poke_got 1 %d" % got] if got else []
         yield words, lines, NODE_EVENTS
 
 

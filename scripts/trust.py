@@ -16,7 +16,7 @@ ROOT = os.path.dirname(os.path.dirname(os.path.abspath(__file__)))
 PAGE = os.path.join(ROOT, "docs", "TRUST.md")
 START, END = "| layer | files | lines, comments and imports with them |\n", "\n## What the definitions were compared with"
 LAYERS = {
-    "ground": "numbers refusals sets chunks maps rows versions",
+    "ground": "numbers refusals sets chunks maps parts rows versions",
     "client": "state roster changes run recovery rules exits joins enables links writes removal answers client",
     "node": "nodestate noderegister nodejoins nodeenables nodewrites nodeserve nodehand nodemaps node",
     "theorems": "order events bounds table nodeevents world honest demand3",

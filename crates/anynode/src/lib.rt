@@ -5,9 +5,9 @@ use forms::NodeEvent;
 use node::Out;
 use node::StorageNode;
 
-// The event on the lent maps; taken is the map that Take takes.
-pub fn call(n: StorageNode, e: NodeEvent, map: &mut [u8], staging: &mut [u8], taken: &[u8]) -> Out
-    ensures { λ r. ⌜ Meets (eventOf e (now (taken .entry))) n (now (map .entry)) (now (staging .entry)) r (now (map .exit)) (now (staging .exit)) ⌝ }
+// The event on the lent maps; part is what TakePart takes.
+pub fn call(n: StorageNode, e: NodeEvent, map: &mut [u8], staging: &mut [u8], part: &[u8]) -> Out
+    ensures { λ r. ⌜ Meets (eventOf e (now (part .entry))) n (now (map .entry)) (now (staging .entry)) r (now (map .exit)) (now (staging .exit)) ⌝ }
 {
     match e {
         NodeEvent::RegisterCreate => n.register_create(map, staging),
@@ -24,8 +24,8 @@ pub fn call(n: StorageNode, e: NodeEvent, map: &mut [u8], staging: &mut [u8], ta
         NodeEvent::PoolInfo(op, member) => n.pool_info(map, staging, op, member),
         NodeEvent::LastIo(chosen) => n.last_io_to_map(map, staging, chosen),
         NodeEvent::MapReady(keep) => n.map_ready(map, staging, keep),
-        NodeEvent::Give => n.give(map, staging),
-        NodeEvent::Take(m) => n.take(map, staging, taken),
+        NodeEvent::GivePart(offset, length) => n.give_part(map, staging, offset, length),
+        NodeEvent::TakePart(offset, length, m) => n.take_part(map, staging, offset, part),
         NodeEvent::MapDone(enable, version, set) => n.map_done(map, staging, enable, version, set),
         NodeEvent::MapDisable => n.map_disable(map, staging),
         NodeEvent::MapGetVer => n.map_get_ver(map, staging),

@@ -6,6 +6,7 @@ use lib.Dec.{eqb}
 use lib.ListN.{getD, set, replicate}
 use Rattle.laws.specs.Words.{pick}
 use Rattle.refusals.specs.Limits.{mapBytes}
+use Rattle.parts.specs.Parts.{partBytes}
 use Rattle.state.specs.declared.Roster.{Roster}
 use Rattle.state.specs.declared.Session.{Session}
 use Rattle.state.specs.declared.Job.{Job}
@@ -37,19 +38,23 @@ freshBelow chunks (suc n) = freshBelow chunks n ++ (freshNode n chunks ∷ [])
 
 unfoldable pub freshLab : Bool → ℕ → Lab
 freshLab sync chunks =
-    record { client = fresh sync chunks; nodes = freshBelow chunks 16; lent = wholly; auto = false; awaited = Message.Nothing; number = 0 }
+    record { client = fresh sync chunks; nodes = freshBelow chunks 16; lent = wholly; auto = false; cut = partBytes; awaited = Message.Nothing; number = 0 }
 
 -- ---- one thing changed
 
 -- auto on or off
 abbrev pub withAuto : Lab → Bool → Lab
-withAuto l on = record { client = l .client; nodes = l .nodes; lent = l .lent; auto = on; awaited = l .awaited; number = l .number }
+withAuto l on = record { client = l .client; nodes = l .nodes; lent = l .lent; auto = on; cut = l .cut; awaited = l .awaited; number = l .number }
+
+-- parts of n bytes
+abbrev pub withCut : Lab → ℕ → Lab
+withCut l n = record { client = l .client; nodes = l .nodes; lent = l .lent; auto = l .auto; cut = n; awaited = l .awaited; number = l .number }
 
 abbrev pub withClient : Lab → Client → Lab
-withClient l c = record { client = c; nodes = l .nodes; lent = l .lent; auto = l .auto; awaited = l .awaited; number = l .number }
+withClient l c = record { client = c; nodes = l .nodes; lent = l .lent; auto = l .auto; cut = l .cut; awaited = l .awaited; number = l .number }
 
 abbrev pub withLent : Lab → Lent → Lab
-withLent l lent = record { client = l .client; nodes = l .nodes; lent = lent; auto = l .auto; awaited = l .awaited; number = l .number }
+withLent l lent = record { client = l .client; nodes = l .nodes; lent = lent; auto = l .auto; cut = l .cut; awaited = l .awaited; number = l .number }
 
 -- node n, and another in its place; there is none past 15
 abbrev pub noNode : StorageNode
@@ -73,10 +78,10 @@ abbrev pub nodeAt : Lab → ℕ → StorageNode
 nodeAt l n = getD (l .nodes) n noNode
 
 abbrev pub withNode : Lab → ℕ → StorageNode → Lab
-withNode l n s = record { client = l .client; nodes = set (l .nodes) n s; lent = l .lent; auto = l .auto; awaited = l .awaited; number = l .number }
+withNode l n s = record { client = l .client; nodes = set (l .nodes) n s; lent = l .lent; auto = l .auto; cut = l .cut; awaited = l .awaited; number = l .number }
 
 abbrev pub awaiting : Lab → Message → ℕ → Lab
-awaiting l m number = record { client = l .client; nodes = l .nodes; lent = l .lent; auto = l .auto; awaited = m; number = number }
+awaiting l m number = record { client = l .client; nodes = l .nodes; lent = l .lent; auto = l .auto; cut = l .cut; awaited = m; number = number }
 
 -- ---- after an accepted client event
 
@@ -141,9 +146,9 @@ nodeStateOf x =
     (pick (eqb x 3) node.State.Normal
     node.State.NoIo)))
 
--- 0 nothing in hand, 1 begun, 2 the map taken
+-- 0 nothing in hand, 1 in hand and nothing taken, 2 in hand and the whole map taken
 abbrev pub transferOf : ℕ → Transfer
-transferOf x = pick (eqb x 0) Transfer.Nothing (pick (eqb x 1) Transfer.Ready Transfer.Taken)
+transferOf x = pick (eqb x 0) Transfer.Nothing (pick (eqb x 1) (Transfer.InHand 0) (Transfer.InHand mapBytes))
 
 -- own id, chunk count and kept chunks stay
 abbrev pub poked : Node → ℕ → Bool → Bool → ℕ → ℕ → ℕ → Node
@@ -165,11 +170,35 @@ unfoldable pub pokeNode : Lab → ℕ → ℕ → Bool → Bool → ℕ → ℕ 
 pokeNode l n state store create members version transfer =
     withNode l n (record { node = poked (nodeAt l n .node) state store create members version transfer })
 
+-- of a transfer in hand so many bytes are taken
+abbrev pub gotTo : Transfer → ℕ → Transfer
+gotTo Transfer.Nothing got = Transfer.Nothing
+gotTo (Transfer.InHand bytes) got = Transfer.InHand got
+
+abbrev pub pokedGot : Node → ℕ → Node
+pokedGot n got =
+    record {
+      id = n .id;
+      chunks = n .chunks;
+      state = n .state;
+      store = n .store;
+      create = n .create;
+      members = n .members;
+      version = n .version;
+      kept = n .kept;
+      held = n .held;
+      transfer = gotTo (n .transfer) got;
+    }
+
+unfoldable pub pokeGot : Lab → ℕ → ℕ → Lab
+pokeGot l n got = withNode l n (record { node = pokedGot (nodeAt l n .node) got })
+
 -- ---- a line that sets the lab up; the others leave it
 
 abbrev pub arranged : Lab → Command → Lab
 arranged l (Command.Pool sync chunks) = freshLab sync chunks
 arranged l (Command.Auto on) = withAuto l on
+arranged l (Command.Cut n) = withCut l n
 arranged l (Command.Lend w n) = withLent l (lentBy (l .lent) w n)
 arranged l (Command.PokeVersion v) = pokeVersion l v
 arranged l (Command.PokeCount v) = pokeCount l v
@@ -177,10 +206,14 @@ arranged l (Command.PokeChunks v) = pokeChunks l v
 arranged l (Command.PokeMembers v) = pokeMembers l v
 arranged l (Command.PokeSession id s) = pokeSession l id s
 arranged l (Command.PokeNode n state store create members version transfer) = pokeNode l n state store create members version transfer
+arranged l (Command.PokeGot n got) = pokeGot l n got
 arranged l Command.Passed = l
 arranged l Command.Unreadable = l
 arranged l (Command.Client e) = l
 arranged l (Command.Node n e) = l
+arranged l (Command.Take n m) = l
 arranged l Command.Deliver = l
 arranged l (Command.Row w m) = l
+arranged l Command.Look = l
+arranged l (Command.LookNode n) = l
 arranged l (Command.Byte w i v) = l

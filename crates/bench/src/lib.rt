@@ -2,7 +2,7 @@
 // program: the client's 8,192 bytes, and 16 times 8,192 for the nodes' maps and for their staging maps.
 ghost use mathlib.Core.Path.{_≡_};
 ghost use lib.ListN.{set};
-ghost use Rattle.bench.specs.Bench.{freshBelow, freshLab, withAuto, withLent, awaiting, stillAwaiting, afterEvent, arranged, lentBy, withRoster, rosterOf, pokeVersion, pokeCount, pokeMembers, pokeChunks, pokeSession, nodeStateOf, transferOf, pokeNode};
+ghost use Rattle.bench.specs.Bench.{freshBelow, freshLab, withAuto, withCut, withLent, awaiting, stillAwaiting, afterEvent, arranged, lentBy, withRoster, rosterOf, pokeVersion, pokeCount, pokeMembers, pokeChunks, pokeSession, nodeStateOf, transferOf, pokeNode, gotTo, pokedGot, pokeGot};
 use client::Client;
 use forms::Command;
 use forms::Which;
@@ -16,17 +16,18 @@ use state::Pool;
 use state::Roster;
 use state::Session;
 
-// lent: how many bytes of each map are lent. awaited, number: the awaited message as it was sent.
+// lent: how many bytes of each map are lent. cut: how long the parts are of a map that is taken or sent. awaited, number: the awaited message as it was sent.
 pub struct Lab {
     pub client: Client,
     pub nodes: [StorageNode; 16],
     pub lent: Lent,
     pub auto: bool,
+    pub cut: u64,
     pub awaited: Message,
     pub number: u32,
 }
 
-// A fresh lab: all lent whole, auto off.
+// A fresh lab: all lent whole, auto off, parts of 1,024 bytes.
 pub fn fresh(sync: bool, chunks: u64) -> Lab
     ensures { λ r. ⌜ r ≡ freshLab sync chunks ⌝ }
 {
@@ -42,6 +43,7 @@ pub fn fresh(sync: bool, chunks: u64) -> Lab
         nodes: fresh_nodes(chunks),
         lent: lent,
         auto: false,
+        cut: parts::PART_BYTES,
         awaited: Message::Nothing,
         number: 0,
     }
@@ -96,6 +98,7 @@ fn renewed(l: Lab, awaited: Message, number: u32) -> Lab
         nodes: nodes,
         lent: lent,
         auto: l.auto,
+        cut: l.cut,
         awaited: awaited,
         number: number,
     }
@@ -108,6 +111,7 @@ pub fn arrange(l: Lab, c: Command) -> Lab
     match c {
         Command::Pool(sync, chunks) => fresh(sync, chunks),
         Command::Auto(on) => set_auto(l, on),
+        Command::Cut(n) => set_cut(l, n),
         Command::Lend(w, n) => lend(l, w, n),
         Command::PokeVersion(v) => poke_version(l, v),
         Command::PokeCount(v) => poke_count(l, v),
@@ -115,12 +119,16 @@ pub fn arrange(l: Lab, c: Command) -> Lab
         Command::PokeMembers(v) => poke_members(l, v),
         Command::PokeSession(id, s) => poke_session(l, id, s),
         Command::PokeNode(n, s, st, cr, m, v, t) => poke_node(l, n, s, st, cr, m, v, t),
+        Command::PokeGot(n, got) => poke_got(l, n, got),
         Command::Passed => l,
         Command::Unreadable => l,
         Command::Client(e) => l,
         Command::Node(n, e) => l,
+        Command::Take(n, m) => l,
         Command::Deliver => l,
         Command::Row(w, m) => l,
+        Command::Look => l,
+        Command::LookNode(n) => l,
         Command::Byte(w, i, v) => l,
     }
 }
@@ -129,6 +137,13 @@ fn set_auto(mut l: Lab, on: bool) -> Lab
     ensures { λ r. ⌜ r ≡ withAuto l on ⌝ }
 {
     l.auto = on;
+    l
+}
+
+fn set_cut(mut l: Lab, n: u64) -> Lab
+    ensures { λ r. ⌜ r ≡ withCut l n ⌝ }
+{
+    l.cut = n;
     l
 }
 
@@ -306,7 +321,51 @@ fn transfer_of(x: u64) -> Transfer
         return Transfer::Nothing;
     }
     if x == 1 {
-        return Transfer::Ready;
+        return Transfer::InHand(0);
     }
-    Transfer::Taken
+    Transfer::InHand(refusals::MAP_BYTES as u64)
+}
+
+// Of the transfer in hand at a node, if any, so many bytes are taken. Unchecked; the rest stays.
+fn poke_got(mut l: Lab, n: u64, got: u64) -> Lab
+    ensures { λ r. ⌜ r ≡ pokeGot l n got ⌝ }
+{
+    if 15 < n {
+        return l;
+    }
+    let i = n as usize;
+    let was = l.nodes[i];
+    let v = was.node;
+    let changed = with_got(v, got);
+    l.nodes[i] = StorageNode { node: changed };
+    l
+}
+
+fn with_got(v: Node, got: u64) -> Node
+    ensures { λ r. ⌜ r ≡ pokedGot v got ⌝ }
+{
+    let state = v.state;
+    let kept = v.kept;
+    let transfer = v.transfer;
+    Node {
+        id: v.id,
+        chunks: v.chunks,
+        state: state,
+        store: v.store,
+        create: v.create,
+        members: v.members,
+        version: v.version,
+        kept: kept,
+        held: v.held,
+        transfer: got_to(transfer, got),
+    }
+}
+
+fn got_to(t: Transfer, got: u64) -> Transfer
+    ensures { λ r. ⌜ r ≡ gotTo t got ⌝ }
+{
+    match t {
+        Transfer::Nothing => Transfer::Nothing,
+        Transfer::InHand(bytes) => Transfer::InHand(got),
+    }
 }

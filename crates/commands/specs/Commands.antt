@@ -7,7 +7,7 @@ use lib.Dec.{ltb, eqb}
 use Rattle.laws.specs.Words.{pick}
 use Rattle.lines.specs.Lines.{lineOf}
 use Rattle.lines.specs.declared.Line.{Line}
-use Rattle.names.specs.Names.{POKE, CLIENT, ROW, STAGING, BYTE, STAGING-BYTE, LEND, LEND-STAGING, POKE-NODE, SESSION, VERSION, COUNT, CHUNKS, MEMBERS}
+use Rattle.names.specs.Names.{POKE, CLIENT, ROW, STAGING, BYTE, STAGING-BYTE, LEND, LEND-STAGING, POKE-NODE, SESSION, VERSION, COUNT, CHUNKS, MEMBERS, CUT, POKE-GOT, LOOK}
 use Rattle.forms.specs.declared.Form.{Form}
 use Rattle.forms.specs.declared.Which.{Which}
 use Rattle.forms.specs.declared.Command.{Command}
@@ -45,10 +45,19 @@ pokes f rest =
     (pick (plain f POKE-NODE 8 && (ltb (f .x1) 16 && (ltb (f .x2) 5 && (ltb (f .x3) 2 && (ltb (f .x4) 2 && (ltb (f .x5) 65536 && ltb (f .x7) 3)))))) (Command.PokeNode (f .x1) (f .x2) (eqb (f .x3) 1) (eqb (f .x4) 1) (f .x5) (f .x6) (f .x7))
     rest)
 
+-- The further fields of the pool and of a node, how far a node's transfer is, and how long the parts of a map are.
+unfoldable pub fields : Form → Command → Command
+fields f rest =
+    pick (plain f LOOK 1) Command.Look
+    (pick (plain f LOOK 2 && ltb (f .x1) 16) (Command.LookNode (f .x1))
+    (pick (plain f POKE-GOT 3 && (ltb (f .x1) 16 && ltb (f .x2) 65536)) (Command.PokeGot (f .x1) (f .x2))
+    (pick (plain f CUT 2 && (ltb 0 (f .x1) && ltb (f .x1) 1025)) (Command.Cut (f .x1))
+    rest)))
+
 -- What a line of words says. Each form stands once, and no two have the same words, so the order is free.
 unfoldable pub meaning : Line → Command
 meaning l =
-    clientEvents (formOf l) (wholeEvents (formOf l) (transferEvents (formOf l) (serviceEvents (formOf l) (storeEvents (formOf l) (stores (formOf l) (looks (formOf l) (pokes (formOf l) Command.Unreadable)))))))
+    clientEvents (formOf l) (wholeEvents (formOf l) (transferEvents (formOf l) (serviceEvents (formOf l) (storeEvents (formOf l) (stores (formOf l) (looks (formOf l) (pokes (formOf l) (fields (formOf l) Command.Unreadable))))))))
 
 -- An empty line, and one that begins with # (35), is passed over.
 abbrev pub passedOver : List ℕ → Bool

@@ -1,6 +1,6 @@
 // A line of a history to the command that it is.
 ghost use mathlib.Core.Path.{_≡_};
-ghost use Rattle.commands.specs.Commands.{looks as Commands·looks, stores as Commands·stores, pokes as Commands·pokes, meaning, commandOf};
+ghost use Rattle.commands.specs.Commands.{looks as Commands·looks, stores as Commands·stores, pokes as Commands·pokes, fields as Commands·fields, meaning, commandOf};
 use forms::Command;
 use forms::Form;
 use forms::Which;
@@ -76,11 +76,27 @@ fn pokes(f: Form, rest: Command) -> Command
     first(is, Command::PokeSession(x2, s), r)
 }
 
+// The further fields of the pool and of a node, how far a node's transfer is, and how long the parts of a map are.
+fn fields(f: Form, rest: Command) -> Command
+    ensures { λ r. ⌜ r ≡ Commands·fields f rest ⌝ }
+{
+    let x1 = f.x1;
+    let x2 = f.x2;
+    let is = plain(f, names::CUT, 2) & ((0 < x1) & (x1 < 1025));
+    let r = first(is, Command::Cut(x1), rest);
+    let is = plain(f, names::POKE_GOT, 3) & ((x1 < 16) & (x2 < 65536));
+    let r = first(is, Command::PokeGot(x1, x2), r);
+    let is = plain(f, names::LOOK, 2) & (x1 < 16);
+    let r = first(is, Command::LookNode(x1), r);
+    let is = plain(f, names::LOOK, 1);
+    first(is, Command::Look, r)
+}
+
 fn parse(l: Line) -> Command
     ensures { λ r. ⌜ r ≡ meaning l ⌝ }
 {
     let f = forms::form_of(l);
-    let u = pokes(f, Command::Unreadable);
+    let u = pokes(f, fields(f, Command::Unreadable));
     let v = stores(f, looks(f, u));
     let w = eventlines::transfer_events(
         f,

@@ -1,9 +1,11 @@
 -- The lab with the nodes' maps and staging maps, and what messages do to it.
+use mathlib.Core.Bool.{Bool, true, false, _&&_}
 use mathlib.Core.List.{List}
-use Prim.Native.Nat.{ℕ, zero, suc}
+use Prim.Native.Nat.{ℕ, zero, suc, _+_, _-_, min}
 use lib.Dec.{ltb}
 use lib.ListN.{getD, set}
 use Rattle.laws.specs.Words.{pick}
+use Rattle.refusals.specs.Limits.{mapBytes}
 use Rattle.state.specs.declared.Message.{Message}
 use Rattle.state.specs.declared.Reply.{Reply}
 use Rattle.state.specs.declared.Told.{Told}
@@ -11,10 +13,12 @@ use Rattle.nodestate.specs.declared.Answer.{Answer}
 use Rattle.node.specs.declared.Out.{Out}
 use Rattle.forms.specs.declared.NodeEvent.{NodeEvent}
 use Rattle.post.specs.declared.Due.{Due}
-use Rattle.post.specs.Post.{toldTo, addressee, eventOf, replyOf}
+use Rattle.post.specs.declared.Errand.{Errand}
+use Rattle.post.specs.Post.{toldTo, errandOf, replyOf}
 use Rattle.lendnode.specs.Lend.{nodeAnswers, mapsLeft, stagingsLeft}
 use Rattle.bench.specs.declared.Lab.{Lab}
-use Rattle.delivery.specs.declared.Pass.{Pass}
+use Rattle.delivery.specs.declared.Ran.{Ran}
+use Rattle.delivery.specs.declared.Way.{Way}
 use Rattle.bench.specs.Bench.{nodeAt, withNode}
 
 pub record Whole : Type 0 where
@@ -55,43 +59,76 @@ unfoldable pub toldBelow : Told → ℕ → Whole → Whole
 toldBelow t zero w = w
 toldBelow t (suc i) w = dueAt (toldTo t i) i (toldBelow t i w)
 
+-- ---- a map in parts
+
+-- an answer, and the lab after it
+pub record Outcome : Type 0 where
+  pub answer : Answer
+  pub after : Whole
+
+abbrev pub outcome : Ran → List ℕ → List ℕ → Outcome
+outcome r xs ys = record { answer = r .answer; after = whole (r .lab) xs ys }
+
+abbrev pub outcomeAt : ℕ → NodeEvent → Whole → Outcome
+outcomeAt n e w = record { answer = answerAt n e w; after = ranAt n e w }
+
+abbrev pub accepted : Answer → Bool
+accepted (Answer.Refused n) = false
+accepted Answer.Done = true
+accepted (Answer.Version v) = true
+
+-- each part is as long as cut says, the last one shorter
+abbrev pub lengthAt : ℕ → ℕ → ℕ
+lengthAt cut offset = min cut (mapBytes - offset)
+
+-- the part at an offset, taken by the receiver, and given by the source
+abbrev pub takenAt : Way → ℕ → Whole → Outcome
+takenAt way offset w = outcomeAt (way .receiver) (NodeEvent.TakePart offset (lengthAt (way .cut) offset) (way .source)) w
+
+abbrev pub givenAt : Way → ℕ → Whole → Outcome
+givenAt way offset w = outcomeAt (way .source) (NodeEvent.GivePart offset (lengthAt (way .cut) offset)) w
+
+-- one that is sent is given, and then taken unless the source refuses
+unfoldable pub sentAfter : Way → ℕ → Outcome → Outcome
+sentAfter way offset given = pick (accepted (given .answer)) (takenAt way offset (given .after)) given
+
+abbrev pub sentAt : Way → ℕ → Whole → Outcome
+sentAt way offset w = sentAfter way offset (givenAt way offset w)
+
+unfoldable pub passedAt : Way → ℕ → Whole → Outcome
+passedAt way offset w = pick (way .given) (sentAt way offset w) (takenAt way offset w)
+
+-- another part comes unless one was refused or all have come
+abbrev pub goesOn : Answer → ℕ → Bool
+goesOn a offset = accepted a && ltb offset mapBytes
+
+-- the parts from an offset on, no more than n of them
+unfoldable pub partsFrom : ℕ → Way → ℕ → Outcome → Outcome
+partsFrom zero way offset o = o
+partsFrom (suc n) way offset o =
+    pick (goesOn (o .answer) offset) (partsFrom n way (offset + lengthAt (way .cut) offset) (passedAt way offset (o .after))) o
+
+-- All parts. Each has at least one byte, so there are no more than a map has bytes; one of none is refused.
+unfoldable pub mapPassed : Way → Whole → Outcome
+mapPassed way w = partsFrom mapBytes way 0 (record { answer = Answer.Done; after = w })
+
+-- node m's map, taken by node n; and sent from the source to the receiver
+abbrev pub mapTaken : ℕ → ℕ → Whole → Outcome
+mapTaken n m w = mapPassed (record { given = false; source = m; receiver = n; cut = w .lab .cut }) w
+
+abbrev pub mapSent : ℕ → ℕ → Whole → Outcome
+mapSent source receiver w = mapPassed (record { given = true; source = source; receiver = receiver; cut = w .lab .cut }) w
+
 -- ---- the awaited message
 
--- MAP_SEND that the source answered well goes on: the receiver takes the source's map
-abbrev pub onward : Message → Pass
-onward Message.Nothing = Pass.Nothing
-onward (Message.GetVersion to) = Pass.Nothing
-onward (Message.Ready to keep) = Pass.Nothing
-onward (Message.Send to receiver) = Pass.On to receiver
-onward (Message.Done to enable version set) = Pass.Nothing
-onward (Message.LastIo to chosen) = Pass.Nothing
-onward (Message.Enable to version set) = Pass.Nothing
-onward (Message.Leave to mode) = Pass.Nothing
-onward (Message.Info to op member) = Pass.Nothing
+abbrev pub ranBy : Errand → Whole → Outcome
+ranBy Errand.Nothing w = record { answer = Answer.Refused 3; after = w }
+ranBy (Errand.Event n e) w = outcomeAt n e w
+ranBy (Errand.Map source receiver) w = mapSent source receiver w
 
-abbrev pub passOf : Answer → Message → Pass
-passOf (Answer.Refused n) m = Pass.Nothing
-passOf Answer.Done m = onward m
-passOf (Answer.Version v) m = Pass.Nothing
-
-abbrev pub passed : Pass → Whole → Whole
-passed Pass.Nothing w = w
-passed (Pass.On source receiver) w = ranAt receiver (NodeEvent.Take source) w
-
-abbrev pub lastAnswer : Pass → Answer → Whole → Answer
-lastAnswer Pass.Nothing a w = a
-lastAnswer (Pass.On source receiver) a w = answerAt receiver (NodeEvent.Take source) w
-
--- the lab after the message went to its node, and what that node answers
-abbrev pub firstAnswer : Message → Whole → Answer
-firstAnswer m w = answerAt (addressee m) (eventOf m) w
-
-abbrev pub first : Message → Whole → Whole
-first m w = ranAt (addressee m) (eventOf m) w
-
--- the lab after all of it, and the answer that goes to the client
+-- the lab after it, and the answer that goes to the client
 abbrev pub delivered : Message → Whole → Whole
-delivered m w = passed (passOf (firstAnswer m w) m) (first m w)
+delivered m w = ranBy (errandOf m) w .after
 
 abbrev pub replyTo : Message → Whole → Reply
-replyTo m w = replyOf (lastAnswer (passOf (firstAnswer m w) m) (firstAnswer m w) (first m w))
+replyTo m w = replyOf (ranBy (errandOf m) w .answer)

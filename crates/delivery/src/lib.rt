@@ -1,13 +1,14 @@
-// Messages to their nodes: a node's event, those that are not awaited, and the awaited one with its answer.
+// Messages to their nodes: a node's event, those that are not awaited, a map in parts, and the awaited message with its answer.
 ghost use mathlib.Core.Path.{_≡_};
 ghost use Rattle.laws.specs.Words.{pick};
 ghost use Rattle.post.specs.Post.{replyOf};
-ghost use Rattle.delivery.specs.Delivery.{whole, answerAt, ranAt, dueAt, toldBelow, passOf, passed, lastAnswer, delivered, replyTo};
+ghost use Rattle.delivery.specs.Delivery.{whole, answerAt, ranAt, dueAt, toldBelow, outcome, lengthAt, accepted as Delivery·accepted, takenAt, givenAt, sentAt, passedAt, goesOn, mapPassed, mapTaken, mapSent, ranBy, delivered, replyTo};
 use bench::Lab;
 use client::Client;
 use forms::NodeEvent;
 use nodestate::Answer;
 use post::Due;
+use post::Errand;
 use state::Message;
 use state::Reply;
 use state::Told;
@@ -103,43 +104,154 @@ fn said(r: Ran) -> Replied
     }
 }
 
-// On: from the source to the receiver.
-pub enum Pass {
-    Nothing,
-    On(u64, u64),
+// A map on its way in parts, each as long as cut says, the last one shorter: whether the source gives each, and who takes it.
+pub struct Way {
+    pub given: bool,
+    pub source: u64,
+    pub receiver: u64,
+    pub cut: u64,
 }
 
-// Whether the message goes on: MAP_SEND that the source answered well.
-fn pass_of(a: Answer, m: Message) -> Pass
-    ensures { λ r. ⌜ r ≡ passOf a m ⌝ }
+// How long the part at the offset is.
+fn length_at(cut: u64, offset: u64) -> u64
+    ensures { λ r. ⌜ r ≡ lengthAt cut offset ⌝ }
 {
-    let Answer::Done = a else {
-        return Pass::Nothing;
-    };
-    let Message::Send(to, receiver) = m else {
-        return Pass::Nothing;
-    };
-    Pass::On(to, receiver)
+    if 8192 < offset {
+        return 0;
+    }
+    let left = 8192 - offset;
+    if cut < left { cut } else { left }
 }
 
-// The receiver takes the map that the source gave.
-fn pass_on(r: Ran, p: Pass, maps: &mut [u8], stagings: &mut [u8]) -> Ran
-    ensures { λ t. ⌜ t .answer ≡ lastAnswer p (r .answer) (whole (r .lab) (now (maps .entry)) (now (stagings .entry))) ⌝ }
-    ensures { λ t. ⌜ whole (t .lab) (now (maps .exit)) (now (stagings .exit)) ≡ passed p (whole (r .lab) (now (maps .entry)) (now (stagings .entry))) ⌝ }
+fn accepted(a: Answer) -> bool
+    ensures { λ r. ⌜ r ≡ Delivery·accepted a ⌝ }
 {
-    let Pass::On(source, receiver) = p else {
-        return r;
-    };
-    let given = r.lab;
-    node_event(given, receiver, NodeEvent::Take(source), maps, stagings)
+    match a {
+        Answer::Refused(n) => false,
+        Answer::Done => true,
+        Answer::Version(v) => true,
+    }
 }
 
-// The awaited message goes to its node. MAP_SEND: the source gives its map, and the receiver takes it.
+// The receiver takes the part.
+fn take_part(l: Lab, w: Way, offset: u64, maps: &mut [u8], stagings: &mut [u8]) -> Ran
+    ensures { λ r. ⌜ outcome r (now (maps .exit)) (now (stagings .exit)) ≡ takenAt w offset (whole l (now (maps .entry)) (now (stagings .entry))) ⌝ }
+{
+    let n = length_at(w.cut, offset);
+    node_event(
+        l,
+        w.receiver,
+        NodeEvent::TakePart(offset, n, w.source),
+        maps,
+        stagings,
+    )
+}
+
+// The source gives the part.
+fn give_part(l: Lab, w: Way, offset: u64, maps: &mut [u8], stagings: &mut [u8]) -> Ran
+    ensures { λ r. ⌜ outcome r (now (maps .exit)) (now (stagings .exit)) ≡ givenAt w offset (whole l (now (maps .entry)) (now (stagings .entry))) ⌝ }
+{
+    let n = length_at(w.cut, offset);
+    node_event(l, w.source, NodeEvent::GivePart(offset, n), maps, stagings)
+}
+
+// The source gives the part, and the receiver takes it.
+fn send_part(l: Lab, w: Way, offset: u64, maps: &mut [u8], stagings: &mut [u8]) -> Ran
+    ensures { λ r. ⌜ outcome r (now (maps .exit)) (now (stagings .exit)) ≡ sentAt w offset (whole l (now (maps .entry)) (now (stagings .entry))) ⌝ }
+{
+    let r = give_part(l, w, offset, maps, stagings);
+    let a = r.answer;
+    let good = accepted(a);
+    if good {
+        let given = r.lab;
+        return take_part(given, w, offset, maps, stagings);
+    }
+    r
+}
+
+fn pass_part(l: Lab, w: Way, offset: u64, maps: &mut [u8], stagings: &mut [u8]) -> Ran
+    ensures { λ r. ⌜ outcome r (now (maps .exit)) (now (stagings .exit)) ≡ passedAt w offset (whole l (now (maps .entry)) (now (stagings .entry))) ⌝ }
+{
+    if w.given {
+        return send_part(l, w, offset, maps, stagings);
+    }
+    take_part(l, w, offset, maps, stagings)
+}
+
+// Whether another part comes.
+fn goes_on(a: Answer, offset: u64) -> bool
+    ensures { λ r. ⌜ r ≡ goesOn a offset ⌝ }
+{
+    accepted(a) & (offset < 8192)
+}
+
+// The parts from offset 0 on, until all are taken or one is refused. A part has at least one byte, so there are no more than 8,192.
+fn pass_map(l: Lab, w: Way, maps: &mut [u8], stagings: &mut [u8]) -> Ran
+    ensures { λ r. ⌜ outcome r (now (maps .exit)) (now (stagings .exit)) ≡ mapPassed w (whole l (now (maps .entry)) (now (stagings .entry))) ⌝ }
+{
+    let mut now = Ran {
+        lab: l,
+        answer: Answer::Done,
+    };
+    let mut offset: u64 = 0;
+    let mut turns: u64 = 8192;
+    while turns > 0 {
+        let a = now.answer;
+        let on = goes_on(a, offset);
+        if !on {
+            break;
+        }
+        let before = now.lab;
+        now = pass_part(before, w, offset, maps, stagings);
+        offset += length_at(w.cut, offset);
+        turns -= 1;
+    }
+    now
+}
+
+// Node n takes node m's map.
+pub fn take(l: Lab, n: u64, m: u64, maps: &mut [u8], stagings: &mut [u8]) -> Ran
+    ensures { λ r. ⌜ outcome r (now (maps .exit)) (now (stagings .exit)) ≡ mapTaken n m (whole l (now (maps .entry)) (now (stagings .entry))) ⌝ }
+{
+    let w = Way {
+        given: false,
+        source: m,
+        receiver: n,
+        cut: l.cut,
+    };
+    pass_map(l, w, maps, stagings)
+}
+
+// The source gives its map, and the receiver takes it.
+fn send(l: Lab, source: u64, receiver: u64, maps: &mut [u8], stagings: &mut [u8]) -> Ran
+    ensures { λ r. ⌜ outcome r (now (maps .exit)) (now (stagings .exit)) ≡ mapSent source receiver (whole l (now (maps .entry)) (now (stagings .entry))) ⌝ }
+{
+    let w = Way {
+        given: true,
+        source: source,
+        receiver: receiver,
+        cut: l.cut,
+    };
+    pass_map(l, w, maps, stagings)
+}
+
+fn run(l: Lab, e: Errand, maps: &mut [u8], stagings: &mut [u8]) -> Ran
+    ensures { λ r. ⌜ outcome r (now (maps .exit)) (now (stagings .exit)) ≡ ranBy e (whole l (now (maps .entry)) (now (stagings .entry))) ⌝ }
+{
+    match e {
+        Errand::Nothing => Ran {
+            lab: l,
+            answer: Answer::Refused(3),
+        },
+        Errand::Event(n, event) => node_event(l, n, event, maps, stagings),
+        Errand::Map(source, receiver) => send(l, source, receiver, maps, stagings),
+    }
+}
+
+// The awaited message goes to its node, and what it answers comes back.
 pub fn deliver(l: Lab, m: Message, maps: &mut [u8], stagings: &mut [u8]) -> Replied
     ensures { λ r. ⌜ r .reply ≡ replyTo m (whole l (now (maps .entry)) (now (stagings .entry))) ⌝ }
     ensures { λ r. ⌜ whole (r .lab) (now (maps .exit)) (now (stagings .exit)) ≡ delivered m (whole l (now (maps .entry)) (now (stagings .entry))) ⌝ }
 {
-    let r = node_event(l, post::addressee(m), post::event_of(m), maps, stagings);
-    let a = r.answer;
-    said(pass_on(r, pass_of(a, m), maps, stagings))
+    said(run(l, post::errand_of(m), maps, stagings))
 }

@@ -87,7 +87,7 @@ module _ (p : Pool) (w : World) (b : honest.Begins p w) (h : HonestNodes p w) wh
       let e = most-1 (p .roster) n in
       Exact.case1 n e
       (subst (λ (k : ℕ). Case1 p (lowest (normals p)) (candidates p) k w) (sym e)
-      (case-1 p w n (record { begins = b; giver = h .source n; takers = h .others })))
+      (case-1 p w n (record { begins = b; cuts = h .cuts; giver = h .source n; takers = h .others })))
 
   exact-2 : normals p ≡ 0 → authoritative p ≢ 0 → Exact p (most (p .roster)) w
   exact-2 n m =
@@ -96,6 +96,7 @@ module _ (p : Pool) (w : World) (b : honest.Begins p w) (h : HonestNodes p w) wh
       (subst (λ (k : ℕ). Case2 p (lowest (authoritative p)) (without (candidates p) (lowest (authoritative p))) k w) (sym e)
       (case-2 p w n m (record {
         begins = b;
+        cuts = h .cuts;
         giver = h .others _ (begun-2 (p .roster) (b .run) (b .began) n m .0);
         takers = λ j q. h .others j (still (candidates p) (lowest (authoritative p)) j q .0);
       })))
@@ -112,7 +113,7 @@ module _ (p : Pool) (w : World) (b : honest.Begins p w) (h : HonestNodes p w) wh
       let e = most-3 (p .roster) n m in
       Exact.case3 n m e
       (subst (λ (k : ℕ). Case3 p k w) (sym e)
-      (case-3 p w n m (record { begins = b; able = λ j q. h .others j (candidate-all n m j q); versions = h .versions n m })))
+      (case-3 p w n m (record { begins = b; cuts = h .cuts; able = λ j q. h .others j (candidate-all n m j q); versions = h .versions n m })))
 
   exact : Exact p (most (p .roster)) w
   exact =

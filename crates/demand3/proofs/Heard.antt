@@ -34,7 +34,7 @@ use Rattle.demand3.specs.Demand.{HeardLeaves}
 -- ---- MAP_DISABLE at an honest node
 
 abbrev refuses : Station → ℕ
-refuses s = handRefusal (s .node) (lentTo node.Third.none (s .node) (s .map) (s .staging))
+refuses s = handRefusal (s .node) (lentTo (s .node) (s .map) (s .staging))
 
 abbrev disabled : Bool → Station → Station
 disabled true s = record { node = endedTransfer (s .node); map = s .map; staging = zeroed (s .staging) }
@@ -94,6 +94,7 @@ heard-leaves w e r b snd = (
     source = λ k. able-stays _ a (w .nodes) _ (h .source k);
     others = λ j q. able-stays _ a (w .nodes) j (h .others j q);
     versions = λ k m j q. version-stays _ a (w .nodes) j (h .versions k m j q);
+    cuts = h .cuts;
   },
 )
   where

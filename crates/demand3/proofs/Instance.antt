@@ -42,7 +42,7 @@ use Rattle.bounds.specs.Demand3.{through, Begins, triedIn}
 use Rattle.bounds.proofs.Instance.{reached-through}
 use Rattle.world.specs.World.{World, lastSent}
 use Rattle.honest.specs.Demand.{Case1, Case2, Case3}
-use Rattle.honest.proofs.Instance.{bytes, station, able, sound-bytes}
+use Rattle.honest.proofs.Instance.{bytes, station, able, sound-bytes, cuts, whole-cuts}
 use Rattle.demand3.specs.Demand.{Leaves, normals, candidates, authoritative, Exact}
 use Rattle.demand3.proofs.Demand.{demand-3}
 
@@ -60,7 +60,7 @@ abbrev silent : Sent
 silent = record { outcome = Outcome.Plain; told = Told.Nothing; awaited = Message.Nothing; number = 0 }
 
 abbrev world : Event → Client → World
-world e c = record { pool = next e c .pool; map = bytes; sent = lastSent (outOf e c .answer) silent; nodes = station }
+world e c = record { pool = next e c .pool; map = bytes; sent = lastSent (outOf e c .answer) silent; nodes = station; cuts = cuts }
 
 sends : (a : Answer) → isAccepted a ≡ true → a ≡ Answer.Done (lastSent a silent)
 sends (Answer.Refused n) q = clash q refl
@@ -112,7 +112,7 @@ pub instance-1 : Case1 (triedIn (Event.storeCheck 2) (after history-1)) 1 5 6 (w
 unfolding bit has with without size lowest sound cleanFrom spare room idsOf entered left failed went run.receiver run.failedAnswer run.good run.awaitedIn possible cases.caseOf cases.begun posted tried rosterOk oneAsked runOk validPool joinTold createRefusal created createDone joinCreate enables enableRefusal enableDone enable drops downRefusal dropped downDone linkDown checks checkRefusal checkDone storeCheck answerRefusal movedOn answer answerTurn bytes
 instance-1 = first-case (triedIn (Event.storeCheck 2) (after history-1)) 6 (world (Event.storeCheck 2) (after history-1)) some
     (demand-3 (after history-1) (Event.storeCheck 2) run-1 begins-1 .exact (world (Event.storeCheck 2) (after history-1)) (leaves (Event.storeCheck 2) (after history-1) refl refl)
-    (record { source = λ n. able 1 refl; others = λ j h. able j (within 1 j h); versions = λ n. absurd (some n) }))
+    (record { source = λ n. able 1 refl; others = λ j h. able j (within 1 j h); versions = λ n. absurd (some n); cuts = whole-cuts }))
   where
     some : normals (triedIn (Event.storeCheck 2) (after history-1)) ≢ 0
     some e = omega arith
@@ -135,7 +135,7 @@ pub instance-2 : Case2 (triedIn (Event.storeCheck 1) (after history-2)) 1 5 7 (w
 unfolding bit has with without size lowest sound cleanFrom spare room idsOf entered left failed went run.receiver run.failedAnswer run.good run.awaitedIn possible cases.caseOf cases.begun posted tried rosterOk oneAsked runOk validPool joinTold createRefusal created createDone joinCreate enables enableRefusal enableDone enable drops downRefusal dropped downDone linkDown checks checkRefusal checkDone storeCheck answerRefusal movedOn answer answerTurn bytes
 instance-2 = second-case (triedIn (Event.storeCheck 1) (after history-2)) 7 (world (Event.storeCheck 1) (after history-2)) refl some
     (demand-3 (after history-2) (Event.storeCheck 1) run-2 begins-2 .exact (world (Event.storeCheck 1) (after history-2)) (leaves (Event.storeCheck 1) (after history-2) refl refl)
-    (record { source = λ n. absurd (n refl); others = λ j h. able j h; versions = λ n m. absurd (some m) }))
+    (record { source = λ n. absurd (n refl); others = λ j h. able j h; versions = λ n m. absurd (some m); cuts = whole-cuts }))
   where
     some : authoritative (triedIn (Event.storeCheck 1) (after history-2)) ≢ 0
     some e = omega arith
@@ -165,7 +165,7 @@ pub instance-3 : Case3 (triedIn (Event.joinAssemble 2 7 3) (after history-3)) 25
 unfolding bit has with without size lowest idsOf went run.awaitedIn possible cases.caseOf cases.begun posted tried rosterOk allAsked runOk validPool joinTold setBars assembleRefusal assembled assembleDone joinAssemble
 instance-3 = third-case (triedIn (Event.joinAssemble 2 7 3) (after history-3)) 25 (world (Event.joinAssemble 2 7 3) (after history-3)) refl refl
     (demand-3 (after history-3) (Event.joinAssemble 2 7 3) run-3 begins-3 .exact (world (Event.joinAssemble 2 7 3) (after history-3)) (leaves (Event.joinAssemble 2 7 3) (after history-3) refl refl)
-    (record { source = λ n. absurd (n refl); others = λ j h. able j h; versions = λ n m j h. versions j }))
+    (record { source = λ n. absurd (n refl); others = λ j h. able j h; versions = λ n m j h. versions j; cuts = whole-cuts }))
 
 -- ---- a link down that ended a run
 
@@ -187,7 +187,7 @@ pub instance-4 : Case1 (triedIn (Event.linkDown 2) (after history-4)) 1 1 3 (wor
 unfolding bit has with without size lowest sound cleanFrom spare room idsOf entered left failed went run.receiver run.failedAnswer run.good run.awaitedIn possible cases.caseOf cases.begun posted tried rosterOk oneAsked runOk validPool joinTold createRefusal created createDone joinCreate enables enableRefusal enableDone enable drops downRefusal dropped downDone linkDown checks checkRefusal checkDone storeCheck answerRefusal movedOn answer answerTurn bytes
 instance-4 = first-case (triedIn (Event.linkDown 2) (after history-4)) 3 (world (Event.linkDown 2) (after history-4)) some
     (demand-3 (after history-4) (Event.linkDown 2) run-4 begins-4 .exact (world (Event.linkDown 2) (after history-4)) (leaves (Event.linkDown 2) (after history-4) refl refl)
-    (record { source = λ n. able 1 refl; others = λ j h. able j (within 1 j (still (without 7 1) 2 j h .0)); versions = λ n. absurd (some n) }))
+    (record { source = λ n. able 1 refl; others = λ j h. able j (within 1 j (still (without 7 1) 2 j h .0)); versions = λ n. absurd (some n); cuts = whole-cuts }))
   where
     some : normals (triedIn (Event.linkDown 2) (after history-4)) ≢ 0
     some e = omega arith

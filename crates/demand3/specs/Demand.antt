@@ -15,6 +15,7 @@ use Rattle.roster.specs.Roster.{idsOf}
 use Rattle.client.specs.declared.Client.{Client}
 use Rattle.events.specs.Events.{Event, turnOf, outOf, next}
 use Rattle.bounds.specs.Demand3.{during, most, Begins, triedIn, Bounded}
+use Rattle.node.specs.Cuts.{Cuts}
 use Rattle.world.specs.World.{World, heard}
 use Rattle.honest.specs.Demand.{Able, Case1, Case2, Case3}
 
@@ -41,11 +42,13 @@ abbrev pub authoritative : Pool → ℕ
 authoritative p = idsOf Kind.Marked (p .roster)
 
 -- Those that take part in the run that begins in p are honest: in case 1 the lowest NORMAL id, the source, and the candidates, its receivers; in case 2 the candidates,
--- source and receivers; in case 3 the candidates, which are then all members, and none holds a version above the pool's.
+-- source and receivers; in case 3 the candidates, which are then all members, and none holds a version above the pool's. Every MAP_SEND carries a whole map, in any parts of
+-- 1 to 1,024 bytes.
 pub record HonestNodes (p : Pool) (w : World) : Type 0 where
   pub source : normals p ≢ 0 → Able (p .chunks) (lowest (normals p)) (w .nodes (lowest (normals p)))
   pub others : (j : ℕ) → has (candidates p) j ≡ true → Able (p .chunks) j (w .nodes j)
   pub versions : normals p ≡ 0 → authoritative p ≡ 0 → (j : ℕ) → has (p .roster .members) j ≡ true → w .nodes j .node .version ≤ p .roster .version
+  pub cuts : (t : ℕ) → Cuts (w .cuts t)
 
 -- The client of the world w hears an event that begins a run, as in an exchange it hears an answer: the world afterwards, MAP_DISABLE delivered, is one that the event
 -- leaves, and honest nodes are honest in it.

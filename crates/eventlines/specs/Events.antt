@@ -2,7 +2,7 @@
 use mathlib.Core.Bool.{_&&_}
 use lib.Dec.{ltb, eqb}
 use Rattle.laws.specs.Words.{pick}
-use Rattle.names.specs.Names.{POOL, AUTO, JOIN-CREATE, JOIN-ASSEMBLE, ENABLE, MAINTENANCE, LINK-DOWN, STORE-CHECK, TRY, REMOVE, WRITE, SYNCED, ANSWER, DELIVER, REGISTER-CREATE, REGISTER-ADD, UNREGISTER, LEAVE, ENABLE1, ENABLE0, FAULT, MAP-READY, GIVE, TAKE, MAP-DONE, MAP-DISABLE, MAP-GET-VER, LAST-IO, POOL-INFO}
+use Rattle.names.specs.Names.{POOL, AUTO, JOIN-CREATE, JOIN-ASSEMBLE, ENABLE, MAINTENANCE, LINK-DOWN, STORE-CHECK, TRY, REMOVE, WRITE, SYNCED, ANSWER, DELIVER, REGISTER-CREATE, REGISTER-ADD, UNREGISTER, LEAVE, ENABLE1, ENABLE0, FAULT, MAP-READY, GIVE-PART, TAKE, TAKE-PART, MAP-DONE, MAP-DISABLE, MAP-GET-VER, LAST-IO, POOL-INFO}
 use Rattle.forms.specs.declared.Form.{Form}
 use Rattle.forms.specs.declared.Event.{Event}
 use Rattle.forms.specs.declared.NodeEvent.{NodeEvent}
@@ -57,13 +57,14 @@ serviceEvents f rest =
     (pick (node f LAST-IO 4) (Command.Node (f .x1) (NodeEvent.LastIo (f .x3)))
     rest))))
 
--- A node's events: the map's way.
+-- A node's events: the map's way. A whole map is taken part by part.
 unfoldable pub transferEvents : Form → Command → Command
 transferEvents f rest =
     pick (node f MAP-READY 4 && ltb (f .x3) 2) (Command.Node (f .x1) (NodeEvent.MapReady (eqb (f .x3) 1)))
-    (pick (node f GIVE 3) (Command.Node (f .x1) NodeEvent.Give)
-    (pick (node f TAKE 4 && ltb (f .x3) 16) (Command.Node (f .x1) (NodeEvent.Take (f .x3)))
+    (pick (node f GIVE-PART 5) (Command.Node (f .x1) (NodeEvent.GivePart (f .x3) (f .x4)))
+    (pick (node f TAKE-PART 6 && (ltb (f .x4) 2049 && ltb (f .x5) 16)) (Command.Node (f .x1) (NodeEvent.TakePart (f .x3) (f .x4) (f .x5)))
+    (pick (node f TAKE 4 && ltb (f .x3) 16) (Command.Take (f .x1) (f .x3))
     (pick (node f MAP-DONE 6 && ltb (f .x3) 2) (Command.Node (f .x1) (NodeEvent.MapDone (eqb (f .x3) 1) (f .x4) (f .x5)))
     (pick (node f MAP-DISABLE 3) (Command.Node (f .x1) NodeEvent.MapDisable)
     (pick (node f MAP-GET-VER 3) (Command.Node (f .x1) NodeEvent.MapGetVer)
-    rest)))))
+    rest))))))

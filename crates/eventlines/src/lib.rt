@@ -103,7 +103,7 @@ pub fn service_events(f: Form, rest: Command) -> Command
     first(is, Command::Node(x1, NodeEvent::Fault), r)
 }
 
-// A node's events: the map's way.
+// A node's events: the map's way. A whole map is taken part by part.
 pub fn transfer_events(f: Form, rest: Command) -> Command
     ensures { λ r. ⌜ r ≡ transferEvents f rest ⌝ }
 {
@@ -122,9 +122,11 @@ pub fn transfer_events(f: Form, rest: Command) -> Command
         r,
     );
     let is = node(f, names::TAKE, 4) & (x3 < 16);
-    let r = first(is, Command::Node(x1, NodeEvent::Take(x3)), r);
-    let is = node(f, names::GIVE, 3);
-    let r = first(is, Command::Node(x1, NodeEvent::Give), r);
+    let r = first(is, Command::Take(x1, x3), r);
+    let is = node(f, names::TAKE_PART, 6) & ((x4 < 2049) & (x5 < 16));
+    let r = first(is, Command::Node(x1, NodeEvent::TakePart(x3, x4, x5)), r);
+    let is = node(f, names::GIVE_PART, 5);
+    let r = first(is, Command::Node(x1, NodeEvent::GivePart(x3, x4)), r);
     let is = node(f, names::MAP_READY, 4) & (x3 < 2);
     first(is, Command::Node(x1, NodeEvent::MapReady(x3 == 1)), r)
 }

@@ -26,7 +26,7 @@ pub enum Event {
     Answer(u64, Reply),
 }
 
-// A node's events. Take: the node whose map is taken.
+// A node's events. GivePart: offset, length. TakePart: offset, length, the node of whose map it is a part.
 pub enum NodeEvent {
     RegisterCreate,
     RegisterAdd(u64, u64),
@@ -42,8 +42,8 @@ pub enum NodeEvent {
     PoolInfo(Op, u64),
     LastIo(u64),
     MapReady(bool),
-    Give,
-    Take(u64),
+    GivePart(u64, u64),
+    TakePart(u64, u64, u64),
     MapDone(bool, u64, u64),
     MapDisable,
     MapGetVer,
@@ -56,17 +56,22 @@ pub enum Which {
     Staging(u64),
 }
 
-// Passed: an empty line, or one that begins with #. Pool: sync, chunks. Row: the dirty chunks of a member. Byte: place, value. The rest is put into the
-// client's state or a node's, unchecked. PokeSession: id, record. PokeNode: node, state, store, create, members, version, transfer.
+// Passed: an empty line, or one that begins with #. Pool: sync, chunks. Cut: how long the parts are of a map that is taken or sent. Take: a node, and the one whose
+// map it takes, part by part. Row: the dirty chunks of a member. Look, LookNode: the further fields of the pool, of a node. Byte: place, value. The rest is put into
+// the client's state or a node's, unchecked. PokeSession: id, record. PokeNode: node, state, store, create, members, version, transfer. PokeGot: node, bytes taken.
 pub enum Command {
     Passed,
     Unreadable,
     Pool(bool, u64),
     Auto(bool),
+    Cut(u64),
     Client(Event),
     Node(u64, NodeEvent),
+    Take(u64, u64),
     Deliver,
     Row(Which, u64),
+    Look,
+    LookNode(u64),
     Byte(Which, u64, u64),
     Lend(Which, u64),
     PokeVersion(u64),
@@ -75,6 +80,7 @@ pub enum Command {
     PokeMembers(u64),
     PokeSession(u64, Session),
     PokeNode(u64, u64, bool, bool, u64, u64, u64),
+    PokeGot(u64, u64),
 }
 
 // What tells one form of a line from another: the names of its first three words (NUMBER for a number), how many words there are (9 where a later word is

@@ -36,7 +36,7 @@ use Rattle.changes.specs.Changes.{entered}
 use Rattle.honest.proofs.Began.{some-lowest, begun-limit, begun-1, begun-2, begun-3, begun-plain, or-none}
 use Rattle.honest.proofs.Ground.{some, not-in, out-still, upd-same, upd-other}
 use Rattle.honest.proofs.Stations.{Fine, fine, enabledTo, fine-enabled}
-use Rattle.honest.proofs.Course.{Course, course, steps, steps-add, at, spreadHead, baseHead, versionsHead, head-some, spread}
+use Rattle.honest.proofs.Course.{Cutting, Course, course, steps, steps-add, at, spreadHead, baseHead, versionsHead, head-some, spread}
 use Rattle.honest.proofs.Spread.{CanSpread, Spreads, spreads}
 use Rattle.honest.proofs.Enable.{Enabled, enable-spread}
 use Rattle.honest.proofs.Sim.{Sim}
@@ -45,7 +45,7 @@ use Rattle.honest.proofs.LastIos.{any-none}
 use Rattle.honest.proofs.Maps.{Fines, Prepared}
 use Rattle.honest.proofs.Phases.{Passed, middle}
 use Rattle.honest.proofs.Choice.{Chose, choosing}
-use Rattle.honest.proofs.Ends.{sim-begins, nodes-is, recovered, up-of}
+use Rattle.honest.proofs.Ends.{cutting, sim-begins, nodes-is, recovered, up-of}
 
 -- ---- who is who
 
@@ -68,10 +68,13 @@ module _ (ro : Roster) (v : Ok ro) (sync : ro .sync ≡ false) where
 pub case-1 : CaseOne
 case-1 p w normals h =
     record {
-      recovered = recovered p w c₀ sim src l 0 (3 * size l) ro (w .nodes) (rw (← run) refl) refl (omega (arith, size-some l (lowest l) (lowest-in l low))) (omega arith) apart (can .source .map) ends;
-      others = λ j q. ap (λ (g : ℕ → Station). g j) (nodes-is p w c₀ sim (3 * size l)) ∙ ends .same-node j q;
+      recovered = recovered cut p w c₀ sim src l 0 (3 * size l) ro (w .nodes) (rw (← run) refl) refl (omega (arith, size-some l (lowest l) (lowest-in l low))) (omega arith) apart (can .source .map) ends;
+      others = λ j q. ap (λ (g : ℕ → Station). g j) (nodes-is cut p w c₀ sim (3 * size l)) ∙ ends .same-node j q;
     }
   where
+    cut : Cutting
+    cut = cutting w (h .cuts)
+
     ro : Roster
     ro = p .roster
 
@@ -116,14 +119,14 @@ case-1 p w normals h =
     c₀ : Course
     c₀ = course ro (Next.On (h .begins .run)) 0 (w .nodes)
 
-    sim : Sim (p .roster .members) (p .roster .version) w c₀
-    sim = sim-begins p w (h .begins)
+    sim : Sim cut (p .roster .members) (p .roster .version) w c₀
+    sim = sim-begins p w (h .begins) (h .cuts)
 
     starts : course ro (spreadHead src l 0) 0 (w .nodes) ≡ c₀
     starts = ap (λ (n : Next). course ro n 0 (w .nodes)) (head-some spread 0 src l 0 low ∙ ap Next.On run)
 
-    ends : Spreads (p .roster .members) (p .roster .version) (p .chunks) src l 0 ro (w .nodes) (steps (p .roster .members) (p .roster .version) (3 * size l) c₀)
-    ends = rw starts at (spreads (p .roster .members) (p .roster .version) (p .chunks) (begun-limit (p .roster) (h .begins .run) (h .begins .began)) (v .ok .small) src l small ro 0 (w .nodes) (v .ok .long) (omega (arith, size-le l)) can)
+    ends : Spreads (p .roster .members) (p .roster .version) (p .chunks) src l 0 ro (w .nodes) (steps cut (p .roster .members) (p .roster .version) (3 * size l) c₀)
+    ends = rw starts at (spreads cut (p .roster .members) (p .roster .version) (p .chunks) (begun-limit (p .roster) (h .begins .run) (h .begins .began)) (v .ok .small) src l small ro 0 (w .nodes) (v .ok .long) (omega (arith, size-le l)) can)
 
 -- ---- the end of cases 2 and 3, from a course that came to its enabling
 
@@ -133,18 +136,18 @@ record EnabledAll (p : Pool) (source receivers n : ℕ) (before : ℕ → Statio
   source-is-up : Up p source (exchanges n w)
   untouched : (j : ℕ) → j ≢ source → has receivers j ≡ false → exchanges n w .nodes j ≡ before j
 
-enabled-all : (p : Pool) (w : World) (c₀ : Course) (src l t n : ℕ) (ro : Roster) (f : ℕ → Station)
-    → Sim (p .roster .members) (p .roster .version) w c₀ → Tied c₀ → c₀ .taken ≡ 0 → t + (3 * size l + 1) ≡ n
+enabled-all : (cut : Cutting) (p : Pool) (w : World) (c₀ : Course) (src l t n : ℕ) (ro : Roster) (f : ℕ → Station)
+    → Sim cut (p .roster .members) (p .roster .version) w c₀ → Tied c₀ → c₀ .taken ≡ 0 → t + (3 * size l + 1) ≡ n
     → p .roster .version ≤ versionLimit → p .roster .members < 65536 → has (p .roster .members) src ≡ true → CanSpread (p .roster .members) (p .chunks) src l f
-    → Enabled (p .roster .members) (p .roster .version) (p .chunks) src l t ro f (steps (p .roster .members) (p .roster .version) n c₀)
+    → Enabled (p .roster .members) (p .roster .version) (p .chunks) src l t ro f (steps cut (p .roster .members) (p .roster .version) n c₀)
     → EnabledAll p src l n f w
-enabled-all p w c₀ src l t n ro f s tied none all hv hm own can e =
+enabled-all cut p w c₀ src l t n ro f s tied none all hv hm own can e =
     record {
-      others = recovered p w c₀ s src l (t + 1) n (entered ro src) g tied none (omega arith) (omega arith) (can .apart)
+      others = recovered cut p w c₀ s src l (t + 1) n (entered ro src) g tied none (omega arith) (omega arith) (can .apart)
           (let q : Fine (p .chunks) src (g src) = rw (upd-same f src a) (fine-enabled (p .chunks) src (p .roster .version) (p .roster .members) (f src) (can .source) hv hm own) in q .map)
           (e .spread);
-      source-is-up = up-of p w c₀ s n src (f src .map) (e .source-entered) (e .source-served);
-      untouched = λ j d q. ap (λ (h : ℕ → Station). h j) (nodes-is p w c₀ s n) ∙ (e .spread .same-node j q ∙ upd-other f src j a d);
+      source-is-up = up-of cut p w c₀ s n src (f src .map) (e .source-entered) (e .source-served);
+      untouched = λ j d q. ap (λ (h : ℕ → Station). h j) (nodes-is cut p w c₀ s n) ∙ (e .spread .same-node j q ∙ upd-other f src j a d);
     }
   where
     a : Station
@@ -160,10 +163,13 @@ case-2 p w normals marked h =
     record {
       recovered = all .others;
       source-up = all .source-is-up;
-      source-map = ap (λ (g : ℕ → Station). g src .map) (nodes-is p w c₀ sim (3 * size l + 1)) ∙ ends .source-served .map;
+      source-map = ap (λ (g : ℕ → Station). g src .map) (nodes-is cut p w c₀ sim (3 * size l + 1)) ∙ ends .source-served .map;
       others = all .untouched;
     }
   where
+    cut : Cutting
+    cut = cutting w (h .cuts)
+
     ro : Roster
     ro = p .roster
 
@@ -202,17 +208,17 @@ case-2 p w normals marked h =
     c₀ : Course
     c₀ = course ro (Next.On (h .begins .run)) 0 (w .nodes)
 
-    sim : Sim (p .roster .members) (p .roster .version) w c₀
-    sim = sim-begins p w (h .begins)
+    sim : Sim cut (p .roster .members) (p .roster .version) w c₀
+    sim = sim-begins p w (h .begins) (h .cuts)
 
     starts : course ro (Next.On (at (Phase.Enable false) src l 0)) 0 (w .nodes) ≡ c₀
     starts = ap (λ (r : Run). course ro (Next.On r) 0 (w .nodes)) (b .1)
 
-    ends : Enabled (p .roster .members) (p .roster .version) (p .chunks) src l 0 ro (w .nodes) (steps (p .roster .members) (p .roster .version) (3 * size l + 1) c₀)
-    ends = rw starts at (enable-spread (p .roster .members) (p .roster .version) (p .chunks) hv (v .ok .small) src own false ro l 0 (w .nodes) (v .ok .long) small (omega (arith, size-le l)) can)
+    ends : Enabled (p .roster .members) (p .roster .version) (p .chunks) src l 0 ro (w .nodes) (steps cut (p .roster .members) (p .roster .version) (3 * size l + 1) c₀)
+    ends = rw starts at (enable-spread cut (p .roster .members) (p .roster .version) (p .chunks) hv (v .ok .small) src own false ro l 0 (w .nodes) (v .ok .long) small (omega (arith, size-le l)) can)
 
     all : EnabledAll p src l (3 * size l + 1) (w .nodes) w
-    all = enabled-all p w c₀ src l 0 (3 * size l + 1) ro (w .nodes) sim (rw (← b .1) refl) refl (omega arith) hv (v .ok .small) own can ends
+    all = enabled-all cut p w c₀ src l 0 (3 * size l + 1) ro (w .nodes) sim (rw (← b .1) refl) refl (omega arith) hv (v .ok .small) own can ends
 
 -- ---- the chosen's map in case 3
 
@@ -272,10 +278,13 @@ case-3 p w normals marked h =
       chosen = choice .chosen;
       recovered = all .others;
       source-up = all .source-is-up;
-      source-map = recorded p src (w .nodes) (mid .nodes) (exchanges (11 * k - 8) w .nodes src .map) (mid .fines src own .map) (v .most) (mid .left) (ap (λ (g : ℕ → Station). g src .map) (nodes-is p w c₀ (sim-begins p w (h .begins)) (11 * k - 8)) ∙ ends .source-served .map);
+      source-map = recorded p src (w .nodes) (mid .nodes) (exchanges (11 * k - 8) w .nodes src .map) (mid .fines src own .map) (v .most) (mid .left) (ap (λ (g : ℕ → Station). g src .map) (nodes-is cut p w c₀ (sim-begins p w (h .begins) (h .cuts)) (11 * k - 8)) ∙ ends .source-served .map);
       others = λ j q. all .untouched j (not-in m src j own q) (out-still m src j q) ∙ mid .left .others j q;
     }
   where
+    cut : Cutting
+    cut = cutting w (h .cuts)
+
     ro : Roster
     ro = p .roster
 
@@ -312,8 +321,8 @@ case-3 p w normals marked h =
     starts : course ro (versionsHead m 0 (lowest m) m 0) 0 (w .nodes) ≡ c₀
     starts = rw (some m low) (ap (λ (r : Run). course ro (Next.On r) 0 (w .nodes)) (b .1))
 
-    choice : Chose (p .roster .members) (p .roster .version) ro (w .nodes) (size (p .roster .members)) 0 (course ro (versionsHead m 0 (lowest m) m 0) 0 (w .nodes))
-    choice = choosing m (p .roster .version) (p .chunks) ro (w .nodes) fs (h .versions) 0 hm low (omega (arith, size-le m))
+    choice : Chose cut (p .roster .members) (p .roster .version) ro (w .nodes) (size (p .roster .members)) 0 (course ro (versionsHead m 0 (lowest m) m 0) 0 (w .nodes))
+    choice = choosing cut m (p .roster .version) (p .chunks) ro (w .nodes) fs (h .versions) 0 hm low (omega (arith, size-le m))
 
     src : ℕ
     src = choice .source
@@ -330,8 +339,8 @@ case-3 p w normals marked h =
     n₂ : ℕ
     n₂ = 3 * size o + (k + 3 * size o)
 
-    mid : Passed (p .roster .members) (p .roster .version) (p .chunks) ro (λ q. Next.On (at (Phase.Enable true) src o q)) n₂ (0 + k) (course ro (baseHead m src o (0 + k)) (0 + k) (w .nodes)) (Prepared (p .roster .members) src (w .nodes))
-    mid = middle m (p .roster .version) (p .chunks) hv hm src own ro (0 + k) (w .nodes) (omega (arith, size-le m, fewer)) fs
+    mid : Passed cut (p .roster .members) (p .roster .version) (p .chunks) ro (λ q. Next.On (at (Phase.Enable true) src o q)) n₂ (0 + k) (course ro (baseHead m src o (0 + k)) (0 + k) (w .nodes)) (Prepared (p .roster .members) src (w .nodes))
+    mid = middle cut m (p .roster .version) (p .chunks) hv hm src own ro (0 + k) (w .nodes) (omega (arith, size-le m, fewer)) fs
 
     can : CanSpread (p .roster .members) (p .chunks) src o (mid .nodes)
     can = record {
@@ -344,21 +353,21 @@ case-3 p w normals marked h =
     total : 0 + k + n₂ + (3 * size o + 1) ≡ 11 * k - 8
     total = omega (arith, fewer)
 
-    reach : steps (p .roster .members) (p .roster .version) (11 * k - 8) c₀
-        ≡ steps (p .roster .members) (p .roster .version) (3 * size o + 1) (course ro (Next.On (at (Phase.Enable true) src o (0 + k + n₂))) (0 + k + n₂) (mid .nodes))
+    reach : steps cut (p .roster .members) (p .roster .version) (11 * k - 8) c₀
+        ≡ steps cut (p .roster .members) (p .roster .version) (3 * size o + 1) (course ro (Next.On (at (Phase.Enable true) src o (0 + k + n₂))) (0 + k + n₂) (mid .nodes))
     reach =
-        ap (steps m (p .roster .version) (11 * k - 8)) (sym starts)
-        ∙ (ap (λ (q : ℕ). steps m (p .roster .version) q (course ro (versionsHead m 0 (lowest m) m 0) 0 (w .nodes))) split
-        ∙ (steps-add m (p .roster .version) k (n₂ + (3 * size o + 1)) (course ro (versionsHead m 0 (lowest m) m 0) 0 (w .nodes))
-        ∙ (ap (steps m (p .roster .version) (n₂ + (3 * size o + 1))) (choice .reach)
-        ∙ (steps-add m (p .roster .version) n₂ (3 * size o + 1) (course ro (baseHead m src o (0 + k)) (0 + k) (w .nodes))
-        ∙ ap (steps m (p .roster .version) (3 * size o + 1)) (mid .reach)))))
+        ap (steps cut m (p .roster .version) (11 * k - 8)) (sym starts)
+        ∙ (ap (λ (q : ℕ). steps cut m (p .roster .version) q (course ro (versionsHead m 0 (lowest m) m 0) 0 (w .nodes))) split
+        ∙ (steps-add cut m (p .roster .version) k (n₂ + (3 * size o + 1)) (course ro (versionsHead m 0 (lowest m) m 0) 0 (w .nodes))
+        ∙ (ap (steps cut m (p .roster .version) (n₂ + (3 * size o + 1))) (choice .reach)
+        ∙ (steps-add cut m (p .roster .version) n₂ (3 * size o + 1) (course ro (baseHead m src o (0 + k)) (0 + k) (w .nodes))
+        ∙ ap (steps cut m (p .roster .version) (3 * size o + 1)) (mid .reach)))))
       where
         split : 11 * k - 8 ≡ k + (n₂ + (3 * size o + 1))
         split = omega (arith, fewer)
 
-    ends : Enabled (p .roster .members) (p .roster .version) (p .chunks) src o (0 + k + n₂) ro (mid .nodes) (steps (p .roster .members) (p .roster .version) (11 * k - 8) c₀)
-    ends = rw (sym reach) at (enable-spread m (p .roster .version) (p .chunks) hv hm src own true ro o (0 + k + n₂) (mid .nodes) (v .ok .long) (without-lt m src hm) (omega (arith, size-le m, fewer)) can)
+    ends : Enabled (p .roster .members) (p .roster .version) (p .chunks) src o (0 + k + n₂) ro (mid .nodes) (steps cut (p .roster .members) (p .roster .version) (11 * k - 8) c₀)
+    ends = rw (sym reach) at (enable-spread cut m (p .roster .version) (p .chunks) hv hm src own true ro o (0 + k + n₂) (mid .nodes) (v .ok .long) (without-lt m src hm) (omega (arith, size-le m, fewer)) can)
 
     all : EnabledAll p src o (11 * k - 8) (mid .nodes) w
-    all = enabled-all p w c₀ src o (0 + k + n₂) (11 * k - 8) ro (mid .nodes) (sim-begins p w (h .begins)) (rw (← b .1) refl) refl total hv hm own can ends
+    all = enabled-all cut p w c₀ src o (0 + k + n₂) (11 * k - 8) ro (mid .nodes) (sim-begins p w (h .begins) (h .cuts)) (rw (← b .1) refl) refl total hv hm own can ends

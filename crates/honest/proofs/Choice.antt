@@ -20,7 +20,7 @@ use Rattle.honest.specs.Demand.{Chosen}
 use Rattle.honest.proofs.Ground.{upd-back, some, by-left, one-fewer}
 use Rattle.honest.proofs.Stations.{asked-law}
 use Rattle.run.proofs.Bound.{counted-one}
-use Rattle.honest.proofs.Course.{Course, course, step, steps, steps-one, at, baseHead, versionsHead}
+use Rattle.honest.proofs.Course.{Cutting, Course, course, step, steps, steps-one, at, baseHead, versionsHead}
 use Rattle.honest.proofs.Maps.{Fines}
 
 -- l are still to be asked; of the others src has the version best
@@ -87,23 +87,23 @@ module _ (m : ℕ) (ver : ℕ → ℕ) (l best src : ℕ) (h : lowest l < 16) (c
 -- ---- the phase
 
 -- n exchanges on, all are asked: src is chosen, the nodes are as they were
-pub record Chose (m v : ℕ) (ro : Roster) (f : ℕ → Station) (n t : ℕ) (start : Course) : Type 0 where
+pub record Chose (cut : Cutting) (m v : ℕ) (ro : Roster) (f : ℕ → Station) (n t : ℕ) (start : Course) : Type 0 where
   pub source : ℕ
   pub chosen : Chosen m (λ j. f j .node .version) source
-  pub reach : steps m v n start ≡ course ro (baseHead m source (without m source) (t + n)) (t + n) f
+  pub reach : steps cut m v n start ≡ course ro (baseHead m source (without m source) (t + n)) (t + n) f
 
-module _ (m v c : ℕ) (ro : Roster) (f : ℕ → Station) (fs : Fines m c f) (few : (j : ℕ) → has m j ≡ true → f j .node .version ≤ v) where
+module _ (cut : Cutting) (m v c : ℕ) (ro : Roster) (f : ℕ → Station) (fs : Fines m c f) (few : (j : ℕ) → has m j ≡ true → f j .node .version ≤ v) where
   ver : ℕ → ℕ
   ver j = f j .node .version
 
   ask-step : (best src l t u : ℕ) → t < answerLimit → has m (lowest l) ≡ true
-      → step m v (course ro (Next.On (at (Phase.Versions best) src l t)) u f)
+      → step cut m v (course ro (Next.On (at (Phase.Versions best) src l t)) u f)
       ≡ course ro (versionsHead m (pick (ltb best (f (lowest l) .node .version)) (f (lowest l) .node .version) best) (pick (ltb best (f (lowest l) .node .version)) (lowest l) src) (without l (lowest l)) (t + 1)) (t + 1) f
   unfolding step awaitedIn good
   ask-step best src l t u h q = rw (asked-law c (lowest l) (f (lowest l)) (fs (lowest l) q), le-ltb v (f (lowest l) .node .version) (few (lowest l) q), upd-back f (lowest l), counted-one t h)
 
   abbrev Asking : ℕ → Type 0
-  Asking l = (best src t : ℕ) → t + size l ≤ answerLimit → Inv m (λ j. f j .node .version) l best src → Chose m v ro f (size l) t (course ro (versionsHead m best src l t) t f)
+  Asking l = (best src t : ℕ) → t + size l ≤ answerLimit → Inv m (λ j. f j .node .version) l best src → Chose cut m v ro f (size l) t (course ro (versionsHead m best src l t) t f)
 
   ask-none : Asking 0
   unfolding steps
@@ -129,12 +129,12 @@ module _ (m v c : ℕ) (ro : Roster) (f : ℕ → Station) (fs : Fines m c f) (f
         source = q .source;
         chosen = q .chosen;
         reach =
-            ap (λ (k : ℕ). steps m v k (course ro (versionsHead m best src l t) t f)) (one-fewer l h)
-            ∙ (steps-one m v (size (without l x)) (course ro (versionsHead m best src l t) t f)
-            ∙ (ap (steps m v (size (without l x))) one-on ∙ (q .reach ∙ ap (λ (k : ℕ). course ro (baseHead m (q .source) (without m (q .source)) k) k f) e)));
+            ap (λ (k : ℕ). steps cut m v k (course ro (versionsHead m best src l t) t f)) (one-fewer l h)
+            ∙ (steps-one cut m v (size (without l x)) (course ro (versionsHead m best src l t) t f)
+            ∙ (ap (steps cut m v (size (without l x))) one-on ∙ (q .reach ∙ ap (λ (k : ℕ). course ro (baseHead m (q .source) (without m (q .source)) k) k f) e)));
       }
     where
-      one-on : step m v (course ro (versionsHead m best src l t) t f)
+      one-on : step cut m v (course ro (versionsHead m best src l t) t f)
           ≡ course ro (versionsHead m (pick (ltb best (f (lowest l) .node .version)) (f (lowest l) .node .version) best) (pick (ltb best (f (lowest l) .node .version)) (lowest l) src) (without l (lowest l)) (t + 1)) (t + 1) f
       one-on = rw (some l h) (ask-step best src l t t (omega (arith, one-fewer l h)) (i .inside (lowest l) (lowest-in l h)))
 
@@ -142,7 +142,7 @@ module _ (m v c : ℕ) (ro : Roster) (f : ℕ → Station) (fs : Fines m c f) (f
   asking = by-left Asking ask-none ask-more
 
   -- all members asked, from the beginning
-  pub choosing : (t : ℕ) → m < 65536 → lowest m < 16 → t + size m ≤ answerLimit → Chose m v ro f (size m) t (course ro (versionsHead m 0 (lowest m) m t) t f)
+  pub choosing : (t : ℕ) → m < 65536 → lowest m < 16 → t + size m ≤ answerLimit → Chose cut m v ro f (size m) t (course ro (versionsHead m 0 (lowest m) m t) t f)
   choosing t hm h few-t = asking m hm 0 (lowest m) t few-t (record {
     member = lowest-in m h;
     inside = λ j q. q;

@@ -3,6 +3,7 @@
 use mathlib.Core.Path.{_≡_}
 use mathlib.Core.Bool.{Bool, true, false}
 use mathlib.Core.Logic.{_≢_}
+use mathlib.Core.List.{List}
 use Prim.Native.Nat.{ℕ, zero, suc, _+_, _*_, _≤_, _<_}
 use native.Mathlib.Omega.{arith}
 use lib.Dec.{eqb}
@@ -19,11 +20,19 @@ use Rattle.run.specs.declared.Move.{Move}
 use Rattle.run.specs.Run.{takes, good, awaitedIn}
 use Rattle.run.proofs.Bound.{counted-one}
 use Rattle.answers.specs.Answers.{enteredBy}
+use Rattle.nodestate.specs.declared.Transfer.{Transfer}
+use Rattle.node.specs.Cuts.{Cuts}
 use Rattle.world.specs.Station.{Station}
 use Rattle.recovery.specs.Recovery.{disabling}
 use Rattle.world.specs.World.{upd, Delivered, deliver, tell}
 use Rattle.honest.proofs.Ground.{upd-same, upd-other, upd-upd, some}
-use Rattle.honest.proofs.Stations.{Fine, readyTo, tookIn, doneTo, readies-law, gives-law, takes-law, commits-law, fine-ready, in-hand, fine-took, was-taken}
+use Rattle.honest.proofs.Stations.{Fine, readyTo, tookIn, doneTo, readies-law, commits-law, fine-ready, at-zero, fine-took, was-taken}
+use Rattle.honest.proofs.Sent.{sent-law}
+
+-- how each map that is sent is cut, by the answers that the run has taken: whole, in parts of 1 to 1,024 bytes
+pub record Cutting : Type 0 where
+  pub lengths : ℕ → List ℕ
+  pub cuts : (t : ℕ) → Cuts (lengths t)
 
 -- the sessions, how the run goes on, the answers taken, the nodes
 pub record Course : Type 0 where
@@ -42,29 +51,29 @@ movedOn ro f m = course (enteredBy (m .normal) ro) (m .next) (m .taken) (tell (d
 abbrev pub stepIn : ℕ → ℕ → Run → Roster → Delivered → Course
 stepIn members version r ro d = movedOn ro (d .nodes) (takes members version r (d .reply))
 
-abbrev pub stepAt : Next → ℕ → ℕ → Course → Course
-stepAt Next.Over members version c = c
-stepAt (Next.On r) members version c = stepIn members version r (c .roster) (deliver (awaitedIn members version r) (c .nodes))
+abbrev pub stepAt : Next → Cutting → ℕ → ℕ → Course → Course
+stepAt Next.Over cut members version c = c
+stepAt (Next.On r) cut members version c = stepIn members version r (c .roster) (deliver (cut .lengths (r .taken)) (awaitedIn members version r) (c .nodes))
 
-unfoldable pub step : ℕ → ℕ → Course → Course
-step members version c = stepAt (c .next) members version c
+unfoldable pub step : Cutting → ℕ → ℕ → Course → Course
+step cut members version c = stepAt (c .next) cut members version c
 
-unfoldable pub steps : ℕ → ℕ → ℕ → Course → Course
-steps members version zero c = c
-steps members version (suc n) c = steps members version n (step members version c)
+unfoldable pub steps : Cutting → ℕ → ℕ → ℕ → Course → Course
+steps cut members version zero c = c
+steps cut members version (suc n) c = steps cut members version n (step cut members version c)
 
-pub steps-add : (m v a b : ℕ) (c : Course) → steps m v (a + b) c ≡ steps m v b (steps m v a c)
+pub steps-add : (cut : Cutting) (m v a b : ℕ) (c : Course) → steps cut m v (a + b) c ≡ steps cut m v b (steps cut m v a c)
 unfolding steps
-steps-add m v zero b c = let e : 0 + b ≡ b = omega arith in rw e
-steps-add m v (suc a) b c = let e : suc a + b ≡ suc (a + b) = omega arith in rw e (steps-add m v a b (step m v c))
+steps-add cut m v zero b c = let e : 0 + b ≡ b = omega arith in rw e
+steps-add cut m v (suc a) b c = let e : suc a + b ≡ suc (a + b) = omega arith in rw e (steps-add cut m v a b (step cut m v c))
 
-pub steps-one : (m v n : ℕ) (c : Course) → steps m v (n + 1) c ≡ steps m v n (step m v c)
+pub steps-one : (cut : Cutting) (m v n : ℕ) (c : Course) → steps cut m v (n + 1) c ≡ steps cut m v n (step cut m v c)
 unfolding steps
-steps-one m v n c = let e : n + 1 ≡ suc n = omega arith in rw e
+steps-one cut m v n c = let e : n + 1 ≡ suc n = omega arith in rw e
 
-pub steps-three : (m v n : ℕ) (c : Course) → steps m v (3 * (n + 1)) c ≡ steps m v (3 * n) (step m v (step m v (step m v c)))
+pub steps-three : (cut : Cutting) (m v n : ℕ) (c : Course) → steps cut m v (3 * (n + 1)) c ≡ steps cut m v (3 * n) (step cut m v (step cut m v (step cut m v c)))
 unfolding steps
-steps-three m v n c = let e : 3 * (n + 1) ≡ suc (suc (suc (3 * n))) = omega arith in rw e
+steps-three cut m v n c = let e : 3 * (n + 1) ≡ suc (suc (suc (3 * n))) = omega arith in rw e
 
 -- ---- the run at the head of each phase, t answers taken
 
@@ -139,9 +148,9 @@ spreadTo k m v a b = doneTo (on k) v m (tookIn (a .map) (readyTo (keep k) b))
 
 -- ---- one equation for each message
 
-module _ (m v c : ℕ) where
+module _ (cut : Cutting) (m v c : ℕ) where
   ready : (k : Kind) (ro : Roster) (src l t u : ℕ) (f : ℕ → Station) → t < answerLimit → Fine c (to k src (lowest l)) (f (to k src (lowest l)))
-      → step m v (course ro (Next.On (at (phaseOf k Step.Ready) src l t)) u f)
+      → step cut m v (course ro (Next.On (at (phaseOf k Step.Ready) src l t)) u f)
       ≡ course ro (Next.On (at (phaseOf k Step.Send) src l (t + 1))) (t + 1) (upd f (to k src (lowest l)) (readyTo (keep k) (f (to k src (lowest l)))))
   unfolding step awaitedIn good
   ready base ro src l t u f h a = rw (readies-law c (lowest l) false (f (lowest l)) a, counted-one t h)
@@ -149,19 +158,20 @@ module _ (m v c : ℕ) where
   ready spread ro src l t u f h a = rw (readies-law c (lowest l) false (f (lowest l)) a, counted-one t h)
 
   send : (k : Kind) (ro : Roster) (src l t u : ℕ) (f : ℕ → Station) → t < answerLimit
+      → from k src (lowest l) ≢ to k src (lowest l)
       → Fine c (from k src (lowest l)) (f (from k src (lowest l))) → Fine c (to k src (lowest l)) (f (to k src (lowest l)))
-      → Rattle.nodestate.specs.States.inHand (f (to k src (lowest l)) .node .transfer) ≡ true
-      → step m v (course ro (Next.On (at (phaseOf k Step.Send) src l t)) u f)
+      → f (to k src (lowest l)) .node .transfer ≡ Transfer.InHand 0
+      → step cut m v (course ro (Next.On (at (phaseOf k Step.Send) src l t)) u f)
       ≡ course ro (Next.On (at (phaseOf k Step.Done) src l (t + 1))) (t + 1) (upd f (to k src (lowest l)) (tookIn (f (from k src (lowest l)) .map) (f (to k src (lowest l)))))
   unfolding step awaitedIn good
-  send base ro src l t u f h a b i = rw (gives-law c src (f src) a, takes-law c (lowest l) (f src .map) (f (lowest l)) b i (a .map), counted-one t h)
-  send gather ro src l t u f h a b i = rw (gives-law c (lowest l) (f (lowest l)) a, takes-law c src (f (lowest l) .map) (f src) b i (a .map), counted-one t h)
-  send spread ro src l t u f h a b i = rw (gives-law c src (f src) a, takes-law c (lowest l) (f src .map) (f (lowest l)) b i (a .map), counted-one t h)
+  send base ro src l t u f h ne a b i = rw (sent-law c src (lowest l) (cut .lengths t) f (cut .cuts t) ne a b i, counted-one t h)
+  send gather ro src l t u f h ne a b i = rw (sent-law c (lowest l) src (cut .lengths t) f (cut .cuts t) ne a b i, counted-one t h)
+  send spread ro src l t u f h ne a b i = rw (sent-law c src (lowest l) (cut .lengths t) f (cut .cuts t) ne a b i, counted-one t h)
 
   module _ (hv : v ≤ versionLimit) (hm : m < 65536) where
     finish : (k : Kind) (ro : Roster) (src l t u : ℕ) (f : ℕ → Station) → t < answerLimit → Fine c (to k src (lowest l)) (f (to k src (lowest l)))
-        → Rattle.nodestate.specs.States.isMapTaken (f (to k src (lowest l)) .node .transfer) ≡ true → has m (to k src (lowest l)) ≡ true
-        → step m v (course ro (Next.On (at (phaseOf k Step.Done) src l t)) u f)
+        → Rattle.nodestate.specs.States.isWhole (f (to k src (lowest l)) .node .transfer) ≡ true → has m (to k src (lowest l)) ≡ true
+        → step cut m v (course ro (Next.On (at (phaseOf k Step.Done) src l t)) u f)
         ≡ course (ups k ro (lowest l)) (headOf k m src (without l (lowest l)) (t + 1)) (t + 1) (upd f (to k src (lowest l)) (doneTo (on k) v m (f (to k src (lowest l)))))
     unfolding step awaitedIn good
     finish base ro src l t u f h a i own = rw (commits-law c (lowest l) false v m (f (lowest l)) a i hv hm own, counted-one t h)
@@ -172,12 +182,12 @@ module _ (m v c : ℕ) where
     pub three : (k : Kind) (ro : Roster) (src l t u : ℕ) (f : ℕ → Station) → t + 2 < answerLimit
         → Fine c (from k src (lowest l)) (f (from k src (lowest l))) → Fine c (to k src (lowest l)) (f (to k src (lowest l)))
         → from k src (lowest l) ≢ to k src (lowest l) → has m (to k src (lowest l)) ≡ true
-        → step m v (step m v (step m v (course ro (Next.On (at (phaseOf k Step.Ready) src l t)) u f)))
+        → step cut m v (step cut m v (step cut m v (course ro (Next.On (at (phaseOf k Step.Ready) src l t)) u f)))
         ≡ course (ups k ro (lowest l)) (headOf k m src (without l (lowest l)) (t + 3)) (t + 3)
         (upd f (to k src (lowest l)) (spreadTo k m v (f (from k src (lowest l))) (f (to k src (lowest l)))))
     three k ro src l t u f h hf ht ne own =
         rw (ready k ro src l t u f (omega arith) ht)
-        (rw (send k ro src l (t + 1) (t + 1) f1 (omega arith) (rw (upd-other f y x a ne) hf) (rw (upd-same f y a) (fine-ready c y (keep k) (f y) ht)) (rw (upd-same f y a) (in-hand (keep k) (f y))))
+        (rw (send k ro src l (t + 1) (t + 1) f1 (omega arith) ne (rw (upd-other f y x a ne) hf) (rw (upd-same f y a) (fine-ready c y (keep k) (f y) ht)) (rw (upd-same f y a) (at-zero (keep k) (f y))))
         (rw (finish k ro src l (t + 1 + 1) (t + 1 + 1) f2 (omega arith) (rw (upd-same f1 y b, upd-same f y a, upd-other f y x a ne) (fine-took c y (keep k) (f x .map) (f y) ht (hf .map))) (rw (upd-same f1 y b) (was-taken (f1 x .map) (f1 y))) own)
         (rw (upd-same f1 y b, upd-upd f1 y b, upd-upd f y a, upd-same f y a, upd-other f y x a ne, e)))
         )

@@ -22,7 +22,7 @@ use Rattle.world.specs.World.{upd}
 use Rattle.honest.proofs.Ground.{upd-same, upd-other}
 use Rattle.honest.proofs.Stations.{Fine, enabledTo, enables-law, fine-enabled}
 use Rattle.run.proofs.Bound.{counted-one}
-use Rattle.honest.proofs.Course.{Course, course, step, steps, steps-one, at, spreadHead}
+use Rattle.honest.proofs.Course.{Cutting, Course, course, step, steps, steps-one, at, spreadHead}
 use Rattle.honest.proofs.Spread.{CanSpread, Served, Spreads, spreads, entered-long, entered-normal}
 
 -- the enabling spread is done, and its source was enabled before it
@@ -31,9 +31,9 @@ pub record Enabled (m v c src l t : ℕ) (ro : Roster) (f : ℕ → Station) (e 
   pub source-entered : sessionAt (e .roster) src .state ≡ State.Normal
   pub source-served : Served m v (f src .map) (e .nodes src)
 
-module _ (m v c : ℕ) (hv : v ≤ versionLimit) (hm : m < 65536) (src : ℕ) (own : has m src ≡ true) where
+module _ (cut : Cutting) (m v c : ℕ) (hv : v ≤ versionLimit) (hm : m < 65536) (src : ℕ) (own : has m src ≡ true) where
   enable-step : (every : Bool) (ro : Roster) (l t u : ℕ) (f : ℕ → Station) → t < answerLimit → Fine c src (f src)
-      → step m v (course ro (Next.On (at (Phase.Enable every) src l t)) u f) ≡ course (entered ro src) (spreadHead src l (t + 1)) (t + 1) (upd f src (enabledTo v m (f src)))
+      → step cut m v (course ro (Next.On (at (Phase.Enable every) src l t)) u f) ≡ course (entered ro src) (spreadHead src l (t + 1)) (t + 1) (upd f src (enabledTo v m (f src)))
   unfolding step awaitedIn good
   enable-step every ro l t u f h a = rw (enables-law c src v m (f src) a hv hm own, counted-one t h)
 
@@ -53,10 +53,10 @@ module _ (m v c : ℕ) (hv : v ≤ versionLimit) (hm : m < 65536) (src : ℕ) (o
       apart j q p = clash q (ap (λ (k : ℕ). has l k) p ∙ can .apart)
 
   pub enable-spread : (every : Bool) (ro : Roster) (l t : ℕ) (f : ℕ → Station) → Long ro → l < 65536 → t + (3 * size l + 1) ≤ answerLimit → CanSpread m c src l f
-      → Enabled m v c src l t ro f (steps m v (3 * size l + 1) (course ro (Next.On (at (Phase.Enable every) src l t)) t f))
+      → Enabled m v c src l t ro f (steps cut m v (3 * size l + 1) (course ro (Next.On (at (Phase.Enable every) src l t)) t f))
   enable-spread every ro l t f long small few can =
-      rw (steps-one m v (3 * size l) (course ro (Next.On (at (Phase.Enable every) src l t)) t f), enable-step every ro l t t f (omega arith) (can .source))
-      (ends _ (spreads m v c hv hm src l small (entered ro src) (t + 1) (upd f src (enabledTo v m (f src))) (entered-long ro src long) (omega arith) (can-after l f can)))
+      rw (steps-one cut m v (3 * size l) (course ro (Next.On (at (Phase.Enable every) src l t)) t f), enable-step every ro l t t f (omega arith) (can .source))
+      (ends _ (spreads cut m v c hv hm src l small (entered ro src) (t + 1) (upd f src (enabledTo v m (f src))) (entered-long ro src long) (omega arith) (can-after l f can)))
     where
       ends : (e : Course) → Spreads m v c src l (t + 1) (entered ro src) (upd f src (enabledTo v m (f src))) e → Enabled m v c src l t ro f e
       ends e s = record {

@@ -27,11 +27,12 @@ use Rattle.answers.proofs.Kept.{answer-keeps}
 use Rattle.keeps.specs.Pools as pools
 use Rattle.keeps.specs.Tried.{tried-keeps}
 use Rattle.world.specs.Station.{Station}
+use Rattle.node.specs.Cuts.{Cuts}
 use Rattle.world.specs.World.{World, exchanges}
 use Rattle.honest.specs.Demand.{Begins, Up, Copied, Recovered}
 use Rattle.honest.proofs.Began.{begun-plain}
 use Rattle.honest.proofs.Bytes.{kept-in, kept-out}
-use Rattle.honest.proofs.Course.{Course, course, steps}
+use Rattle.honest.proofs.Course.{Cutting, Course, course, steps}
 use Rattle.honest.proofs.Spread.{Served, Spreads}
 use Rattle.honest.proofs.Sim.{jobOf, poolOf, Whole, run-numbered, Sim, Keeps, sim-steps}
 use Rattle.honest.proofs.Exact.{Tied, not-before}
@@ -53,9 +54,13 @@ tried-on p r e = rw e
 pub tried-number : (p : Pool) (r : Run) → begun (p .roster) ≡ Next.On r → numberOf (tried p .awaited) (tried p .pool .number) ≡ tried p .pool .number
 tried-number p r e = rw (tried-on p r e) (run-numbered (p .roster .members) (p .roster .version) r (nextNumber (p .number)))
 
+-- the cuts of a world, which are whole maps
+abbrev pub cutting : (w : World) → ((t : ℕ) → Cuts (w .cuts t)) → Cutting
+cutting w k = record { lengths = w .cuts; cuts = k }
+
 -- a world in which a run began follows the course of that run
-pub sim-begins : (p : Pool) (w : World) (b : Begins p w) → Sim (p .roster .members) (p .roster .version) w (course (p .roster) (Next.On (b .run)) 0 (w .nodes))
-sim-begins p w b =
+pub sim-begins : (p : Pool) (w : World) (b : Begins p w) (k : (t : ℕ) → Cuts (w .cuts t)) → Sim (cutting w k) (p .roster .members) (p .roster .version) w (course (p .roster) (Next.On (b .run)) 0 (w .nodes))
+sim-begins p w b k =
     record {
       num = nextNumber (p .number);
       chunks = p .chunks;
@@ -67,6 +72,7 @@ sim-begins p w b =
         map = w .map;
         sent = record { outcome = w .sent .outcome; told = w .sent .told; awaited = awaited-is i; number = number-is i };
         nodes = w .nodes;
+        cuts = w .cuts;
       };
       whole = whole-is;
       snd = b .map;
@@ -99,26 +105,26 @@ running-on : (n : Next) → (n ≡ Next.Over → ⊥) → isRunning (jobOf n) �
 running-on Next.Over h = absurd (h refl)
 running-on (Next.On r) h = refl
 
-module _ (p : Pool) (w : World) (c₀ : Course) (s : Sim (p .roster .members) (p .roster .version) w c₀) where
+module _ (cut : Cutting) (p : Pool) (w : World) (c₀ : Course) (s : Sim cut (p .roster .members) (p .roster .version) w c₀) where
   -- after i exchanges
-  after : (i : ℕ) → Sim (p .roster .members) (p .roster .version) (exchanges i w) (steps (p .roster .members) (p .roster .version) i c₀)
-  after i = sim-steps keeps (p .roster .members) (p .roster .version) i c₀ w s
+  after : (i : ℕ) → Sim cut (p .roster .members) (p .roster .version) (exchanges i w) (steps cut (p .roster .members) (p .roster .version) i c₀)
+  after i = sim-steps keeps cut (p .roster .members) (p .roster .version) i c₀ w s
 
   end : ℕ → Course
-  end i = steps (p .roster .members) (p .roster .version) i c₀
+  end i = steps cut (p .roster .members) (p .roster .version) i c₀
 
-  pub roster-is : (i : ℕ) → exchanges i w .pool .roster ≡ steps (p .roster .members) (p .roster .version) i c₀ .roster
+  pub roster-is : (i : ℕ) → exchanges i w .pool .roster ≡ steps cut (p .roster .members) (p .roster .version) i c₀ .roster
   roster-is i = ap (λ (w : World). w .pool .roster) (after i .is)
 
-  pub nodes-is : (i : ℕ) → exchanges i w .nodes ≡ steps (p .roster .members) (p .roster .version) i c₀ .nodes
+  pub nodes-is : (i : ℕ) → exchanges i w .nodes ≡ steps cut (p .roster .members) (p .roster .version) i c₀ .nodes
   nodes-is i = ap (λ (w : World). w .nodes) (after i .is)
 
-  job-is : (i : ℕ) → exchanges i w .pool .job ≡ jobOf (steps (p .roster .members) (p .roster .version) i c₀ .next)
+  job-is : (i : ℕ) → exchanges i w .pool .job ≡ jobOf (steps cut (p .roster .members) (p .roster .version) i c₀ .next)
   job-is i = ap (λ (w : World). w .pool .job) (after i .is)
 
   -- who is NORMAL in the course is so in the world
-  pub up-of : (i j : ℕ) (zs : List ℕ) → sessionAt (steps (p .roster .members) (p .roster .version) i c₀ .roster) j .state ≡ State.Normal
-      → Served (p .roster .members) (p .roster .version) zs (steps (p .roster .members) (p .roster .version) i c₀ .nodes j) → Up p j (exchanges i w)
+  pub up-of : (i j : ℕ) (zs : List ℕ) → sessionAt (steps cut (p .roster .members) (p .roster .version) i c₀ .roster) j .state ≡ State.Normal
+      → Served (p .roster .members) (p .roster .version) zs (steps cut (p .roster .members) (p .roster .version) i c₀ .nodes j) → Up p j (exchanges i w)
   up-of i j zs a b = record {
     session = ap (λ (ro : Roster). sessionAt ro j .state) (roster-is i) ∙ a;
     state = ap (λ (f : ℕ → Station). f j .node .state) (nodes-is i) ∙ b .normal;
@@ -128,24 +134,24 @@ module _ (p : Pool) (w : World) (c₀ : Course) (s : Sim (p .roster .members) (p
 
   -- an enabling spread at the end of the run, its source's map sound
   pub recovered : (src l t n : ℕ) (ro : Roster) (f : ℕ → Station) → Tied c₀ → c₀ .taken ≡ 0 → 0 < n → t + 3 * size l ≡ n → has l src ≡ false → Sound (p .chunks) (f src .map)
-      → Spreads (p .roster .members) (p .roster .version) (p .chunks) src l t ro f (steps (p .roster .members) (p .roster .version) n c₀)
+      → Spreads (p .roster .members) (p .roster .version) (p .chunks) src l t ro f (steps cut (p .roster .members) (p .roster .version) n c₀)
       → Recovered p src l n w
   recovered src l t n ro f tied none some all out snd e =
       record {
-        before = λ i h. ap isRunning (job-is i) ∙ running-on _ (not-before (p .roster .members) (p .roster .version) i n c₀ tied none taken-n h);
+        before = λ i h. ap isRunning (job-is i) ∙ running-on _ (not-before cut (p .roster .members) (p .roster .version) i n c₀ tied none taken-n h);
         over = job-is n ∙ ap jobOf (e .over);
-        count = ap (λ (w : World). w .sent .outcome) (after n .is) ∙ (after n .outcome (let z : 0 < steps (p .roster .members) (p .roster .version) n c₀ .taken = rw taken-n some in z) ∙ ap Outcome.Taken taken-n);
+        count = ap (λ (w : World). w .sent .outcome) (after n .is) ∙ (after n .outcome (let z : 0 < steps cut (p .roster .members) (p .roster .version) n c₀ .taken = rw taken-n some in z) ∙ ap Outcome.Taken taken-n);
         up = λ j h. up-of n j (f src .map) (e .entered j h) (e .served j h);
         map = λ j h. copied j (e .served j h);
       }
     where
-      taken-n : steps (p .roster .members) (p .roster .version) n c₀ .taken ≡ n
+      taken-n : steps cut (p .roster .members) (p .roster .version) n c₀ .taken ≡ n
       taken-n = e .taken ∙ all
 
       source-is : exchanges n w .nodes src .map ≡ f src .map
       source-is = ap (λ (g : ℕ → Station). g src .map) (nodes-is n) ∙ ap (λ (q : Station). q .map) (e .same-node src out)
 
-      copied : (j : ℕ) → Served (p .roster .members) (p .roster .version) (f src .map) (steps (p .roster .members) (p .roster .version) n c₀ .nodes j) → Copied p src j (exchanges n w)
+      copied : (j : ℕ) → Served (p .roster .members) (p .roster .version) (f src .map) (steps cut (p .roster .members) (p .roster .version) n c₀ .nodes j) → Copied p src j (exchanges n w)
       copied j b =
           let q : exchanges n w .nodes j .map ≡ rowsKept (p .roster .members) (f src .map) = ap (λ (g : ℕ → Station). g j .map) (nodes-is n) ∙ b .map in
           record {

@@ -19,7 +19,7 @@ use Rattle.run.specs.Run.{hand, rest, counted, toSpread, toGather, toLast, toBa
 use Rattle.run.proofs.Bound.{counted-most, Carries}
 use Rattle.world.specs.Station.{Station}
 use Rattle.world.specs.World.{deliver}
-use Rattle.honest.proofs.Course.{Course, course, step, steps, steps-add}
+use Rattle.honest.proofs.Course.{Cutting, Course, course, step, steps, steps-add}
 
 -- ---- one answer raises the count by at most one
 
@@ -93,36 +93,36 @@ record Counts (c e : Course) : Type 0 where
 carry : (n : Next) (a b : ℕ) → a ≡ b → Carries a n → Carries b n
 carry n a b e h = rw e at h
 
-step-at : (m v : ℕ) (ro : Roster) (n : Next) (t : ℕ) (f : ℕ → Station) → Carries t n → Counts (course ro n t f) (step m v (course ro n t f))
+step-at : (cut : Cutting) (m v : ℕ) (ro : Roster) (n : Next) (t : ℕ) (f : ℕ → Station) → Carries t n → Counts (course ro n t f) (step cut m v (course ro n t f))
 unfolding step
-step-at m v ro Next.Over t f h = record { most = omega arith; tied = tt }
-step-at m v ro (Next.On r) t f h =
-    let a = takes-raised m v r (deliver (awaitedIn m v r) f .reply) in
+step-at cut m v ro Next.Over t f h = record { most = omega arith; tied = tt }
+step-at cut m v ro (Next.On r) t f h =
+    let a = takes-raised m v r (deliver (cut .lengths (r .taken)) (awaitedIn m v r) f .reply) in
     record {
       most = omega (arith, a .count, counted-most (r .taken), h);
-      tied = carry (takes m v r (deliver (awaitedIn m v r) f .reply) .next) (counted (r .taken)) _ (sym (a .count)) (a .carries);
+      tied = carry (takes m v r (deliver (cut .lengths (r .taken)) (awaitedIn m v r) f .reply) .next) (counted (r .taken)) _ (sym (a .count)) (a .carries);
     }
 
-counts : (m v n : ℕ) (c : Course) → Tied c → steps m v n c .taken ≤ c .taken + n
+counts : (cut : Cutting) (m v n : ℕ) (c : Course) → Tied c → steps cut m v n c .taken ≤ c .taken + n
 unfolding steps
-counts m v zero c h = omega arith
-counts m v (suc n) c h =
-    let s = step-at m v (c .roster) (c .next) (c .taken) (c .nodes) h in
-    omega (arith, s .most, counts m v n (step m v c) (s .tied))
+counts cut m v zero c h = omega arith
+counts cut m v (suc n) c h =
+    let s = step-at cut m v (c .roster) (c .next) (c .taken) (c .nodes) h in
+    omega (arith, s .most, counts cut m v n (step cut m v c) (s .tied))
 
-stays-at : (m v : ℕ) (ro : Roster) (n : Next) (t : ℕ) (f : ℕ → Station) → n ≡ Next.Over → step m v (course ro n t f) ≡ course ro n t f
+stays-at : (cut : Cutting) (m v : ℕ) (ro : Roster) (n : Next) (t : ℕ) (f : ℕ → Station) → n ≡ Next.Over → step cut m v (course ro n t f) ≡ course ro n t f
 unfolding step
-stays-at m v ro n t f e = rw e
+stays-at cut m v ro n t f e = rw e
 
-stays : (m v n : ℕ) (c : Course) → c .next ≡ Next.Over → steps m v n c ≡ c
+stays : (cut : Cutting) (m v n : ℕ) (c : Course) → c .next ≡ Next.Over → steps cut m v n c ≡ c
 unfolding steps
-stays m v zero c e = refl
-stays m v (suc n) c e = ap (steps m v n) (stays-at m v (c .roster) (c .next) (c .taken) (c .nodes) e) ∙ stays m v n c e
+stays cut m v zero c e = refl
+stays cut m v (suc n) c e = ap (steps cut m v n) (stays-at cut m v (c .roster) (c .next) (c .taken) (c .nodes) e) ∙ stays cut m v n c e
 
 -- n answers taken after n exchanges: before that the run is not over
-pub not-before : (m v i n : ℕ) (c : Course) → Tied c → c .taken ≡ 0 → steps m v n c .taken ≡ n → i < n → steps m v i c .next ≡ Next.Over → ⊥
-not-before m v i n c tied zero-taken all l e =
+pub not-before : (cut : Cutting) (m v i n : ℕ) (c : Course) → Tied c → c .taken ≡ 0 → steps cut m v n c .taken ≡ n → i < n → steps cut m v i c .next ≡ Next.Over → ⊥
+not-before cut m v i n c tied zero-taken all l e =
     let k : n ≡ i + (n - i) = omega arith in
-    let s : steps m v n c ≡ steps m v i c = ap (λ (q : ℕ). steps m v q c) k ∙ (steps-add m v i (n - i) c ∙ stays m v (n - i) (steps m v i c) e) in
-    let q : steps m v n c .taken ≡ steps m v i c .taken = ap (λ (d : Course). d .taken) s in
-    omega (arith, counts m v i c tied)
+    let s : steps cut m v n c ≡ steps cut m v i c = ap (λ (q : ℕ). steps cut m v q c) k ∙ (steps-add cut m v i (n - i) c ∙ stays cut m v (n - i) (steps cut m v i c) e) in
+    let q : steps cut m v n c .taken ≡ steps cut m v i c .taken = ap (λ (d : Course). d .taken) s in
+    omega (arith, counts cut m v i c tied)

@@ -38,11 +38,12 @@ use Rattle.nodestate.specs.StateRules.{keptOk, valid}
 use Rattle.nodestate.specs.Change as change
 use Rattle.nodemaps.specs.Carry.{lastIos, lastIoAt, lastIo}
 use Rattle.nodeserve.specs.Serve.{readied}
-use Rattle.nodehand.specs.Hand.{mapTaken, committed}
+use Rattle.nodehand.specs.Hand.{committed}
 use Rattle.world.specs.Station.{Station}
+use Rattle.node.specs.Cuts.{Cuts}
 use Rattle.world.specs.World.{World, exchanges}
 use Rattle.honest.specs.Demand.{Able, Begins, Copied, Case1, Case2, Recorded, Case3, isDirty, keeps, chosenDirty}
-use Rattle.honest.proofs.Stations.{lastTo, enabledTo}
+use Rattle.honest.proofs.Stations.{lastTo, enabledTo, mapTaken}
 use Rattle.honest.proofs.Course.{base, gather, spreadTo}
 use Rattle.honest.proofs.Cases.{case-1, case-2, case-3}
 
@@ -123,7 +124,17 @@ versions zero = lit≤ tt
 versions (suc zero) = lit≤ tt
 versions (suc (suc k)) = lit≤ tt
 
--- ---- the world in which recovery was tried in p
+-- ---- a world in which recovery was tried in p
+
+-- the first map goes in eight parts, each other in nine, cut at byte 1
+unfoldable pub cuts : ℕ → List ℕ
+cuts zero = replicate 8 1024
+cuts (suc t) = 1 ∷ (1023 ∷ replicate 7 1024)
+
+pub whole-cuts : (t : ℕ) → Cuts (cuts t)
+unfolding cuts
+whole-cuts zero = record { sizes = refl; whole = refl }
+whole-cuts (suc t) = record { sizes = refl; whole = refl }
 
 unfoldable pub world : Pool → World
 world p =
@@ -132,6 +143,7 @@ world p =
       map = bytes;
       sent = record { outcome = Outcome.Plain; told = Told.Nothing; awaited = tried p .awaited; number = tried p .pool .number };
       nodes = station;
+      cuts = cuts;
     }
 
 begins : (a b c : Session) (count : ℕ) (r : Run) → validPool (pool a b c count) ≡ true → begun (pool a b c count .roster) ≡ Next.On r
@@ -154,6 +166,7 @@ unfolding bit has with without size lowest idsOf possible caseOf begun rosterOk 
 instance-1 = case-1 pool-1 (world pool-1) some
     (record {
       begins = begins again normal again 1 _ refl refl;
+      cuts = whole-cuts;
       giver = able 1 refl;
       takers = λ j h. able j (a-member 1 j h);
     })
@@ -185,6 +198,7 @@ unfolding bit has with without size lowest idsOf possible caseOf begun rosterOk 
 instance-2 = case-2 pool-2 (world pool-2) refl some
     (record {
       begins = begins again (session.marked again true) again 0 _ refl refl;
+      cuts = whole-cuts;
       giver = able 1 refl;
       takers = λ j h. able j (a-member 1 j h);
     })
@@ -212,6 +226,7 @@ unfolding bit has with without size lowest idsOf possible caseOf begun rosterOk 
 instance-3 = case-3 pool-3 (world pool-3) refl refl
     (record {
       begins = begins again again again 0 _ refl refl;
+      cuts = whole-cuts;
       able = able;
       versions = λ j h. versions j;
     })

@@ -1,5 +1,6 @@
 pub mod Ground
 pub mod Stations
+pub mod Sent
 pub mod LastIos
 pub mod Course
 pub mod Spread

@@ -17,13 +17,13 @@ use Rattle.maps.specs.Map.{orIn}
 use Rattle.maps.proofs.Chunks.{dirty-kept, dirty-or}
 use Rattle.maps.proofs.Sound.{sound-or}
 use Rattle.nodestate.specs.Change as change
-use Rattle.nodehand.specs.Hand.{mapTaken, committed}
+use Rattle.nodehand.specs.Hand.{committed}
 use Rattle.nodeserve.specs.Serve.{readied}
 use Rattle.world.specs.Station.{Station}
 use Rattle.world.specs.World.{upd}
 use Rattle.honest.specs.Demand.{any, isDirty, keeps, setAt, lastIoMarks}
 use Rattle.honest.proofs.Ground.{upd-same, upd-other, not-in, out-still}
-use Rattle.honest.proofs.Stations.{Fine, lastTo, copy-law, join-law}
+use Rattle.honest.proofs.Stations.{Fine, lastTo, copy-law, join-law, mapTaken}
 use Rattle.honest.proofs.LastIos.{any-one, none-at, dirty-yes, dirty-no, last-held, last-marks, last-only}
 use Rattle.honest.proofs.Course.{base, gather, spreadTo}
 

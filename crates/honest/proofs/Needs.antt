@@ -25,12 +25,13 @@ use Rattle.nodestate.specs.declared.Answer.{Answer}
 use Rattle.nodestate.specs.States.{isServing}
 use Rattle.nodestate.specs.StateRules.{valid}
 use Rattle.nodestate.specs.Turns.{settled}
-use Rattle.nodeserve.specs.Serve.{serveRefusal, mapReady, give}
+use Rattle.nodeserve.specs.Serve.{serveRefusal, mapReady, givePartRefusal, givePart}
 use Rattle.nodehand.specs.Hand.{mapDoneRefusal, mapDone}
+use Rattle.parts.specs.Parts.{isPart}
 use Rattle.node.specs.Events.{Event}
 use Rattle.client.specs.Client.{carried, answerTurn}
 use Rattle.world.specs.Station.{Station, bothSound, does}
-use Rattle.world.specs.World.{World, deliver, exchange, exchanges}
+use Rattle.world.specs.World.{World, deliver, answersTaken, exchange, exchanges}
 
 -- ---- of a node, at its MAP_READY; a source is asked the same at MAP_SEND
 
@@ -49,9 +50,14 @@ pub needs-serving : (s : Station) (keep : Bool) → valid (s .node) ≡ true →
 unfolding does mapReady serveRefusal settled
 needs-serving s keep h e i j = rw (h, e, i, j)
 
-pub gives-needs-serving : (s : Station) → valid (s .node) ≡ true → bothSound s ≡ true → ltb 15 (s .node .id) ≡ false → isServing (s .node) ≡ false → does s Event.give .answer ≡ Answer.Refused 9
-unfolding does give serveRefusal settled
-gives-needs-serving s h e i j = rw (h, e, i, j)
+pub gives-needs-serving : (s : Station) (offset l : ℕ) → valid (s .node) ≡ true → bothSound s ≡ true → ltb 15 (s .node .id) ≡ false → isServing (s .node) ≡ false → does s (Event.givePart offset l) .answer ≡ Answer.Refused 9
+unfolding does givePart givePartRefusal settled
+gives-needs-serving s offset l h e i j = rw (h, e, i, j)
+
+-- that what it is asked for is a part
+pub gives-needs-part : (s : Station) (offset l : ℕ) → valid (s .node) ≡ true → bothSound s ≡ true → ltb 15 (s .node .id) ≡ false → isServing (s .node) ≡ true → isPart offset l ≡ false → does s (Event.givePart offset l) .answer ≡ Answer.Refused 16
+unfolding does givePart givePartRefusal settled
+gives-needs-part s offset l h e i j p = rw (h, e, i, j, p)
 
 -- that it is a member: the node of another id, no member, refuses MAP_DONE
 pub needs-itself : (s : Station) (on : Bool) (v m : ℕ) → valid (s .node) ≡ true → bothSound s ≡ true → ltb 15 (s .node .id) ≡ false → ltb 65535 m ≡ false → has m (s .node .id) ≡ false
@@ -97,7 +103,7 @@ refused-turn p b n a h = by-cases (validPool p)
 refused-exchange : (w : World) → (validPool (w .pool) && sound (w .pool .chunks) (w .map)) ≡ false → (exchange w .pool ≡ w .pool) × (exchange w .map ≡ w .map)
 unfolding exchange answerTurn
 refused-exchange w h =
-    let t = refused-turn (w .pool) (sound (w .pool .chunks) (w .map)) (w .sent .number) (deliver (w .sent .awaited) (w .nodes) .reply) h in
+    let t = refused-turn (w .pool) (sound (w .pool .chunks) (w .map)) (w .sent .number) (deliver (w .cuts (answersTaken (w .pool .job))) (w .sent .awaited) (w .nodes) .reply) h in
     (t .0, ap (λ (e : Effect). carried e (w .map)) (t .1))
 
 -- no answer is taken: pool and client map stay, however many exchanges follow

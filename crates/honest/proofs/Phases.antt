@@ -19,28 +19,28 @@ use Rattle.world.specs.World.{upd}
 use Rattle.honest.proofs.Ground.{upd-same, upd-other, out-still, some, by-left, one-fewer}
 use Rattle.honest.proofs.Stations.{Fine, lastTo, marks-law, fine-last, fine-done}
 use Rattle.run.proofs.Bound.{counted-one}
-use Rattle.honest.proofs.Course.{Course, course, step, steps, steps-add, steps-one, steps-three, at, gatherHead, lastHead, baseHead, Kind, base, gather, spread, from, to, keep, on, ups, headOf, head-some, spreadTo, three}
+use Rattle.honest.proofs.Course.{Cutting, Course, course, step, steps, steps-add, steps-one, steps-three, at, gatherHead, lastHead, baseHead, Kind, base, gather, spread, from, to, keep, on, ups, headOf, head-some, spreadTo, three}
 use Rattle.honest.proofs.Maps.{Round, Fines, Each, each-none, each-more, Gathered, gathered-none, gathered-more, Prepared, prepared}
 
 -- n exchanges on from a course that has taken t answers, the sessions as they were: the run is at `next`, the members' nodes are honest and as `Left` says
-pub record Passed (m v c : ℕ) (ro : Roster) (next : ℕ → Next) (n t : ℕ) (start : Course) (Left : (ℕ → Station) → Type 0) : Type 0 where
+pub record Passed (cut : Cutting) (m v c : ℕ) (ro : Roster) (next : ℕ → Next) (n t : ℕ) (start : Course) (Left : (ℕ → Station) → Type 0) : Type 0 where
   pub nodes : ℕ → Station
   pub fines : Fines m c nodes
   pub left : Left nodes
-  pub reach : steps m v n start ≡ course ro (next (t + n)) (t + n) nodes
+  pub reach : steps cut m v n start ≡ course ro (next (t + n)) (t + n) nodes
 
 -- one phase after another
-pub both : (m v c : ℕ) (ro : Roster) (one two : ℕ → Next) (a b t : ℕ) (start : Course) (One Two : (ℕ → Station) → Type 0) → Passed m v c ro one a t start One
-    → ((f : ℕ → Station) → Fines m c f → One f → Passed m v c ro two b (t + a) (course ro (one (t + a)) (t + a) f) Two) → Passed m v c ro two (a + b) t start Two
-both m v c ro one two a b t start One Two p q =
+pub both : (cut : Cutting) (m v c : ℕ) (ro : Roster) (one two : ℕ → Next) (a b t : ℕ) (start : Course) (One Two : (ℕ → Station) → Type 0) → Passed cut m v c ro one a t start One
+    → ((f : ℕ → Station) → Fines m c f → One f → Passed cut m v c ro two b (t + a) (course ro (one (t + a)) (t + a) f) Two) → Passed cut m v c ro two (a + b) t start Two
+both cut m v c ro one two a b t start One Two p q =
     let r = q (p .nodes) (p .fines) (p .left) in
     let e : t + a + b ≡ t + (a + b) = omega arith in
-    record { nodes = r .nodes; fines = r .fines; left = r .left; reach = steps-add m v a b start ∙ (ap (steps m v b) (p .reach) ∙ (r .reach ∙ ap (λ (k : ℕ). course ro (two k) k (r .nodes)) e)) }
+    record { nodes = r .nodes; fines = r .fines; left = r .left; reach = steps-add cut m v a b start ∙ (ap (steps cut m v b) (p .reach) ∙ (r .reach ∙ ap (λ (k : ℕ). course ro (two k) k (r .nodes)) e)) }
 
 -- no exchange
-pub at-once : (m v c : ℕ) (ro : Roster) (next : ℕ → Next) (t : ℕ) (f : ℕ → Station) (start : Course) (Left : (ℕ → Station) → Type 0) → Fines m c f → Left f → start ≡ course ro (next t) t f → Passed m v c ro next 0 t start Left
+pub at-once : (cut : Cutting) (m v c : ℕ) (ro : Roster) (next : ℕ → Next) (t : ℕ) (f : ℕ → Station) (start : Course) (Left : (ℕ → Station) → Type 0) → Fines m c f → Left f → start ≡ course ro (next t) t f → Passed cut m v c ro next 0 t start Left
 unfolding steps
-at-once m v c ro next t f start Left h l e =
+at-once cut m v c ro next t f start Left h l e =
     let z : t + 0 ≡ t = omega arith in
     record { nodes = f; fines = h; left = l; reach = rw z e }
 
@@ -74,7 +74,7 @@ two-ends gather src x h = λ e. h (sym e)
 two-ends spread src x h = h
 
 -- ---- a spread that enables nobody
-module _ (m v c : ℕ) (hv : v ≤ versionLimit) (hm : m < 65536) (src : ℕ) (own : has m src ≡ true) (ro : Roster) where
+module _ (cut : Cutting) (m v c : ℕ) (hv : v ≤ versionLimit) (hm : m < 65536) (src : ℕ) (own : has m src ≡ true) (ro : Roster) where
   -- Left l f g: a spread to those in l makes g of f
   module _ (k : Kind) (quiet : (x : ℕ) → ups k ro x ≡ ro) (last : (t : ℕ) → headOf k m src 0 t ≡ nextOf k m src t) (Left : ℕ → (ℕ → Station) → (ℕ → Station) → Type 0)
       (left-none : (f : ℕ → Station) → Left 0 f f)
@@ -82,12 +82,12 @@ module _ (m v c : ℕ) (hv : v ≤ versionLimit) (hm : m < 65536) (src : ℕ) (o
       → Left (without l (lowest l)) (upd f (to k src (lowest l)) (spreadTo k m v (f (from k src (lowest l))) (f (to k src (lowest l))))) g → Left l f g) where
     abbrev pub Looping : ℕ → Type 0
     Looping l = (t : ℕ) (f : ℕ → Station) → t + 3 * size l ≤ answerLimit → Round m src l → Fines m c f
-        → Passed m v c ro (nextOf k m src) (3 * size l) t (course ro (headOf k m src l t) t f) (Left l f)
+        → Passed cut m v c ro (nextOf k m src) (3 * size l) t (course ro (headOf k m src l t) t f) (Left l f)
 
     loop-none : Looping 0
     loop-none t f few r h =
         let z : 3 * size 0 ≡ 0 = omega (arith, size-zero) in
-        rw z (at-once m v c ro (nextOf k m src) t f (course ro (headOf k m src 0 t) t f) (Left 0 f) h (left-none f) (ap (λ (n : Next). course ro n t f) (last t)))
+        rw z (at-once cut m v c ro (nextOf k m src) t f (course ro (headOf k m src 0 t) t f) (Left 0 f) h (left-none f) (ap (λ (n : Next). course ro n t f) (last t)))
 
     loop-more : (l : ℕ) → l < 65536 → lowest l < 16 → Looping (without l (lowest l)) → Looping l
     loop-more l b h rec t f few r fs =
@@ -99,9 +99,9 @@ module _ (m v c : ℕ) (hv : v ≤ versionLimit) (hm : m < 65536) (src : ℕ) (o
           fines = i .fines;
           left = left-more l f (i .nodes) h r fs (i .left);
           reach =
-              ap (λ (q : ℕ). steps m v q (course ro (headOf k m src l t) t f)) e₃
-              ∙ (steps-three m v (size (without l (lowest l))) (course ro (headOf k m src l t) t f)
-              ∙ (ap (steps m v (3 * size (without l (lowest l)))) three-on ∙ (i .reach ∙ ap (λ (q : ℕ). course ro (nextOf k m src q) q (i .nodes)) e)));
+              ap (λ (q : ℕ). steps cut m v q (course ro (headOf k m src l t) t f)) e₃
+              ∙ (steps-three cut m v (size (without l (lowest l))) (course ro (headOf k m src l t) t f)
+              ∙ (ap (steps cut m v (3 * size (without l (lowest l)))) three-on ∙ (i .reach ∙ ap (λ (q : ℕ). course ro (nextOf k m src q) q (i .nodes)) e)));
         }
       where
         x-in : has m (lowest l) ≡ true
@@ -125,11 +125,11 @@ module _ (m v c : ℕ) (hv : v ≤ versionLimit) (hm : m < 65536) (src : ℕ) (o
         e₃ : 3 * size l ≡ 3 * (size (without l (lowest l)) + 1)
         e₃ = ap (λ (q : ℕ). 3 * q) (one-fewer l h)
 
-        three-on : step m v (step m v (step m v (course ro (headOf k m src l t) t f))) ≡ course ro (headOf k m src (without l (lowest l)) (t + 3)) (t + 3) g
+        three-on : step cut m v (step cut m v (step cut m v (course ro (headOf k m src l t) t f))) ≡ course ro (headOf k m src (without l (lowest l)) (t + 3)) (t + 3) g
         three-on =
             rw (
               head-some k m src l t h,
-              three m v c hv hm k ro src l t t f (omega (arith, one-fewer l h)) from-fine to-fine (two-ends k src (lowest l) apart) (to-in k m src (lowest l) own x-in),
+              three cut m v c hv hm k ro src l t t f (omega (arith, one-fewer l h)) from-fine to-fine (two-ends k src (lowest l) apart) (to-in k m src (lowest l) own x-in),
               quiet (lowest l),
             )
 
@@ -138,16 +138,16 @@ module _ (m v c : ℕ) (hv : v ≤ versionLimit) (hm : m < 65536) (src : ℕ) (o
 
   -- ---- LAST_IO_TO_MAP: one exchange for each
   mark-step : (l t u : ℕ) (f : ℕ → Station) → t < answerLimit → src < 16 → Fine c (lowest l) (f (lowest l))
-      → step m v (course ro (Next.On (at Phase.LastIo src l t)) u f) ≡ course ro (lastHead m src (without l (lowest l)) (t + 1)) (t + 1) (upd f (lowest l) (lastTo src (f (lowest l))))
+      → step cut m v (course ro (Next.On (at Phase.LastIo src l t)) u f) ≡ course ro (lastHead m src (without l (lowest l)) (t + 1)) (t + 1) (upd f (lowest l) (lastTo src (f (lowest l))))
   unfolding step awaitedIn good
   mark-step l t u f h b a = rw (marks-law c (lowest l) src (f (lowest l)) a b, counted-one t h)
 
   abbrev pub Marking : ℕ → Type 0
   Marking l = (t : ℕ) (f : ℕ → Station) → t + size l ≤ answerLimit → ((j : ℕ) → has l j ≡ true → has m j ≡ true) → Fines m c f
-      → Passed m v c ro (gatherHead m src (without m src)) (size l) t (course ro (lastHead m src l t) t f) (Each l (λ j. lastTo src (f j)) f)
+      → Passed cut m v c ro (gatherHead m src (without m src)) (size l) t (course ro (lastHead m src l t) t f) (Each l (λ j. lastTo src (f j)) f)
 
   mark-none : Marking 0
-  mark-none t f few r h = rw size-zero (at-once m v c ro (gatherHead m src (without m src)) t f (course ro (lastHead m src 0 t) t f) (Each 0 (λ j. lastTo src (f j)) f) h (each-none (λ j. lastTo src (f j)) f) refl)
+  mark-none t f few r h = rw size-zero (at-once cut m v c ro (gatherHead m src (without m src)) t f (course ro (lastHead m src 0 t) t f) (Each 0 (λ j. lastTo src (f j)) f) h (each-none (λ j. lastTo src (f j)) f) refl)
 
   mark-more : (l : ℕ) → l < 65536 → lowest l < 16 → Marking (without l (lowest l)) → Marking l
   mark-more l b h rec t f few r fs =
@@ -157,9 +157,9 @@ module _ (m v c : ℕ) (hv : v ≤ versionLimit) (hm : m < 65536) (src : ℕ) (o
         fines = i .fines;
         left = each-more l (λ j. lastTo src (f j)) (λ j. lastTo src (g j)) f (i .nodes) h (λ j q. ap (lastTo src) (upd-other f (lowest l) j (lastTo src (f (lowest l))) (still l (lowest l) j q .1))) (i .left);
         reach =
-            ap (λ (q : ℕ). steps m v q (course ro (lastHead m src l t) t f)) (one-fewer l h)
-            ∙ (steps-one m v (size (without l (lowest l))) (course ro (lastHead m src l t) t f)
-            ∙ (ap (steps m v (size (without l (lowest l)))) one-on ∙ (i .reach ∙ ap (λ (q : ℕ). course ro (gatherHead m src (without m src) q) q (i .nodes)) e)));
+            ap (λ (q : ℕ). steps cut m v q (course ro (lastHead m src l t) t f)) (one-fewer l h)
+            ∙ (steps-one cut m v (size (without l (lowest l))) (course ro (lastHead m src l t) t f)
+            ∙ (ap (steps cut m v (size (without l (lowest l)))) one-on ∙ (i .reach ∙ ap (λ (q : ℕ). course ro (gatherHead m src (without m src) q) q (i .nodes)) e)));
       }
     where
       fine-x : Fine c (lowest l) (f (lowest l))
@@ -171,7 +171,7 @@ module _ (m v c : ℕ) (hv : v ≤ versionLimit) (hm : m < 65536) (src : ℕ) (o
       e : t + 1 + size (without l (lowest l)) ≡ t + size l
       e = omega (arith, one-fewer l h)
 
-      one-on : step m v (course ro (lastHead m src l t) t f) ≡ course ro (lastHead m src (without l (lowest l)) (t + 1)) (t + 1) g
+      one-on : step cut m v (course ro (lastHead m src l t) t f) ≡ course ro (lastHead m src (without l (lowest l)) (t + 1)) (t + 1) g
       one-on = rw (some l h) (mark-step l t t f (omega (arith, one-fewer l h)) (has-below m src own) fine-x)
 
   marking : (l : ℕ) → l < 65536 → Marking l
@@ -200,11 +200,11 @@ module _ (m v c : ℕ) (hv : v ≤ versionLimit) (hm : m < 65536) (src : ℕ) (o
       same j q = rw (upd-other f (lowest l) src (spreadTo base m v (f src) (f (lowest l))) apart, upd-other f (lowest l) j (spreadTo base m v (f src) (f (lowest l))) (still l (lowest l) j q .1))
 
   pub middle : (t : ℕ) (f : ℕ → Station) → t + (3 * size (without m src) + (size m + 3 * size (without m src))) ≤ answerLimit → Fines m c f
-      → Passed m v c ro (λ q. Next.On (at (Phase.Enable true) src (without m src) q)) (3 * size (without m src) + (size m + 3 * size (without m src))) t (course ro (baseHead m src (without m src) t) t f) (Prepared m src f)
+      → Passed cut m v c ro (λ q. Next.On (at (Phase.Enable true) src (without m src) q)) (3 * size (without m src) + (size m + 3 * size (without m src))) t (course ro (baseHead m src (without m src) t) t f) (Prepared m src f)
   middle t f few fs =
-      both m v c ro (λ q. lastHead m src m q) (λ q. Next.On (at (Phase.Enable true) src (without m src) q)) (3 * size o) (size m + 3 * size o) t (course ro (baseHead m src o t) t f) (Given o f) (Prepared m src f)
+      both cut m v c ro (λ q. lastHead m src m q) (λ q. Next.On (at (Phase.Enable true) src (without m src) q)) (3 * size o) (size m + 3 * size o) t (course ro (baseHead m src o t) t f) (Given o f) (Prepared m src f)
       (loop base (λ x. refl) (λ q. refl) Given given-none given-more o small t f (omega arith) round fs)
-      (λ f₁ fs₁ given. both m v c ro (gatherHead m src o) (λ q. Next.On (at (Phase.Enable true) src (without m src) q)) (size m) (3 * size o) (t + 3 * size o) (course ro (lastHead m src m (t + 3 * size o)) (t + 3 * size o) f₁)
+      (λ f₁ fs₁ given. both cut m v c ro (gatherHead m src o) (λ q. Next.On (at (Phase.Enable true) src (without m src) q)) (size m) (3 * size o) (t + 3 * size o) (course ro (lastHead m src m (t + 3 * size o)) (t + 3 * size o) f₁)
       (Each m (λ j. lastTo src (f₁ j)) f₁) (Prepared m src f)
       (marking m hm (t + 3 * size o) f₁ (omega arith) (λ j q. q) fs₁)
       (λ f₂ fs₂ marked. seen f₁ fs₁ given f₂ marked _ _ _ _ (loop gather (λ x. refl) (λ q. refl) (Gathered m src) (gathered-none m src) (λ l f g h r fs i. gathered-more c m v src l f g h own r fs i) o small (t + 3 * size o + size m) f₂ (omega arith) round fs₂)))
@@ -219,6 +219,6 @@ module _ (m v c : ℕ) (hv : v ≤ versionLimit) (hm : m < 65536) (src : ℕ) (o
       round = record { inside = λ j q. still m src j q .0; apart = has-without-same m src }
 
       seen : (f₁ : ℕ → Station) → Fines m c f₁ → Given o f f₁ → (f₂ : ℕ → Station) → Each m (λ j. lastTo src (f₁ j)) f₁ f₂ → (next : ℕ → Next) (n t : ℕ) (start : Course)
-          → Passed m v c ro next n t start (Gathered m src o f₂) → Passed m v c ro next n t start (Prepared m src f)
+          → Passed cut m v c ro next n t start (Gathered m src o f₂) → Passed cut m v c ro next n t start (Prepared m src f)
       seen f₁ fs₁ given f₂ marked next n t start p =
           record { nodes = p .nodes; fines = p .fines; left = prepared m v c src own f f₁ f₂ (p .nodes) fs fs₁ given marked (p .left); reach = p .reach }

@@ -28,7 +28,7 @@ use Rattle.keeps.specs.Ids.{Long}
 use Rattle.world.specs.Station.{Station}
 use Rattle.world.specs.World.{World, Delivered, deliver, tell, heard, exchange, exchanges}
 use Rattle.keeps.specs.Runs.{entered-members, entered-version}
-use Rattle.honest.proofs.Course.{Course, course, step, steps}
+use Rattle.honest.proofs.Course.{Cutting, Course, course, step, steps}
 
 -- ---- a world that follows a course
 
@@ -43,13 +43,14 @@ awaitedOf ro (Next.On r) = awaitedIn (ro .members) (ro .version) r
 abbrev pub poolOf : ℕ → ℕ → Roster → Next → Pool
 poolOf num chunks ro n = record { roster = ro; job = jobOf n; number = num; chunks = chunks }
 
-abbrev pub worldOf : ℕ → ℕ → List ℕ → Outcome → Told → Roster → Next → (ℕ → Station) → World
-worldOf num chunks map out told ro n f =
+abbrev pub worldOf : (ℕ → List ℕ) → ℕ → ℕ → List ℕ → Outcome → Told → Roster → Next → (ℕ → Station) → World
+worldOf cuts num chunks map out told ro n f =
     record {
       pool = poolOf num chunks ro n;
       map = map;
       sent = record { outcome = out; told = told; awaited = awaitedOf ro n; number = numberOf (awaitedOf ro n) num };
       nodes = f;
+      cuts = cuts;
     }
 
 -- the whole array, and the state rules
@@ -82,29 +83,29 @@ numAfter (Next.On r) n = nextNumber n
 -- what an answer did to the run, done to the pool
 moves : (num chunks : ℕ) (map : List ℕ) (ro : Roster) (j : Job) (f : ℕ → Station) (w : World) (n : Next) (t : ℕ) (a b : Who) → w .map ≡ map
     → heard w f (answers.reported (record { roster = ro; job = j; number = num; chunks = chunks }) (record { next = n; taken = t; normal = a; disable = b }))
-    ≡ worldOf (numAfter n num) chunks map (Outcome.Taken t) (disabling b) (answers.enteredBy a ro) n (tell (disabling b) f)
+    ≡ worldOf (w .cuts) (numAfter n num) chunks map (Outcome.Taken t) (disabling b) (answers.enteredBy a ro) n (tell (disabling b) f)
 unfolding answers.movedOn posted
 moves num chunks map ro j f w Next.Over t a b e = rw e
 moves num chunks map ro j f w (Next.On r) t a b e = rw e
 
 -- one exchange of a run in a pool that keeps its state rules
-exchange-on : (num chunks : ℕ) (map : List ℕ) (out : Outcome) (told : Told) (ro : Roster) (r : Run) (f : ℕ → Station)
+exchange-on : (cuts : ℕ → List ℕ) (num chunks : ℕ) (map : List ℕ) (out : Outcome) (told : Told) (ro : Roster) (r : Run) (f : ℕ → Station)
     → validPool (poolOf num chunks ro (Next.On r)) ≡ true → sound chunks map ≡ true
-    → (d : Delivered) → deliver (awaitedIn (ro .members) (ro .version) r) f ≡ d
+    → (d : Delivered) → deliver (cuts (r .taken)) (awaitedIn (ro .members) (ro .version) r) f ≡ d
     → (m : Move) → takes (ro .members) (ro .version) r (d .reply) ≡ m
-    → exchange (worldOf num chunks map out told ro (Next.On r) f)
-    ≡ worldOf (numAfter (m .next) num) chunks map (Outcome.Taken (m .taken)) (disabling (m .disable)) (answers.enteredBy (m .normal) ro) (m .next) (tell (disabling (m .disable)) (d .nodes))
+    → exchange (worldOf cuts num chunks map out told ro (Next.On r) f)
+    ≡ worldOf cuts (numAfter (m .next) num) chunks map (Outcome.Taken (m .taken)) (disabling (m .disable)) (answers.enteredBy (m .normal) ro) (m .next) (tell (disabling (m .disable)) (d .nodes))
 unfolding exchange answerTurn answers.answer answers.answerRefusal
-exchange-on num chunks map out told ro r f valid snd d ed m em =
+exchange-on cuts num chunks map out told ro r f valid snd d ed m em =
     rw (ed, valid, snd, run-numbered (ro .members) (ro .version) r num, eq-eqb num num refl, em)
-    (moves num chunks map ro (Job.Running r) (d .nodes) (worldOf num chunks map out told ro (Next.On r) f) (m .next) (m .taken) (m .normal) (m .disable) refl)
+    (moves num chunks map ro (Job.Running r) (d .nodes) (worldOf cuts num chunks map out told ro (Next.On r) f) (m .next) (m .taken) (m .normal) (m .disable) refl)
 
 -- with nothing awaited an answer is refused, and nothing changes
-exchange-over : (num chunks : ℕ) (map : List ℕ) (out : Outcome) (told : Told) (ro : Roster) (f : ℕ → Station)
+exchange-over : (cuts : ℕ → List ℕ) (num chunks : ℕ) (map : List ℕ) (out : Outcome) (told : Told) (ro : Roster) (f : ℕ → Station)
     → validPool (poolOf num chunks ro Next.Over) ≡ true → sound chunks map ≡ true
-    → exchange (worldOf num chunks map out told ro Next.Over f) ≡ worldOf num chunks map out told ro Next.Over f
+    → exchange (worldOf cuts num chunks map out told ro Next.Over f) ≡ worldOf cuts num chunks map out told ro Next.Over f
 unfolding exchange answerTurn answers.answer answers.answerRefusal
-exchange-over num chunks map out told ro f valid snd = rw (valid, snd)
+exchange-over cuts num chunks map out told ro f valid snd = rw (valid, snd)
 
 -- ---- entering NORMAL changes neither membership nor version
 
@@ -118,13 +119,13 @@ by-version (Who.One x) ro = entered-version ro x
 
 -- ---- worlds follow their course
 
-pub record Sim (m v : ℕ) (w : World) (c : Course) : Type 0 where
+pub record Sim (cut : Cutting) (m v : ℕ) (w : World) (c : Course) : Type 0 where
   pub num : ℕ
   pub chunks : ℕ
   pub map : List ℕ
   pub out : Outcome
   pub told : Told
-  pub is : w ≡ worldOf num chunks map out told (c .roster) (c .next) (c .nodes)
+  pub is : w ≡ worldOf (cut .lengths) num chunks map out told (c .roster) (c .next) (c .nodes)
   pub whole : Whole (w .pool)
   pub snd : sound chunks map ≡ true
   pub outcome : 0 < c .taken → out ≡ Outcome.Taken (c .taken)
@@ -135,12 +136,12 @@ pub record Sim (m v : ℕ) (w : World) (c : Course) : Type 0 where
 abbrev pub Keeps : Type 0
 Keeps = (p : Pool) (b : Bool) (n : ℕ) (a : Reply) → Whole p → Whole (answers.answer p b n a .pool)
 
-module _ (keeps : Keeps) (m v : ℕ) where
+module _ (keeps : Keeps) (cut : Cutting) (m v : ℕ) where
   exchange-whole : (w : World) → Whole (w .pool) → Whole (exchange w .pool)
   unfolding exchange answerTurn
   exchange-whole w h = keeps (w .pool) _ _ _ h
 
-  sim-at : (ro : Roster) (n : Next) (t : ℕ) (f : ℕ → Station) (w : World) → Sim m v w (course ro n t f) → Sim m v (exchange w) (step m v (course ro n t f))
+  sim-at : (ro : Roster) (n : Next) (t : ℕ) (f : ℕ → Station) (w : World) → Sim cut m v w (course ro n t f) → Sim cut m v (exchange w) (step cut m v (course ro n t f))
   unfolding step
   sim-at ro Next.Over t f w s =
       record {
@@ -149,7 +150,7 @@ module _ (keeps : Keeps) (m v : ℕ) where
         map = s .map;
         out = s .out;
         told = s .told;
-        is = ap exchange (s .is) ∙ exchange-over (s .num) (s .chunks) (s .map) (s .out) (s .told) ro f (ap (λ (w : World). validPool (w .pool)) (sym (s .is)) ∙ s .whole .1) (s .snd);
+        is = ap exchange (s .is) ∙ exchange-over (cut .lengths) (s .num) (s .chunks) (s .map) (s .out) (s .told) ro f (ap (λ (w : World). validPool (w .pool)) (sym (s .is)) ∙ s .whole .1) (s .snd);
         whole = exchange-whole w (s .whole);
         snd = s .snd;
         outcome = s .outcome;
@@ -163,7 +164,7 @@ module _ (keeps : Keeps) (m v : ℕ) where
         map = s .map;
         out = Outcome.Taken (mo .taken);
         told = disabling (mo .disable);
-        is = ap exchange (s .is) ∙ exchange-on (s .num) (s .chunks) (s .map) (s .out) (s .told) ro r f (ap (λ (w : World). validPool (w .pool)) (sym (s .is)) ∙ s .whole .1) (s .snd) d (rw (s .members, s .version) refl) mo (rw (s .members, s .version) refl);
+        is = ap exchange (s .is) ∙ exchange-on (cut .lengths) (s .num) (s .chunks) (s .map) (s .out) (s .told) ro r f (ap (λ (w : World). validPool (w .pool)) (sym (s .is)) ∙ s .whole .1) (s .snd) d (rw (s .members, s .version) refl) mo (rw (s .members, s .version) refl);
         whole = exchange-whole w (s .whole);
         snd = s .snd;
         outcome = λ h. refl;
@@ -172,16 +173,16 @@ module _ (keeps : Keeps) (m v : ℕ) where
       }
     where
       d : Delivered
-      d = deliver (awaitedIn m v r) f
+      d = deliver (cut .lengths (r .taken)) (awaitedIn m v r) f
 
       mo : Move
       mo = takes m v r (d .reply)
 
-  pub sim-step : (c : Course) (w : World) → Sim m v w c → Sim m v (exchange w) (step m v c)
+  pub sim-step : (c : Course) (w : World) → Sim cut m v w c → Sim cut m v (exchange w) (step cut m v c)
   sim-step c w s = sim-at (c .roster) (c .next) (c .taken) (c .nodes) w s
 
   -- n exchanges follow n steps
-  pub sim-steps : (n : ℕ) (c : Course) (w : World) → Sim m v w c → Sim m v (exchanges n w) (steps m v n c)
+  pub sim-steps : (n : ℕ) (c : Course) (w : World) → Sim cut m v w c → Sim cut m v (exchanges n w) (steps cut m v n c)
   unfolding exchanges steps
   sim-steps zero c w s = s
-  sim-steps (suc n) c w s = sim-steps n (step m v c) (exchange w) (sim-step c w s)
+  sim-steps (suc n) c w s = sim-steps n (step cut m v c) (exchange w) (sim-step c w s)

@@ -27,7 +27,7 @@ use Rattle.world.specs.Station.{Station}
 use Rattle.world.specs.World.{upd}
 use Rattle.honest.proofs.Ground.{upd-same, upd-other, not-in, out-still, by-left, one-fewer}
 use Rattle.honest.proofs.Stations.{Fine, copy-law}
-use Rattle.honest.proofs.Course.{Course, course, steps, steps-three, at, spreadHead, head-some, spread, spreadTo, three}
+use Rattle.honest.proofs.Course.{Cutting, Course, course, steps, steps-three, at, spreadHead, head-some, spread, spreadTo, three}
 
 -- ---- a session enters NORMAL
 
@@ -92,10 +92,10 @@ serve-law : (m v c x : ℕ) (a b : Station) (src : ℕ) → Fine c src a → Fin
 unfolding committed change.instructed change.storedVersion change.takenOver change.endedTransfer change.transferred change.wentTo
 serve-law m v c x a b src ha hb = record { normal = refl; version = refl; members = refl; map = copy-law c x true v m (a .map) b hb (ha .map) }
 
-module _ (m v c : ℕ) (hv : v ≤ versionLimit) (hm : m < 65536) (src : ℕ) where
+module _ (cut : Cutting) (m v c : ℕ) (hv : v ≤ versionLimit) (hm : m < 65536) (src : ℕ) where
   abbrev pub Spreading : ℕ → Type 0
   Spreading l = (ro : Roster) (t : ℕ) (f : ℕ → Station) → Long ro → t + 3 * size l ≤ answerLimit → CanSpread m c src l f
-      → Spreads m v c src l t ro f (steps m v (3 * size l) (course ro (spreadHead src l t) t f))
+      → Spreads m v c src l t ro f (steps cut m v (3 * size l) (course ro (spreadHead src l t) t f))
 
   spread-none : Spreading 0
   unfolding steps
@@ -154,9 +154,9 @@ module _ (m v c : ℕ) (hv : v ≤ versionLimit) (hm : m < 65536) (src : ℕ) wh
   spread-more l b h rec ro t f long few can =
       rw (
         one-fewer l h,
-        steps-three m v (size (without l (lowest l))) (course ro (spreadHead src l t) t f),
+        steps-three cut m v (size (without l (lowest l))) (course ro (spreadHead src l t) t f),
         head-some spread m src l t h,
-        three m v c hv hm spread ro src l t t f (omega (arith, one-fewer l h)) (can .source) (can .fines (lowest l) (lowest-in l h)) (apart l h ro t f can) (can .members (lowest l) (lowest-in l h)),
+        three cut m v c hv hm spread ro src l t t f (omega (arith, one-fewer l h)) (can .source) (can .fines (lowest l) (lowest-in l h)) (apart l h ro t f can) (can .members (lowest l) (lowest-in l h)),
       )
       (spread-step l h ro t f can _ long
       (rec (entered ro (lowest l)) (t + 3) (upd f (lowest l) (s l h ro t f can)) (entered-long ro (lowest l) long) (omega (arith, one-fewer l h)) (can-more l h ro t f can)))

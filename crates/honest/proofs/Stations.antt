@@ -1,33 +1,36 @@
 -- Laws of one honest node: it takes each message of a run, and is honest after it.
-use mathlib.Core.Path.{_≡_, refl, sym, _∙_}
+use mathlib.Core.Path.{_≡_, refl, sym, _∙_, subst}
 use mathlib.Core.Bool.{Bool, true, false, not, _&&_, _||_}
 use mathlib.Core.List.{List}
 use Prim.Native.Nat.{ℕ, zero, suc, _+_, _≤_, _<_}
 use native.Mathlib.Omega.{arith}
 use lib.Dec.{eqb, ltb}
-use lib.ListN.{getD}
-use borrow.Author.Tests.{le-ltb}
+use lib.ListN.{length, getD}
+use borrow.Author.Tests.{le-ltb, eq-eqb}
 use Rattle.laws.specs.Words.{pick}
 use Rattle.laws.specs.Loops.{runAt}
 use Rattle.laws.specs.Tests.{clash, and-left, and-right, and-both, picked}
 use Rattle.refusals.specs.Limits.{versionLimit, versionTop}
 use Rattle.sets.specs.Sets.{has, without}
 use Rattle.chunks.specs.Chunk.{markedFor, dirty}
-use Rattle.maps.specs.Map.{sound, copied, rowsKept, zeroed, orIn}
+use Rattle.maps.specs.Map.{sound, cleanFrom, copied, rowsKept, zeroed, orFrom, orIn}
 use Rattle.maps.proofs.Sound.{Sound, sound-fact, sound-test, sound-or, sound-copied, sound-zeroed, sound-kept, sound-markedFor}
 use Rattle.maps.proofs.Rows.{copied-all, or-into-zero}
+use Rattle.parts.specs.Parts.{isPart, partOf}
+use Rattle.parts.proofs.Joined.{length-partOf, clean-part, sound-part, parts-more}
 use Rattle.nodestate.specs.declared.State.{State}
 use Rattle.nodestate.specs.declared.Transfer.{Transfer}
 use Rattle.nodestate.specs.declared.Answer.{Answer}
 use Rattle.nodestate.specs.declared.Node.{Node}
-use Rattle.nodestate.specs.States.{isJoined, isServing, inHand, isMapTaken}
+use Rattle.nodestate.specs.States.{isJoined, isServing, inHand, taken, isWhole}
 use Rattle.nodestate.specs.Change.{wentTo, transferred, endedTransfer, instructed, storedVersion, takenOver}
 use Rattle.nodestate.specs.StateRules.{standing, valid, keptOk, isKept}
 use Rattle.nodestate.specs.Turns.{settled}
-use Rattle.nodestate.proofs.Valid.{valid-facts, valid-of, kept-below}
+use Rattle.nodestate.proofs.Tables.{gives, given}
+use Rattle.nodestate.proofs.Valid.{valid-facts, valid-of, kept-below, at-node}
 use Rattle.nodemaps.specs.Carry.{mapAfter, stagingAfter, takenIn, lastIos, lastIoAt, lastIo}
-use Rattle.nodeserve.specs.Serve.{serveRefusal, readied, mapReady, give, mapGetVer, lastIoRefusal, lastIoToMap}
-use Rattle.nodehand.specs.Hand.{handRefusal, mapTaken, take, mapDoneRefusal, committed, mapDone}
+use Rattle.nodeserve.specs.Serve.{serveRefusal, readied, mapReady, givePartRefusal, givePart, mapGetVer, lastIoRefusal, lastIoToMap}
+use Rattle.nodehand.specs.Hand.{takePartRefusal, partTaken, takePart, mapDoneRefusal, committed, mapDone}
 use Rattle.nodeenables.specs.Enable.{enable1Refusal, enabled, enable1}
 use Rattle.node.specs.Events.{Event}
 use Rattle.node.specs.Face.{mapBy, stagingBy}
@@ -67,21 +70,21 @@ no-mark-of : (create : Bool) → (not create || false) ≡ true → create ≡ f
 no-mark-of true h = clash h refl
 no-mark-of false h = refl
 
-stands-joined : (st : State) (store create own : Bool) (t : Transfer) → (isJoined st && store) ≡ true → standing st store create t own ≡ true → Stands own create store
-stands-joined State.Empty store create own t g h = clash g refl
-stands-joined State.Registered store create own t g h = clash g refl
-stands-joined State.Created store create own t g h =
+stands-joined : (st : State) (store create own hand : Bool) → (isJoined st && store) ≡ true → standing st store create hand own ≡ true → Stands own create store
+stands-joined State.Empty store create own hand g h = clash g refl
+stands-joined State.Registered store create own hand g h = clash g refl
+stands-joined State.Created store create own hand g h =
     record { own-id = and-left own _ h; no-mark = no-mark-of create (and-left _ _ (and-right own _ h)); a-store = g }
-stands-joined State.Normal store create own t g h =
+stands-joined State.Normal store create own hand g h =
     record { own-id = and-left own _ h; no-mark = no-mark-of create (and-left _ _ (and-right own _ h)); a-store = g }
-stands-joined State.NoIo store create own t g h =
+stands-joined State.NoIo store create own hand g h =
     record { own-id = and-left own _ h; no-mark = no-mark-of create (and-left _ _ (and-right own _ h)); a-store = g }
 
 pub fine : (c j : ℕ) (s : Station) → j < 16 → Able c j s → Fine c j s
 fine c j s b a =
     let v = valid-facts (s .node) (a .rules) in
     let n = s .node in
-    let st = stands-joined (n .state) (n .store) (n .create) (has (n .members) (n .id)) (n .transfer) (a .serves) (v .stand) in
+    let st = stands-joined (n .state) (n .store) (n .create) (has (n .members) (n .id)) (inHand (n .transfer)) (a .serves) (v .stand) in
     record {
       core = record {
         id = a .itself;
@@ -115,7 +118,14 @@ filled false s = zeroed (s .staging)
 abbrev pub readyTo : Bool → Station → Station
 readyTo keep s = record { node = readied (s .node); map = s .map; staging = filled keep s }
 
+-- the bytes of the map zs below k taken
+abbrev pub partly : List ℕ → ℕ → Station → Station
+partly zs k s = record { node = transferred (s .node) (Transfer.InHand k); map = s .map; staging = orFrom 0 k (s .staging) zs }
+
 -- the map zs taken
+unfoldable pub mapTaken : Node → Node
+mapTaken n = transferred n (Transfer.InHand 8192)
+
 abbrev pub tookIn : List ℕ → Station → Station
 tookIn zs s = record { node = mapTaken (s .node); map = s .map; staging = orIn (s .staging) zs }
 
@@ -134,8 +144,8 @@ lastTo chosen s = record { node = s .node; map = lastIos (s .node) chosen (s .ma
 -- ---- the state rules after each
 
 -- a node of these facts that stands right keeps its state rules
-valid-core : (c j : ℕ) (n : Node) → Core c j n → standing (n .state) (n .store) (n .create) (n .transfer) (has (n .members) (n .id)) ≡ true → valid n ≡ true
-valid-core c j n k s = valid-of n (record { some = k .some; few = k .few; stand = s; ids = k .ids; top = k .top; keeps = k .keeps })
+valid-core : (c j : ℕ) (n : Node) → Core c j n → standing (n .state) (n .store) (n .create) (inHand (n .transfer)) (has (n .members) (n .id)) ≡ true → taken (n .transfer) ≤ 8192 → valid n ≡ true
+valid-core c j n k s t = valid-of n (record { some = k .some; few = k .few; stand = s; ids = k .ids; top = k .top; keeps = k .keeps; part = t })
 
 core-ready : (c j : ℕ) (n : Node) → Core c j n → Core c j (readied n)
 unfolding readied transferred wentTo keptOk
@@ -145,24 +155,22 @@ core-taken : (c j : ℕ) (n : Node) → Core c j n → Core c j (mapTaken n)
 unfolding mapTaken transferred keptOk
 core-taken c j n k = record { id = k .id; below = k .below; chunks = k .chunks; some = k .some; few = k .few; own = k .own; plain = k .plain; store = k .store; joined = k .joined; ids = k .ids; top = k .top; keeps = k .keeps }
 
-stand-in-hand : (store create own : Bool) (t : Transfer) → own ≡ true → create ≡ false → store ≡ true → standing State.NoIo store create t own ≡ true
-stand-in-hand store create own Transfer.Nothing o p s = rw (o, p) refl
-stand-in-hand store create own Transfer.Ready o p s = rw (o, p, s) refl
-stand-in-hand store create own Transfer.Taken o p s = rw (o, p, s) refl
+stand-in-hand : (store create own : Bool) → own ≡ true → create ≡ false → store ≡ true → standing State.NoIo store create true own ≡ true
+stand-in-hand store create own o p s = rw (o, p, s) refl
 
 valid-ready : (c j : ℕ) (n : Node) → Core c j n → valid (readied n) ≡ true
 unfolding readied transferred wentTo
 valid-ready c j n k =
     let r = core-ready c j n k in
-    valid-core c j (readied n) r (stand-in-hand (n .store) (n .create) (has (n .members) (n .id)) Transfer.Ready (k .own) (k .plain) (k .store))
+    valid-core c j (readied n) r (stand-in-hand (n .store) (n .create) (has (n .members) (n .id)) (k .own) (k .plain) (k .store)) (omega arith)
 
 valid-taken : (c j : ℕ) (n : Node) → Core c j n → valid (mapTaken (readied n)) ≡ true
 unfolding readied mapTaken transferred wentTo
 valid-taken c j n k =
     let r = core-taken c j (readied n) (core-ready c j n k) in
-    valid-core c j (mapTaken (readied n)) r (stand-in-hand (n .store) (n .create) (has (n .members) (n .id)) Transfer.Taken (k .own) (k .plain) (k .store))
+    valid-core c j (mapTaken (readied n)) r (stand-in-hand (n .store) (n .create) (has (n .members) (n .id)) (k .own) (k .plain) (k .store)) (omega arith)
 
-stand-done : (on store create own : Bool) → own ≡ true → create ≡ false → store ≡ true → standing (Rattle.nodehand.specs.Hand.doneTo on State.NoIo) store create Transfer.Nothing own ≡ true
+stand-done : (on store create own : Bool) → own ≡ true → create ≡ false → store ≡ true → standing (Rattle.nodehand.specs.Hand.doneTo on State.NoIo) store create false own ≡ true
 stand-done true store create own o p s = rw (o, p, s) refl
 stand-done false store create own o p s = rw (o, p) refl
 
@@ -178,7 +186,7 @@ valid-done : (c j : ℕ) (n : Node) (on : Bool) (v m : ℕ) → Core c j n → v
 unfolding committed instructed storedVersion takenOver endedTransfer mapTaken readied transferred wentTo
 valid-done c j n on v m k hv hm own =
     valid-core c j (committed (mapTaken (readied n)) on v m) (core-done c j n on v m k hv hm own)
-    (stand-done on (n .store) (n .create) (has m (n .id)) (rw (k .id) own) (k .plain) (k .store))
+    (stand-done on (n .store) (n .create) (has m (n .id)) (rw (k .id) own) (k .plain) (k .store)) (omega arith)
 
 core-enabled : (c j : ℕ) (n : Node) (v m : ℕ) → Core c j n → v ≤ versionLimit → m < 65536 → has m j ≡ true → Core c j (enabled n v m)
 unfolding enabled instructed storedVersion takenOver endedTransfer transferred wentTo keptOk
@@ -188,7 +196,7 @@ valid-enabled : (c j : ℕ) (n : Node) (v m : ℕ) → Core c j n → v ≤ vers
 unfolding enabled instructed storedVersion takenOver endedTransfer transferred wentTo
 valid-enabled c j n v m k hv hm own =
     valid-core c j (enabled n v m) (core-enabled c j n v m k hv hm own)
-    (stand-done true (n .store) (n .create) (has m (n .id)) (rw (k .id) own) (k .plain) (k .store))
+    (stand-done true (n .store) (n .create) (has m (n .id)) (rw (k .id) own) (k .plain) (k .store)) (omega arith)
 
 -- ---- maps stay sound
 
@@ -240,9 +248,9 @@ unfolding does mapBy stagingBy mapReady settled mapAfter stagingAfter
 readies-law c j true s f = rw (can-serve c j s f)
 readies-law c j false s f = rw (can-serve c j s f)
 
-pub gives-law : (c j : ℕ) (s : Station) → Fine c j s → does s Event.give .answer ≡ Answer.Done
-unfolding does mapBy stagingBy give settled
-gives-law c j s f = rw (can-serve c j s f)
+pub gives-law : (c j offset l : ℕ) (s : Station) → Fine c j s → isPart offset l ≡ true → does s (Event.givePart offset l) .answer ≡ Answer.Done
+unfolding does mapBy stagingBy givePart givePartRefusal settled
+gives-law c j offset l s f p = rw (f .rules, both c j s f, own-id c j (s .node) (f .core), serves c j (s .node) (f .core), p)
 
 pub asked-law : (c j : ℕ) (s : Station) → Fine c j s → does s Event.mapGetVer ≡ record { station = s; answer = Answer.Version (s .node .version) }
 unfolding does mapBy stagingBy mapGetVer settled mapAfter stagingAfter
@@ -253,12 +261,16 @@ unfolding does mapBy stagingBy lastIoToMap lastIoRefusal settled mapAfter stagin
 marks-law c j chosen s f h =
     rw (f .rules, both c j s f, own-id c j (s .node) (f .core), le-ltb 15 chosen (omega arith), serves c j (s .node) (f .core))
 
-pub takes-law : (c j : ℕ) (zs : List ℕ) (s : Station) → Fine c j s → inHand (s .node .transfer) ≡ true → Sound c zs → does s (Event.take zs) ≡ did (tookIn zs s)
-unfolding does mapBy stagingBy take handRefusal settled mapAfter stagingAfter takenIn
-takes-law c j zs s f h z =
-    rw (f .rules, both c j s f, (let e : sound (s .node .chunks) zs ≡ true = rw (f .core .chunks) (sound-test c zs z) in e), own-id c j (s .node) (f .core), h)
+-- the next part of a map
+pub takes-law : (c j a l : ℕ) (zs : List ℕ) (s : Station) → Fine c j (partly zs a s) → Sound c zs → isPart a l ≡ true → a + l ≤ 8192 → does (partly zs a s) (Event.takePart a (partOf a l zs)) ≡ did (partly zs (a + l) s)
+unfolding does mapBy stagingBy takePart takePartRefusal partTaken settled mapAfter stagingAfter takenIn transferred
+takes-law c j a l zs s f z p h =
+    let n : ℕ = s .node .chunks in
+    let e : length (partOf a l zs) ≡ l = length-partOf a l zs (omega (arith, z .len)) in
+    let k : cleanFrom n a (partOf a l zs) ≡ true = rw (f .core .chunks) (clean-part c a l zs z h) in
+    rw (f .rules, both c j (partly zs a s) f, own-id c j (partly zs a s .node) (f .core), k, e, p, eq-eqb a a refl, parts-more a l (s .staging) zs (omega (arith, z .len)))
 
-pub commits-law : (c j : ℕ) (on : Bool) (v m : ℕ) (s : Station) → Fine c j s → isMapTaken (s .node .transfer) ≡ true → v ≤ versionLimit → m < 65536 → has m j ≡ true
+pub commits-law : (c j : ℕ) (on : Bool) (v m : ℕ) (s : Station) → Fine c j s → isWhole (s .node .transfer) ≡ true → v ≤ versionLimit → m < 65536 → has m j ≡ true
     → does s (Event.mapDone on v m) ≡ did (doneTo on v m s)
 unfolding does mapBy stagingBy mapDone mapDoneRefusal settled mapAfter stagingAfter
 commits-law c j on v m s f h hv hm own =
@@ -274,9 +286,30 @@ enables-law c j v m s f hv hm own =
 pub fine-ready : (c j : ℕ) (keep : Bool) (s : Station) → Fine c j s → Fine c j (readyTo keep s)
 fine-ready c j keep s f = record { core = core-ready c j (s .node) (f .core); rules = valid-ready c j (s .node) (f .core); map = f .map; staging = sound-filled c keep s (f .map) (f .staging) }
 
-pub in-hand : (keep : Bool) (s : Station) → inHand (readyTo keep s .node .transfer) ≡ true
+pub at-zero : (keep : Bool) (s : Station) → readyTo keep s .node .transfer ≡ Transfer.InHand 0
 unfolding readied transferred
-in-hand keep s = refl
+at-zero keep s = refl
+
+-- with a transfer in hand it is honest after each part
+core-partly : (c j k : ℕ) (n : Node) → Core c j n → Core c j (transferred n (Transfer.InHand k))
+unfolding transferred keptOk
+core-partly c j k n f = record { id = f .id; below = f .below; chunks = f .chunks; some = f .some; few = f .few; own = f .own; plain = f .plain; store = f .store; joined = f .joined; ids = f .ids; top = f .top; keeps = f .keeps }
+
+valid-partly : (k : ℕ) (n : Node) → valid n ≡ true → inHand (n .transfer) ≡ true → k ≤ 8192 → valid (transferred n (Transfer.InHand k)) ≡ true
+unfolding transferred keptOk
+valid-partly k n e i h =
+    let v = valid-facts n e in
+    valid-of (transferred n (Transfer.InHand k)) (record { some = v .some; few = v .few; stand = given _ _ (at-node (λ s store create hand own. gives (standing s store create hand own && hand) (standing s store create true own)) refl n) (and-both (v .stand) i); ids = v .ids; top = v .top; keeps = v .keeps; part = h })
+
+pub fine-partly : (c j a l : ℕ) (zs : List ℕ) (s : Station) → Fine c j (partly zs a s) → Sound c zs → a + l ≤ 8192 → Fine c j (partly zs (a + l) s)
+unfolding transferred
+fine-partly c j a l zs s f z h =
+    record {
+      core = core-partly c j (a + l) (partly zs a s .node) (f .core);
+      rules = valid-partly (a + l) (partly zs a s .node) (f .rules) refl h;
+      map = f .map;
+      staging = subst (Sound c) (parts-more a l (s .staging) zs (omega (arith, z .len))) (sound-part c a (partOf a l zs) (orFrom 0 a (s .staging) zs) (clean-part c a l zs z h) (f .staging));
+    }
 
 pub fine-took : (c j : ℕ) (keep : Bool) (zs : List ℕ) (s : Station) → Fine c j s → Sound c zs → Fine c j (tookIn zs (readyTo keep s))
 fine-took c j keep zs s f z =
@@ -287,7 +320,7 @@ fine-took c j keep zs s f z =
       staging = sound-or c (filled keep s) zs (sound-filled c keep s (f .map) (f .staging)) z;
     }
 
-pub was-taken : (zs : List ℕ) (s : Station) → isMapTaken (tookIn zs s .node .transfer) ≡ true
+pub was-taken : (zs : List ℕ) (s : Station) → isWhole (tookIn zs s .node .transfer) ≡ true
 unfolding mapTaken transferred
 was-taken zs s = refl
 

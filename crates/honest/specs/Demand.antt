@@ -28,6 +28,7 @@ use Rattle.nodestate.specs.declared.State as node
 use Rattle.nodestate.specs.declared.Node.{Node}
 use Rattle.nodestate.specs.States.{isServing}
 use Rattle.nodestate.specs.StateRules.{isKept, valid}
+use Rattle.node.specs.Cuts.{Cuts}
 use Rattle.world.specs.Station.{Station, bothSound}
 use Rattle.world.specs.World.{World, heard, exchanges}
 
@@ -54,9 +55,10 @@ pub record Begins (p : Pool) (w : World) : Type 0 where
   pub number : w .sent .number ≡ tried p .pool .number
   pub map : sound (p .chunks) (w .map) ≡ true
 
--- The hypotheses: a run begins, and its source and each of its receivers are honest.
+-- The hypotheses: a run begins, its source and each of its receivers are honest, and every MAP_SEND carries a whole map, in any parts of 1 to 1,024 bytes.
 pub record Honest (p : Pool) (source receivers : ℕ) (w : World) : Type 0 where
   pub begins : Begins p w
+  pub cuts : (t : ℕ) → Cuts (w .cuts t)
   pub giver : Able (p .chunks) source (w .nodes source)
   pub takers : (j : ℕ) → has receivers j ≡ true → Able (p .chunks) j (w .nodes j)
 
@@ -140,9 +142,10 @@ pub record Recorded (p : Pool) (chosen : ℕ) (nodes : ℕ → Station) (xs : Li
   pub bytes : sound (p .chunks) xs ≡ true
   pub chunk : (m c : ℕ) → m < 16 → c < p .chunks → isDirty xs m c ≡ chosenDirty (p .roster .members) chosen nodes m c
 
--- The hypotheses of case 3: a run begins, and every member's node is honest and holds no version above the pool's.
+-- The hypotheses of case 3: a run begins, every member's node is honest and holds no version above the pool's, and every MAP_SEND carries a whole map.
 pub record AllHonest (p : Pool) (w : World) : Type 0 where
   pub begins : Begins p w
+  pub cuts : (t : ℕ) → Cuts (w .cuts t)
   pub able : (j : ℕ) → has (p .roster .members) j ≡ true → Able (p .chunks) j (w .nodes j)
   pub versions : (j : ℕ) → has (p .roster .members) j ≡ true → w .nodes j .node .version ≤ p .roster .version
 

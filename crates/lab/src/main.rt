@@ -139,7 +139,7 @@ fn pool_of(l: Lab) -> Pool {
     c.pool
 }
 
-// The node that a command went to; the first where it went to none.
+// The node that a command went to or looks at; the first where there is none.
 fn node_of(l: Lab, s: Said) -> Node {
     let i = place_of(s);
     let n = l.nodes[i];
@@ -149,13 +149,19 @@ fn node_of(l: Lab, s: Said) -> Node {
 fn place_of(s: Said) -> usize
     ensures { λ r. ⌜ r < 16 ⌝ }
 {
-    let Said::Node(n) = s else {
-        return 0;
-    };
+    let n = number_of(s);
     if 15 < n {
         return 0;
     }
     n as usize
+}
+
+fn number_of(s: Said) -> u64 {
+    match s {
+        Said::Node(n) => n,
+        Said::LookNode(n) => n,
+        _ => 0,
+    }
 }
 
 // The line's command; a line that goes on has none yet.

@@ -24,6 +24,7 @@ pub(crate) fn obey(
     match c {
         Command::Client(e) => client_event(l, e, own, maps, stagings),
         Command::Node(n, e) => node_event(l, n, e, maps, stagings),
+        Command::Take(n, m) => take(l, n, m, maps, stagings),
         Command::Deliver => deliver(l, own, maps, stagings),
         _ => arrange(l, c, own, maps, stagings),
     }
@@ -58,6 +59,17 @@ fn accepted(l: Lab, c: Client, sent: Sent, maps: &mut [u8], stagings: &mut [u8])
 
 fn node_event(l: Lab, n: u64, e: NodeEvent, maps: &mut [u8], stagings: &mut [u8]) -> Obeyed {
     let r = delivery::node_event(l, n, e, maps, stagings);
+    let next = r.lab;
+    let a = r.answer;
+    Obeyed {
+        lab: next,
+        said: node_said(n, a),
+    }
+}
+
+// Node n takes node m's map, part by part; what is said is the last one's.
+fn take(l: Lab, n: u64, m: u64, maps: &mut [u8], stagings: &mut [u8]) -> Obeyed {
+    let r = delivery::take(l, n, m, maps, stagings);
     let next = r.lab;
     let a = r.answer;
     Obeyed {
@@ -113,6 +125,8 @@ fn said_of(c: Command) -> Said {
         Command::Passed => Said::Nothing,
         Command::Unreadable => Said::Unreadable,
         Command::Row(w, m) => Said::Row(w, m),
+        Command::Look => Said::Look,
+        Command::LookNode(n) => Said::LookNode(n),
         _ => Said::Done,
     }
 }

@@ -12,12 +12,12 @@ use Rattle.lending.specs.declared.Span.{Span}
 use Rattle.lending.specs.Lending.{part, putBack, Stands}
 
 -- a bound past the end does no more than the end
-take-min : (n : ℕ) (xs : List ℕ) → take (min n (length xs)) xs ≡ take n xs
+pub take-min : (n : ℕ) (xs : List ℕ) → take (min n (length xs)) xs ≡ take n xs
 take-min zero xs = rw zero-min refl
 take-min (suc n) [] = rw min-zero refl
 take-min (suc n) (x ∷ xs) = rw suc-min-suc (ap (_∷_ x) (take-min n xs))
 
-drop-min : (n : ℕ) (xs : List ℕ) → drop (min n (length xs)) xs ≡ drop n xs
+pub drop-min : (n : ℕ) (xs : List ℕ) → drop (min n (length xs)) xs ≡ drop n xs
 drop-min zero xs = rw zero-min refl
 drop-min (suc n) [] = rw min-zero refl
 drop-min (suc n) (x ∷ xs) = rw suc-min-suc (drop-min n xs)

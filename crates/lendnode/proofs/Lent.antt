@@ -13,12 +13,12 @@ use Rattle.lending.specs.declared.Span.{Span}
 use Rattle.lending.specs.Lending.{sizeOf, Stands}
 use Rattle.lending.proofs.Parts.{part-is, put-is}
 use Rattle.anynode.specs.Any.{eventOf}
-use Rattle.lendnode.specs.Lend.{giver, mapOf, nodeAnswers, mapsLeft, stagingsLeft}
+use Rattle.lendnode.specs.Lend.{takingOf, partTaken, nodeAnswers, mapsLeft, stagingsLeft}
 
 module _ (lent : Lent) (e : NodeEvent) (xs ys : List ℕ) {n : StorageNode} {k : ℕ} {zs map staging : List ℕ} {r : Out} {s t : Span} where
   pub lent-meets : Stands (length xs) k (sizeOf (lent .maps) k) s
       → Stands (length ys) k (sizeOf (lent .stagings) k) t
-      → zs ≡ mapOf lent (giver e) xs
+      → zs ≡ partTaken (takingOf e) xs
       → Meets (eventOf e zs) n (take (s .to - s .from) (drop (s .from) xs)) (take (t .to - t .from) (drop (t .from) ys)) r map staging
       → (r ≡ nodeAnswers n k lent e xs ys)
       × ((putMid (s .from) (s .to - s .from) xs map ≡ mapsLeft n k lent e xs ys)

@@ -1,36 +1,77 @@
 // A node's event, its two maps lent as far as the lab lends them.
 ghost use mathlib.Core.Path.{_≡_};
-ghost use Prim.Native.Nat.{_≤_};
-ghost use lib.ListN.{length, take};
-ghost use Rattle.refusals.specs.Limits.{mapBytes};
-ghost use Rattle.lendnode.specs.Lend.{giver, mapOf, nodeAnswers, mapsLeft, stagingsLeft};
+ghost use Prim.Native.Nat.{_≤_, min};
+ghost use lib.ListN.{take, drop, replicate};
+ghost use Rattle.lendnode.specs.Lend.{mostTaken, takingOf, padded, partTaken, nodeAnswers, mapsLeft, stagingsLeft};
 use forms::NodeEvent;
 use lending::Lent;
 use node::Out;
 use node::StorageNode;
 
-// Whose map is taken; 16, no node's, where none is.
-fn taken_from(e: NodeEvent) -> u64
-    ensures { λ r. ⌜ r ≡ giver e ⌝ }
-{
-    let NodeEvent::Take(m) = e else {
-        return 16;
-    };
-    m
+// A part that is taken: of whose map, from which byte on, and how long.
+pub struct Taking {
+    pub giver: u64,
+    pub offset: u64,
+    pub length: u64,
 }
 
-// The lent part of node m's map in scratch, and how long it is: a map that is taken may be the taker's own.
-fn fetch(lent: Lent, m: u64, maps: &[u8], scratch: &mut [u8]) -> usize
-    requires { ⌜ length (now scratch) ≡ mapBytes ⌝ }
-    ensures { λ r. ⌜ (r ≤ mapBytes) × (take r (now (scratch .exit)) ≡ mapOf lent m (now (maps .entry))) ⌝ }
+// What an event takes; a part of no bytes where it takes none.
+fn taking_of(e: NodeEvent) -> Taking
+    ensures { λ r. ⌜ r ≡ takingOf e ⌝ }
 {
-    let sizes = lent.maps;
-    let s = lending::find(maps.len(), m, lending::size(sizes, m));
+    let NodeEvent::TakePart(offset, length, m) = e else {
+        return Taking {
+            giver: 16,
+            offset: 0,
+            length: 0,
+        };
+    };
+    Taking {
+        giver: m,
+        offset: offset,
+        length: length,
+    }
+}
+
+// Twice as long as a part may be.
+fn bounded(length: u64) -> usize
+    ensures { λ r. ⌜ r ≡ min length mostTaken ⌝ }
+{
+    if 2048 < length {
+        return 2048;
+    }
+    length as usize
+}
+
+fn least(a: usize, b: usize) -> usize
+    ensures { λ r. ⌜ r ≡ min a b ⌝ }
+{
+    if a < b { a } else { b }
+}
+
+// n bytes of a map from the offset on in scratch, 0 past its end.
+fn pick_out(map: &[u8], offset: u64, n: usize, scratch: &mut [u8])
+    requires { ⌜ now scratch ≡ replicate mostTaken 0 ⌝ }
+    requires { ⌜ n ≤ mostTaken ⌝ }
+    ensures { λ _. ⌜ take n (now (scratch .exit)) ≡ padded n (drop offset (now (map .entry))) ⌝ }
+{
+    let a = least(offset as usize, map.len());
+    let b = a + least(n, map.len() - a);
+    let z = 0;
+    let m = b - a;
+    maps::copy(&mut scratch[z..m], &map[a..b]);
+}
+
+// The part in scratch, and how long it is: it may be one of the taker's own map.
+fn fetch(t: Taking, maps: &[u8], scratch: &mut [u8]) -> usize
+    requires { ⌜ now scratch ≡ replicate mostTaken 0 ⌝ }
+    ensures { λ r. ⌜ (r ≤ mostTaken) × (take r (now (scratch .exit)) ≡ partTaken t (now (maps .entry))) ⌝ }
+{
+    let n = bounded(t.length);
+    let s = lending::find(maps.len(), t.giver, refusals::MAP_BYTES);
     let a = s.from;
     let b = s.to;
-    let z = 0;
-    let n = b - a;
-    maps::copy(&mut scratch[z..n], &maps[a..b]);
+    pick_out(&maps[a..b], t.offset, n, scratch);
     n
 }
 
@@ -47,8 +88,8 @@ pub fn node_event(
     ensures { λ _. ⌜ now (maps .exit) ≡ mapsLeft n k lent e (now (maps .entry)) (now (stagings .entry)) ⌝ }
     ensures { λ _. ⌜ now (stagings .exit) ≡ stagingsLeft n k lent e (now (maps .entry)) (now (stagings .entry)) ⌝ }
 {
-    let mut scratch = [0u8; 8192];
-    let size = fetch(lent, taken_from(e), maps, &mut scratch);
+    let mut scratch = [0u8; 2048];
+    let size = fetch(taking_of(e), maps, &mut scratch);
     let of_map = lent.maps;
     let of_staging = lent.stagings;
     let s = lending::find(maps.len(), k, lending::size(of_map, k));

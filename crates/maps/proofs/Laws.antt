@@ -16,7 +16,7 @@ use Rattle.maps.specs.Map.{room, spare, cleanFrom, sound, zeroFrom, zero
 use Rattle.maps.proofs.Over.{length-over}
 
 -- ---- soundness, by the bytes
-cleanFrom-yes : (n i : ℕ) (xs : List ℕ) → ((k : ℕ) → k < length xs → spare n (i + k) (getD xs k 0) ≡ 0) → cleanFrom n i xs ≡ true
+pub cleanFrom-yes : (n i : ℕ) (xs : List ℕ) → ((k : ℕ) → k < length xs → spare n (i + k) (getD xs k 0) ≡ 0) → cleanFrom n i xs ≡ true
 unfolding cleanFrom
 cleanFrom-yes n i [] h = refl
 cleanFrom-yes n i (x ∷ xs) h =
@@ -30,7 +30,7 @@ pub sound-short : (n : ℕ) (xs : List ℕ) → (length xs ≡ 8192 → ⊥) →
 unfolding sound
 sound-short n xs d = rw (ne-eqb (length xs) 8192 d)
 
-cleanFrom-at : (n i : ℕ) (xs : List ℕ) → cleanFrom n i xs ≡ true → (k : ℕ) → k < length xs → spare n (i + k) (getD xs k 0) ≡ 0
+pub cleanFrom-at : (n i : ℕ) (xs : List ℕ) → cleanFrom n i xs ≡ true → (k : ℕ) → k < length xs → spare n (i + k) (getD xs k 0) ≡ 0
 unfolding cleanFrom
 cleanFrom-at n i [] e k l = absurd (not-suc-le-zero l)
 cleanFrom-at n i (x ∷ xs) e zero l = rw (add-zero i) (eqb-true (spare n i x) 0 (and-left (eqb (spare n i x) 0) (cleanFrom n (suc i) xs) e))

@@ -37,7 +37,7 @@ pub sound-test : (n : ℕ) (xs : List ℕ) → Sound n xs → sound n xs ≡ tru
 sound-test n xs s = sound-yes n xs (s .len) (λ k l. s .clean k)
 
 -- ---- what a byte holds past the chunk count, after each operation on it
-spare-or : (n k x y : ℕ) → spare n k x ≡ 0 → spare n k y ≡ 0 → spare n k (bitOr x y) ≡ 0
+pub spare-or : (n k x y : ℕ) → spare n k x ≡ 0 → spare n k y ≡ 0 → spare n k (bitOr x y) ≡ 0
 unfolding spare
 spare-or n k x y p q = rw (or-shr x y (room n (k % 512)), p, q)
 
@@ -128,7 +128,7 @@ unfolding markedFor
 sound-markedFor n s c xs p h = each-keeps (Sound n) (has s) (λ m ys. chunkMarked ys m c) 16 xs (λ k ys q. sound-marked n ys k c q h) p
 
 -- ---- a sound map's bytes and chunks
-spare-lt : (n k x : ℕ) → spare n k x ≡ 0 → x < 2 ^ room n (k % 512)
+pub spare-lt : (n k x : ℕ) → spare n k x ≡ 0 → x < 2 ^ room n (k % 512)
 unfolding spare
 spare-lt n k x e = let l : x / 2 ^ room n (k % 512) < 1 = omega arith in omega (arith, div-lt-iff-lt-mul (pow-pos (room n (k % 512))) .0 l)
 
@@ -144,7 +144,7 @@ unfolding room byteOf
 out-of-room n m c h l = omega arith
 
 -- no chunk past the count is dirty
-bit-past : (x r k : ℕ) → x < 2 ^ r → r ≤ k → bit x k ≡ 0
+pub bit-past : (x r k : ℕ) → x < 2 ^ r → r ≤ k → bit x k ≡ 0
 unfolding bit
 bit-past x r k h l = rw (div-eq-of-lt (lt-of-lt-of-le h (pow-mono l)))
 

@@ -3,7 +3,7 @@
 ghost use mathlib.Core.Path.{_≡_};
 ghost use Prim.Native.Nat.{_-_, _<_, _≤_, min};
 ghost use lib.ListN.{set, length};
-ghost use Rattle.maps.specs.Map.{zeroFrom, zeroRow, zeroed, rowsKept, orIn, copied, sound, rowOf};
+ghost use Rattle.maps.specs.Map.{zeroFrom, zeroRow, zeroed, rowsKept, copied, sound, rowOf};
 ghost use Rattle.maps.specs.Scan.{orTo, rowSpare};
 
 // Zeroes the bytes from a up to e, as far as the map goes.
@@ -18,7 +18,7 @@ fn zero_from(map: &mut [u8], a: usize, e: usize)
     }
 }
 
-fn least(a: usize, b: usize) -> usize
+pub fn least(a: usize, b: usize) -> usize
     ensures { λ r. ⌜ r ≡ min a b ⌝ }
 {
     if a < b { a } else { b }
@@ -54,18 +54,6 @@ pub fn zero(map: &mut [u8])
 {
     let n = map.len();
     zero_from(map, 0, n);
-}
-
-// ORs the second map in.
-pub fn or_in(map: &mut [u8], other: &[u8])
-    ensures { λ _. ⌜ now (map .exit) ≡ orIn (now (map .entry)) (now (other .entry)) ⌝ }
-{
-    let end = least(map.len(), other.len());
-    let mut i = 0;
-    while i < end {
-        map[i] = map[i] | other[i];
-        i += 1;
-    }
 }
 
 // Copies the second map over the first.

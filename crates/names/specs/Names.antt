@@ -77,8 +77,8 @@ FAULT = 23
 abbrev pub MAP-READY : ℕ
 MAP-READY = 24
 
-abbrev pub GIVE : ℕ
-GIVE = 25
+abbrev pub GIVE-PART : ℕ
+GIVE-PART = 25
 
 abbrev pub TAKE : ℕ
 TAKE = 26
@@ -137,6 +137,18 @@ CHUNKS = 43
 abbrev pub MEMBERS : ℕ
 MEMBERS = 44
 
+abbrev pub TAKE-PART : ℕ
+TAKE-PART = 45
+
+abbrev pub CUT : ℕ
+CUT = 46
+
+abbrev pub POKE-GOT : ℕ
+POKE-GOT = 47
+
+abbrev pub LOOK : ℕ
+LOOK = 48
+
 -- the code of what is no word
 abbrev pub UNKNOWN : ℕ
 UNKNOWN = 255
@@ -183,7 +195,7 @@ namesC w rest =
 
 unfoldable pub namesD : List ℕ → ℕ → ℕ
 namesD w rest =
-    word w "give" GIVE
+    word w "give_part" GIVE-PART
     (word w "take" TAKE
     (word w "map_done" MAP-DONE
     (word w "map_disable" MAP-DISABLE
@@ -211,7 +223,11 @@ namesF w rest =
     (word w "count" COUNT
     (word w "chunks" CHUNKS
     (word w "members" MEMBERS
-    rest)))
+    (word w "take_part" TAKE-PART
+    (word w "cut" CUT
+    (word w "poke_got" POKE-GOT
+    (word w "look" LOOK
+    rest)))))))
 
 -- The code of a word, UNKNOWN for any other bytes.
 unfoldable pub nameOf : List ℕ → ℕ

@@ -53,7 +53,7 @@ pub const FAULT: u64 = 23;
 
 pub const MAP_READY: u64 = 24;
 
-pub const GIVE: u64 = 25;
+pub const GIVE_PART: u64 = 25;
 
 pub const TAKE: u64 = 26;
 
@@ -92,6 +92,14 @@ pub const COUNT: u64 = 42;
 pub const CHUNKS: u64 = 43;
 
 pub const MEMBERS: u64 = 44;
+
+pub const TAKE_PART: u64 = 45;
+
+pub const CUT: u64 = 46;
+
+pub const POKE_GOT: u64 = 47;
+
+pub const LOOK: u64 = 48;
 
 // The code of what is no word.
 pub const UNKNOWN: u64 = 255;
@@ -221,8 +229,8 @@ fn names_d(s: &[u8], rest: u64) -> u64
 {
     word(
         s,
-        b"give",
-        GIVE,
+        b"give_part",
+        GIVE_PART,
         word(
             s,
             b"take",
@@ -304,7 +312,27 @@ fn names_f(s: &[u8], rest: u64) -> u64
             s,
             b"count",
             COUNT,
-            word(s, b"chunks", CHUNKS, word(s, b"members", MEMBERS, rest)),
+            word(
+                s,
+                b"chunks",
+                CHUNKS,
+                word(
+                    s,
+                    b"members",
+                    MEMBERS,
+                    word(
+                        s,
+                        b"take_part",
+                        TAKE_PART,
+                        word(
+                            s,
+                            b"cut",
+                            CUT,
+                            word(s, b"poke_got", POKE_GOT, word(s, b"look", LOOK, rest)),
+                        ),
+                    ),
+                ),
+            ),
         ),
     )
 }

@@ -9,7 +9,7 @@ use lib.Dec.{eqb}
 use lib.ListN.{length}
 use borrow.Author.Tests.{eqb-true, eq-eqb, not-false}
 use Rattle.laws.specs.Words.{pick}
-use Rattle.laws.specs.Tests.{by-cases, clash, and-left}
+use Rattle.laws.specs.Tests.{by-cases, clash}
 use Rattle.refusals.specs.Refusals.{applies, refusal}
 use Rattle.order.proofs.Order.{none-applies}
 use Rattle.maps.specs.Map.{sound}
@@ -25,7 +25,7 @@ use Rattle.nodestate.specs.Turns.{refused, settled}
 use Rattle.nodestate.proofs.Valid.{Valid, valid-facts, valid-of}
 use Rattle.nodestate.proofs.Passed.{Keeps}
 use Rattle.nodemaps.specs.Carry.{mapAfter, stagingAfter, takenIn}
-use Rattle.nodemaps.proofs.Sound.{fits, sound-map, sound-staging, sound-taken}
+use Rattle.nodemaps.proofs.Sound.{fits, fitsStaging, sound-map, sound-staging, sound-taken}
 use Rattle.noderegister.specs.Register as Register
 use Rattle.nodejoins.specs.Join as Join
 use Rattle.nodeenables.specs.Enable as Enable
@@ -40,8 +40,8 @@ use Rattle.nodewrites.proofs.Keeps as writes
 use Rattle.nodeserve.proofs.Keeps as serve
 use Rattle.nodehand.proofs.Keeps as hand
 use Rattle.node.specs.declared.StorageNode.{StorageNode}
-use Rattle.node.specs.Events.{Event, Third, kindOf, third, testsAt, turnOf}
-use Rattle.node.specs.Face.{freshNode, soundThird, lentTo, turnAt, mapBy, stagingWith, stagingBy, answers, mapLeft, stagingLeft}
+use Rattle.node.specs.Events.{Event, Part, kindOf, partIn, testsAt, turnOf}
+use Rattle.node.specs.Face.{freshNode, lentTo, turnAt, mapBy, stagingWith, stagingBy, answers, mapLeft, stagingLeft}
 use Rattle.node.specs.Held.{Held, next, after}
 
 -- the answer is a refusal
@@ -51,6 +51,11 @@ isRefused Answer.Done = false
 isRefused (Answer.Version v) = false
 
 -- ---- the law of every event
+
+-- a part that is ORed in is clean by the chunk count
+abbrev pub partFits : ℕ → Part → OnStaging → Bool
+partFits c Part.none e = true
+partFits c (Part.some part) e = fitsStaging c e part
 
 -- what is known of an event e at the node n: its turn is what it does where no test applies, else refused by the first that does; the tests that all have in common; and what
 -- an accepted one keeps
@@ -62,6 +67,7 @@ pub record Law (e : Event) (n : Node) (lent : ℕ) : Type 0 where
   pub two : applies 2 (testsAt e n lent) ≡ eqb lent 2
   pub keeps : length (n .kept) ≡ 16 → refusal (testsAt e n lent) ≡ 0 → Keeps (kindOf e) n (done .node)
   pub fit : refusal (testsAt e n lent) ≡ 0 → fits (done .effect .map) (done .node) ≡ true
+  pub clean : refusal (testsAt e n lent) ≡ 0 → partFits (n .chunks) (partIn e) (done .effect .staging) ≡ true
 
 pub fits-wipes : (delete : Bool) (n : Node) → fits (Register.wipes delete) n ≡ true
 fits-wipes true n = refl
@@ -78,26 +84,26 @@ fits-informs Op.RemoveDelete member n = refl
 fits-informs Op.RemoveDisassemble member n = refl
 
 unfoldable pub law : (e : Event) (n : Node) (lent : ℕ) → Law e n lent
-unfolding Register.registerCreate Register.registerAdd Register.unregister Join.joinCreate Join.assemble Join.leave Enable.enable1 Enable.enable0 Enable.fault Write.write Write.synced Info.poolInfo Serve.mapReady Serve.give Hand.take Hand.mapDone Hand.mapDisable Serve.mapGetVer Serve.lastIoToMap Register.registerCreateRefusal Register.registerAddRefusal Register.unregisterRefusal Join.joinCreateRefusal Join.assembleRefusal Join.leaveRefusal Enable.enable1Refusal Enable.stopRefusal Write.writeRefusal Write.syncedRefusal Info.poolInfoRefusal Serve.serveRefusal Serve.lastIoRefusal Hand.handRefusal Hand.mapDoneRefusal Write.written storedVersion keptChunk
-law Event.registerCreate n lent = record { done = _; same = refl; plain = refl; one = refl; two = refl; keeps = λ h e. register.registerCreate-keeps n lent h e; fit = λ e. refl }
-law (Event.registerAdd set version) n lent = record { done = _; same = refl; plain = refl; one = refl; two = refl; keeps = λ h e. register.registerAdd-keeps n lent set version e; fit = λ e. refl }
-law (Event.unregister delete) n lent = record { done = _; same = refl; plain = refl; one = refl; two = refl; keeps = λ h e. register.unregister-keeps n lent delete e; fit = λ e. fits-wipes delete _ }
-law (Event.joinCreate set) n lent = record { done = _; same = refl; plain = refl; one = refl; two = refl; keeps = λ h e. joins.joinCreate-keeps n lent set e; fit = λ e. refl }
-law Event.assemble n lent = record { done = _; same = refl; plain = refl; one = refl; two = refl; keeps = λ h e. joins.assemble-keeps n lent e; fit = λ e. refl }
-law (Event.leave delete) n lent = record { done = _; same = refl; plain = refl; one = refl; two = refl; keeps = λ h e. joins.leave-keeps n lent e; fit = λ e. fits-leaves delete n _ }
-law (Event.enable1 version set) n lent = record { done = _; same = refl; plain = refl; one = refl; two = refl; keeps = λ h e. enable.enable1-keeps n lent version set e; fit = λ e. refl }
-law Event.enable0 n lent = record { done = _; same = refl; plain = refl; one = refl; two = refl; keeps = λ h e. enable.enable0-keeps n lent e; fit = λ e. refl }
-law Event.fault n lent = record { done = _; same = refl; plain = refl; one = refl; two = refl; keeps = λ h e. enable.fault-keeps n lent e; fit = λ e. refl }
-law (Event.write chunk set version) n lent = record { done = _; same = refl; plain = refl; one = refl; two = refl; keeps = λ h e. writes.write-keeps n lent chunk set version h e; fit = λ e. writes.write-chunk n lent chunk set version e }
-law (Event.synced member chunk) n lent = record { done = _; same = refl; plain = refl; one = refl; two = refl; keeps = λ h e. writes.synced-keeps n lent member chunk e; fit = λ e. refl }
-law (Event.poolInfo op member) n lent = record { done = _; same = refl; plain = refl; one = refl; two = refl; keeps = λ h e. writes.poolInfo-keeps n lent op member e; fit = λ e. fits-informs op member _ }
-law (Event.mapReady keep) n lent = record { done = _; same = refl; plain = refl; one = refl; two = refl; keeps = λ h e. serve.mapReady-keeps n lent e; fit = λ e. refl }
-law Event.give n lent = record { done = _; same = refl; plain = refl; one = refl; two = refl; keeps = λ h e. serve.give-keeps n lent e; fit = λ e. refl }
-law (Event.take zs) n lent = record { done = _; same = refl; plain = refl; one = refl; two = refl; keeps = λ h e. hand.take-keeps n lent e; fit = λ e. refl }
-law (Event.mapDone enabling version set) n lent = record { done = _; same = refl; plain = refl; one = refl; two = refl; keeps = λ h e. hand.mapDone-keeps n lent enabling version set e; fit = λ e. refl }
-law Event.mapDisable n lent = record { done = _; same = refl; plain = refl; one = refl; two = refl; keeps = λ h e. hand.mapDisable-keeps n lent e; fit = λ e. refl }
-law Event.mapGetVer n lent = record { done = _; same = refl; plain = refl; one = refl; two = refl; keeps = λ h e. serve.mapGetVer-keeps n lent e; fit = λ e. refl }
-law (Event.lastIoToMap chosen) n lent = record { done = _; same = refl; plain = refl; one = refl; two = refl; keeps = λ h e. serve.lastIo-keeps n lent chosen e; fit = λ e. serve.lastIo-passed n lent chosen e .rules .keeps }
+unfolding Register.registerCreate Register.registerAdd Register.unregister Join.joinCreate Join.assemble Join.leave Enable.enable1 Enable.enable0 Enable.fault Write.write Write.synced Info.poolInfo Serve.mapReady Serve.givePart Hand.takePart Hand.mapDone Hand.mapDisable Serve.mapGetVer Serve.lastIoToMap Register.registerCreateRefusal Register.registerAddRefusal Register.unregisterRefusal Join.joinCreateRefusal Join.assembleRefusal Join.leaveRefusal Enable.enable1Refusal Enable.stopRefusal Write.writeRefusal Write.syncedRefusal Info.poolInfoRefusal Serve.serveRefusal Serve.givePartRefusal Serve.lastIoRefusal Hand.handRefusal Hand.takePartRefusal Hand.mapDoneRefusal Write.written storedVersion keptChunk
+law Event.registerCreate n lent = record { done = _; same = refl; plain = refl; one = refl; two = refl; keeps = λ h e. register.registerCreate-keeps n lent h e; fit = λ e. refl; clean = λ e. refl }
+law (Event.registerAdd set version) n lent = record { done = _; same = refl; plain = refl; one = refl; two = refl; keeps = λ h e. register.registerAdd-keeps n lent set version e; fit = λ e. refl; clean = λ e. refl }
+law (Event.unregister delete) n lent = record { done = _; same = refl; plain = refl; one = refl; two = refl; keeps = λ h e. register.unregister-keeps n lent delete e; fit = λ e. fits-wipes delete _; clean = λ e. refl }
+law (Event.joinCreate set) n lent = record { done = _; same = refl; plain = refl; one = refl; two = refl; keeps = λ h e. joins.joinCreate-keeps n lent set e; fit = λ e. refl; clean = λ e. refl }
+law Event.assemble n lent = record { done = _; same = refl; plain = refl; one = refl; two = refl; keeps = λ h e. joins.assemble-keeps n lent e; fit = λ e. refl; clean = λ e. refl }
+law (Event.leave delete) n lent = record { done = _; same = refl; plain = refl; one = refl; two = refl; keeps = λ h e. joins.leave-keeps n lent e; fit = λ e. fits-leaves delete n _; clean = λ e. refl }
+law (Event.enable1 version set) n lent = record { done = _; same = refl; plain = refl; one = refl; two = refl; keeps = λ h e. enable.enable1-keeps n lent version set e; fit = λ e. refl; clean = λ e. refl }
+law Event.enable0 n lent = record { done = _; same = refl; plain = refl; one = refl; two = refl; keeps = λ h e. enable.enable0-keeps n lent e; fit = λ e. refl; clean = λ e. refl }
+law Event.fault n lent = record { done = _; same = refl; plain = refl; one = refl; two = refl; keeps = λ h e. enable.fault-keeps n lent e; fit = λ e. refl; clean = λ e. refl }
+law (Event.write chunk set version) n lent = record { done = _; same = refl; plain = refl; one = refl; two = refl; keeps = λ h e. writes.write-keeps n lent chunk set version h e; fit = λ e. writes.write-chunk n lent chunk set version e; clean = λ e. refl }
+law (Event.synced member chunk) n lent = record { done = _; same = refl; plain = refl; one = refl; two = refl; keeps = λ h e. writes.synced-keeps n lent member chunk e; fit = λ e. refl; clean = λ e. refl }
+law (Event.poolInfo op member) n lent = record { done = _; same = refl; plain = refl; one = refl; two = refl; keeps = λ h e. writes.poolInfo-keeps n lent op member e; fit = λ e. fits-informs op member _; clean = λ e. refl }
+law (Event.mapReady keep) n lent = record { done = _; same = refl; plain = refl; one = refl; two = refl; keeps = λ h e. serve.mapReady-keeps n lent e; fit = λ e. refl; clean = λ e. refl }
+law (Event.givePart offset size) n lent = record { done = _; same = refl; plain = refl; one = refl; two = refl; keeps = λ h e. serve.givePart-keeps n lent offset size e; fit = λ e. refl; clean = λ e. refl }
+law (Event.takePart offset part) n lent = record { done = _; same = refl; plain = refl; one = refl; two = refl; keeps = λ h e. hand.takePart-keeps n lent offset (length part) _ e; fit = λ e. refl; clean = λ e. hand.takePart-passed n lent offset (length part) _ e .1 .pure }
+law (Event.mapDone enabling version set) n lent = record { done = _; same = refl; plain = refl; one = refl; two = refl; keeps = λ h e. hand.mapDone-keeps n lent enabling version set e; fit = λ e. refl; clean = λ e. refl }
+law Event.mapDisable n lent = record { done = _; same = refl; plain = refl; one = refl; two = refl; keeps = λ h e. hand.mapDisable-keeps n lent e; fit = λ e. refl; clean = λ e. refl }
+law Event.mapGetVer n lent = record { done = _; same = refl; plain = refl; one = refl; two = refl; keeps = λ h e. serve.mapGetVer-keeps n lent e; fit = λ e. refl; clean = λ e. refl }
+law (Event.lastIoToMap chosen) n lent = record { done = _; same = refl; plain = refl; one = refl; two = refl; keeps = λ h e. serve.lastIo-keeps n lent chosen e; fit = λ e. serve.lastIo-passed n lent chosen e .rules .keeps; clean = λ e. refl }
 
 -- where none applies, the node keeps its rules and the lent maps do not refuse
 pub law-rules : (e : Event) (n : Node) (lent : ℕ) → refusal (testsAt e n lent) ≡ 0 → Valid n
@@ -113,7 +119,7 @@ lent-sound false e = clash refl e
 
 -- the refusal of an event at a node with its maps, 0 for none
 abbrev whyNot : Event → StorageNode → List ℕ → List ℕ → ℕ
-whyNot e s xs ys = refusal (testsAt e (s .node) (lentTo (third e) (s .node) xs ys))
+whyNot e s xs ys = refusal (testsAt e (s .node) (lentTo (s .node) xs ys))
 
 -- ---- a turn is refused, or done
 
@@ -151,10 +157,10 @@ pub record Unchanged (e : Event) (s : StorageNode) (xs ys : List ℕ) : Type 0 w
   pub map : mapLeft e s xs ys ≡ xs
   pub staging : stagingLeft e s xs ys ≡ ys
 
-keeps-third : (z : Third) (ys : List ℕ) → stagingWith z OnStaging.Keep ys ≡ ys
+keeps-part : (z : Part) (ys : List ℕ) → stagingWith z OnStaging.Keep ys ≡ ys
 unfolding takenIn
-keeps-third Third.none ys = refl
-keeps-third (Third.some zs) ys = refl
+keeps-part Part.none ys = refl
+keeps-part (Part.some part) ys = refl
 
 unchanged : (e : Event) (s : StorageNode) (xs ys : List ℕ) (why : ℕ) → turnAt e s xs ys ≡ refused why (s .node) → Unchanged e s xs ys
 unfolding mapBy stagingBy mapAfter stagingAfter
@@ -162,7 +168,7 @@ unchanged e s xs ys why q =
     record {
       state = ap (λ (t : Turn). the-node t) q;
       map = ap (λ (t : Turn). mapBy t xs ys) q;
-      staging = ap (λ (t : Turn). stagingWith (third e) (t .effect .staging) (stagingBy t xs ys)) q ∙ keeps-third (third e) ys;
+      staging = ap (λ (t : Turn). stagingWith (partIn e) (t .effect .staging) (stagingBy t xs ys)) q ∙ keeps-part (partIn e) ys;
     }
   where
     the-node : Turn → StorageNode
@@ -170,28 +176,28 @@ unchanged e s xs ys why q =
 
 pub refusal-changes-nothing : (e : Event) (s : StorageNode) (xs ys : List ℕ) (why : ℕ) → answers e s xs ys .answer ≡ Answer.Refused why → Unchanged e s xs ys
 refusal-changes-nothing e s xs ys why r =
-    let h = law e (s .node) (lentTo (third e) (s .node) xs ys) in
+    let h = law e (s .node) (lentTo (s .node) xs ys) in
     unchanged e s xs ys why
     (h .same ∙ refused-by (whyNot e s xs ys) why (s .node) (h .done) (h .plain) (ap (λ (t : Turn). t .answer) (sym (h .same)) ∙ r) .0)
 
 -- ---- an accepted event
 
 -- where no refusal applies it is accepted
-pub accepted-by : (e : Event) (s : StorageNode) (xs ys : List ℕ) → refusal (testsAt e (s .node) (lentTo (third e) (s .node) xs ys)) ≡ 0 → isRefused (answers e s xs ys .answer) ≡ false
+pub accepted-by : (e : Event) (s : StorageNode) (xs ys : List ℕ) → refusal (testsAt e (s .node) (lentTo (s .node) xs ys)) ≡ 0 → isRefused (answers e s xs ys .answer) ≡ false
 accepted-by e s xs ys z =
-    let h = law e (s .node) (lentTo (third e) (s .node) xs ys) in
+    let h = law e (s .node) (lentTo (s .node) xs ys) in
     ap (λ (t : Turn). isRefused (t .answer)) (h .same ∙ settled-done (whyNot e s xs ys) (s .node) (h .done) (eq-eqb (whyNot e s xs ys) 0 z)) ∙ h .plain
 
 -- it is done; the node keeps its rules, and the lent maps are sound
 pub record Accepted (e : Event) (s : StorageNode) (xs ys : List ℕ) : Type 0 where
-  pub none : refusal (testsAt e (s .node) (lentTo (third e) (s .node) xs ys)) ≡ 0
-  pub turn : turnAt e s xs ys ≡ law e (s .node) (lentTo (third e) (s .node) xs ys) .done
+  pub none : refusal (testsAt e (s .node) (lentTo (s .node) xs ys)) ≡ 0
+  pub turn : turnAt e s xs ys ≡ law e (s .node) (lentTo (s .node) xs ys) .done
   pub rules : Valid (s .node)
-  pub sure : (soundThird (s .node .chunks) (third e) && (sound (s .node .chunks) xs && sound (s .node .chunks) ys)) ≡ true
+  pub sure : (sound (s .node .chunks) xs && sound (s .node .chunks) ys) ≡ true
 
 pub accepted-done : (e : Event) (s : StorageNode) (xs ys : List ℕ) → isRefused (answers e s xs ys .answer) ≡ false → Accepted e s xs ys
 accepted-done e s xs ys a =
-    let h = law e (s .node) (lentTo (third e) (s .node) xs ys) in
+    let h = law e (s .node) (lentTo (s .node) xs ys) in
     let b = accepted (whyNot e s xs ys) (s .node) (h .done) (ap (λ (t : Turn). isRefused (t .answer)) (sym (h .same)) ∙ a) in
     let z = eqb-true (whyNot e s xs ys) 0 b in
     record { none = z; turn = h .same ∙ settled-done (whyNot e s xs ys) (s .node) (h .done) b; rules = law-rules e (s .node) _ z; sure = lent-sound _ (law-sure e (s .node) _ z) }
@@ -203,7 +209,7 @@ pub accepted-keeps : (e : Event) (s : StorageNode) (xs ys : List ℕ)
     → Keeps (kindOf e) (s .node) (answers e s xs ys .node .node)
 accepted-keeps e s xs ys l a =
     let d = accepted-done e s xs ys a in
-    subst (λ (t : Turn). Keeps (kindOf e) (s .node) (t .node)) (sym (d .turn)) (law e (s .node) (lentTo (third e) (s .node) xs ys) .keeps l (d .none))
+    subst (λ (t : Turn). Keeps (kindOf e) (s .node) (t .node)) (sym (d .turn)) (law e (s .node) (lentTo (s .node) xs ys) .keeps l (d .none))
 
 -- ---- rules and sound maps, from fresh on
 
@@ -218,15 +224,15 @@ pub fresh-good : (id chunks : ℕ) (xs ys : List ℕ) → 1 ≤ chunks → chunk
 unfolding fresh keptOk
 fresh-good id chunks xs ys a b m r =
     record {
-      rules = valid-of (fresh id chunks) (record { some = a; few = b; stand = refl; ids = omega arith; top = omega arith; keeps = refl });
+      rules = valid-of (fresh id chunks) (record { some = a; few = b; stand = refl; ids = omega arith; top = omega arith; keeps = refl; part = omega arith });
       size = refl;
       map = m;
       staging = r;
     }
 
-sound-with : (c : ℕ) (z : Third) (e : OnStaging) (ys : List ℕ) → soundThird c z ≡ true → Sound c ys → Sound c (stagingWith z e ys)
-sound-with c Third.none e ys t r = r
-sound-with c (Third.some zs) e ys t r = sound-taken c e zs ys (sound-fact c zs t) r
+sound-with : (c : ℕ) (z : Part) (e : OnStaging) (ys : List ℕ) → partFits c z e ≡ true → Sound c ys → Sound c (stagingWith z e ys)
+sound-with c Part.none e ys t r = r
+sound-with c (Part.some part) e ys t r = sound-taken c e part ys t r
 
 good-same : {s s′ : StorageNode} {xs xs′ ys ys′ : List ℕ} → s′ ≡ s → xs′ ≡ xs → ys′ ≡ ys → Good s xs ys → Good s′ xs′ ys′
 good-same a b c g = rw (a, b, c) g
@@ -238,8 +244,8 @@ stays-good e s xs ys g = by-cases (eqb (whyNot e s xs ys) 0) yes no
     n : Node
     n = s .node
 
-    h : Law e n (lentTo (third e) n xs ys)
-    h = law e n (lentTo (third e) n xs ys)
+    h : Law e n (lentTo n xs ys)
+    h = law e n (lentTo n xs ys)
 
     no : eqb (whyNot e s xs ys) 0 ≡ false → Good (answers e s xs ys .node) (mapLeft e s xs ys) (stagingLeft e s xs ys)
     no b = let u = unchanged e s xs ys (whyNot e s xs ys) (h .same ∙ settled-refused (whyNot e s xs ys) n (h .done) b) in good-same (u .state) (u .map) (u .staging) g
@@ -254,13 +260,13 @@ stays-good e s xs ys g = by-cases (eqb (whyNot e s xs ys) 0) yes no
         let c = t .node .chunks in
         let sx : Sound c xs = rw (k .same-chunks) (sound-fact (n .chunks) xs (g .map)) in
         let sy : Sound c ys = rw (k .same-chunks) (sound-fact (n .chunks) ys (g .staging)) in
-        let sz : soundThird c (third e) ≡ true = rw (k .same-chunks) (and-left (soundThird (n .chunks) (third e)) (sound (n .chunks) xs && sound (n .chunks) ys) (lent-sound _ (law-sure e n _ z))) in
+        let sz : partFits c (partIn e) (t .effect .staging) ≡ true = rw (k .same-chunks) (subst (λ (t : Turn). partFits (n .chunks) (partIn e) (t .effect .staging) ≡ true) q (h .clean z)) in
         let m : Sound c (mapLeft e s xs ys) = sound-map (t .effect .map) (t .node) ys xs f sy sx in
         record {
           rules = k .rules;
           size = k .size ∙ g .size;
           map = sound-test c (mapLeft e s xs ys) m;
-          staging = sound-test c (stagingLeft e s xs ys) (sound-with c (third e) (t .effect .staging) _ sz (sound-staging c (t .effect .staging) (mapLeft e s xs ys) ys m sy));
+          staging = sound-test c (stagingLeft e s xs ys) (sound-with c (partIn e) (t .effect .staging) _ sz (sound-staging c (t .effect .staging) (mapLeft e s xs ys) ys m sy));
         }
 
 pub always-good : (es : List Event) (w : Held) → Good (w .at) (w .map) (w .staging) → Good (after es w .at) (after es w .map) (after es w .staging)

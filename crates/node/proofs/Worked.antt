@@ -2,6 +2,7 @@
 use mathlib.Core.Path.{_≡_, refl}
 use mathlib.Core.Bool.{true, false}
 use mathlib.Core.List.{[], _∷_}
+use Prim.Native.Nat.{ℕ}
 use lib.ListN.{drop}
 use Rattle.sets.specs.Sets.{has, with, without}
 use Rattle.laws.specs.Words.{bit}
@@ -17,7 +18,7 @@ use Rattle.nodejoins.specs.Join.{joinCreateRefusal, joinedCreate, joinCreate}
 use Rattle.nodeenables.specs.Enable.{enable1Refusal, enabled, enable1}
 use Rattle.nodewrites.specs.Write.{writeRefusal, written, write}
 use Rattle.nodeserve.specs.Serve.{serveRefusal, readied, mapReady, mapGetVer}
-use Rattle.nodehand.specs.Hand.{handRefusal, mapTaken, take, mapDoneRefusal, committed, mapDone}
+use Rattle.nodehand.specs.Hand.{takePartRefusal, partTaken, takePart, mapDoneRefusal, committed, mapDone}
 
 -- node 1 of 4,096 chunks: registered, joined in create mode beside node 0, enabled, and one write that did not reach 0
 abbrev pub created : Node
@@ -25,6 +26,17 @@ created = joinCreate (registerCreate (fresh 1 4096) 0 .node) 0 1 .node
 
 abbrev pub wrote : Node
 wrote = write (enable1 created 0 1 3 .node) 0 4095 1 2 .node
+
+-- a part is taken at it: offset, length
+abbrev pub took : ℕ → ℕ → Node → Node
+took offset length n = takePart n 0 offset length true .node
+
+-- seven parts of 1,024 bytes were taken, and all bytes but the last
+abbrev pub seven : Node
+seven = took 6144 1024 (took 5120 1024 (took 4096 1024 (took 3072 1024 (took 2048 1024 (took 1024 1024 (took 0 1024 (mapReady wrote 0 false .node)))))))
+
+abbrev pub oneLeft : Node
+oneLeft = took 7168 1023 seven
 
 pub record Worked : Type 0 where
   pub joined : created .members ≡ 3
@@ -38,7 +50,15 @@ pub record Worked : Type 0 where
   pub limit : enable1 wrote 0 9223372036854775776 3 .answer ≡ Answer.Refused 14
   pub other-set : enable1 wrote 0 2 1 .answer ≡ Answer.Refused 10
   pub too-early : mapDone (mapReady wrote 0 false .node) 0 true 2 3 .answer ≡ Answer.Refused 15
-  pub done : mapDone (take (mapReady wrote 0 false .node) 0 .node) 0 true 2 3 .effect ≡ does (OnMap.Commit 3) OnStaging.Zero
+  pub not-ready : takePart wrote 0 0 1 true .answer ≡ Answer.Refused 15
+  pub again : takePart seven 0 6144 1 true .answer ≡ Answer.Refused 16
+  pub empty : takePart seven 0 7168 0 true .answer ≡ Answer.Refused 16
+  pub past-end : takePart oneLeft 0 8191 2 true .answer ≡ Answer.Refused 16
+  pub stray : takePart oneLeft 0 8191 1 false .answer ≡ Answer.Refused 16
+  pub last-byte : takePart oneLeft 0 8191 1 true .answer ≡ Answer.Done
+  pub no-more : takePart (took 8191 1 oneLeft) 0 8192 1 true .answer ≡ Answer.Refused 16
+  pub at-8191 : mapDone oneLeft 0 true 2 3 .answer ≡ Answer.Refused 15
+  pub done : mapDone (took 8191 1 oneLeft) 0 true 2 3 .effect ≡ does (OnMap.Commit 3) OnStaging.Zero
 
 pub worked : Worked
 unfolding
@@ -58,9 +78,9 @@ unfolding
     readied
     mapReady
     mapGetVer
-    handRefusal
-    mapTaken
-    take
+    takePartRefusal
+    partTaken
+    takePart
     mapDoneRefusal
     committed
     mapDone
@@ -94,5 +114,13 @@ worked =
       limit = refl;
       other-set = refl;
       too-early = refl;
+      not-ready = refl;
+      again = refl;
+      empty = refl;
+      past-end = refl;
+      stray = refl;
+      last-byte = refl;
+      no-more = refl;
+      at-8191 = refl;
       done = refl;
     }

@@ -1,5 +1,5 @@
 -- The node with its lent maps: xs the map's bytes, ys those of staging. An event gives an answer and the next state, and leaves both maps.
-use mathlib.Core.Bool.{Bool, true, not, _&&_}
+use mathlib.Core.Bool.{not, _&&_}
 use mathlib.Core.List.{List}
 use Prim.Native.Nat.{ℕ}
 use Rattle.laws.specs.Words.{pick}
@@ -11,27 +11,22 @@ use Rattle.nodestate.specs.Change as Change
 use Rattle.nodemaps.specs.Carry.{mapAfter, stagingAfter, takenIn}
 use Rattle.node.specs.declared.StorageNode.{StorageNode}
 use Rattle.node.specs.declared.Out.{Out}
-use Rattle.node.specs.Events.{Event, Third, third, turnOf}
+use Rattle.node.specs.Events.{Event, Part, partIn, turnOf}
 
 -- a fresh node; any numbers
 abbrev pub freshNode : ℕ → ℕ → StorageNode
 freshNode id chunks = record { node = Change.fresh id chunks }
 
--- a third map, if there is one, is sound
-abbrev pub soundThird : ℕ → Third → Bool
-soundThird chunks Third.none = true
-soundThird chunks (Third.some zs) = sound chunks zs
+-- the number that the lent maps refuse with: 2 unless both are sound, else 0
+abbrev pub lentNumber : ℕ → List ℕ → List ℕ → ℕ
+lentNumber chunks xs ys = pick (not (sound chunks xs && sound chunks ys)) 2 0
 
--- the number that the lent maps refuse with: 2 unless each is sound, a third one with them, else 0
-abbrev pub lentNumber : Bool → ℕ → List ℕ → List ℕ → ℕ
-lentNumber third chunks xs ys = pick (not (third && (sound chunks xs && sound chunks ys))) 2 0
-
-abbrev pub lentTo : Third → Node → List ℕ → List ℕ → ℕ
-lentTo z n xs ys = lentNumber (soundThird (n .chunks) z) (n .chunks) xs ys
+abbrev pub lentTo : Node → List ℕ → List ℕ → ℕ
+lentTo n xs ys = lentNumber (n .chunks) xs ys
 
 -- the turn of an event at a node with its maps
 abbrev pub turnAt : Event → StorageNode → List ℕ → List ℕ → Turn
-turnAt e s xs ys = turnOf e (s .node) (lentTo (third e) (s .node) xs ys)
+turnAt e s xs ys = turnOf e (s .node) (lentTo (s .node) xs ys)
 
 -- the answer beside the next state
 abbrev pub handed : Turn → Out
@@ -41,10 +36,10 @@ handed t = record { answer = t .answer; node = record { node = t .node } }
 unfoldable pub mapBy : Turn → List ℕ → List ℕ → List ℕ
 mapBy t xs ys = mapAfter (t .effect .map) (t .node) ys xs
 
--- staging with a third map ORed in, if there is one
-abbrev pub stagingWith : Third → OnStaging → List ℕ → List ℕ
-stagingWith Third.none e ys = ys
-stagingWith (Third.some zs) e ys = takenIn e zs ys
+-- staging with a part ORed in, if there is one
+abbrev pub stagingWith : Part → OnStaging → List ℕ → List ℕ
+stagingWith Part.none e ys = ys
+stagingWith (Part.some part) e ys = takenIn e part ys
 
 -- the staging map that a turn leaves
 unfoldable pub stagingBy : Turn → List ℕ → List ℕ → List ℕ
@@ -58,4 +53,4 @@ abbrev pub mapLeft : Event → StorageNode → List ℕ → List ℕ → List �
 mapLeft e s xs ys = mapBy (turnAt e s xs ys) xs ys
 
 abbrev pub stagingLeft : Event → StorageNode → List ℕ → List ℕ → List ℕ
-stagingLeft e s xs ys = stagingWith (third e) (turnAt e s xs ys .effect .staging) (stagingBy (turnAt e s xs ys) xs ys)
+stagingLeft e s xs ys = stagingWith (partIn e) (turnAt e s xs ys .effect .staging) (stagingBy (turnAt e s xs ys) xs ys)

@@ -1,3 +1,4 @@
 pub mod Events
 pub mod Face
 pub mod Held
+pub mod Cuts

@@ -57,7 +57,7 @@ impl StorageNode {
         ensures { λ _. ⌜ now (staging .exit) ≡ stagingLeft Event.registerCreate self (now (map .entry)) (now (staging .entry)) ⌝ }
     {
         let n = self.node;
-        let lent = lent_number(true, n.chunks, map, staging);
+        let lent = lent_number(n.chunks, map, staging);
         let t = noderegister::register_create(n, lent);
         finish(t, map, staging)
     }
@@ -69,7 +69,7 @@ impl StorageNode {
         ensures { λ _. ⌜ now (staging .exit) ≡ stagingLeft (Event.registerAdd set version) self (now (map .entry)) (now (staging .entry)) ⌝ }
     {
         let n = self.node;
-        let lent = lent_number(true, n.chunks, map, staging);
+        let lent = lent_number(n.chunks, map, staging);
         let t = noderegister::register_add(n, lent, set, version);
         finish(t, map, staging)
     }
@@ -81,7 +81,7 @@ impl StorageNode {
         ensures { λ _. ⌜ now (staging .exit) ≡ stagingLeft (Event.unregister delete) self (now (map .entry)) (now (staging .entry)) ⌝ }
     {
         let n = self.node;
-        let lent = lent_number(true, n.chunks, map, staging);
+        let lent = lent_number(n.chunks, map, staging);
         let t = noderegister::unregister(n, lent, delete);
         finish(t, map, staging)
     }
@@ -93,7 +93,7 @@ impl StorageNode {
         ensures { λ _. ⌜ now (staging .exit) ≡ stagingLeft (Event.joinCreate set) self (now (map .entry)) (now (staging .entry)) ⌝ }
     {
         let n = self.node;
-        let lent = lent_number(true, n.chunks, map, staging);
+        let lent = lent_number(n.chunks, map, staging);
         let t = nodejoins::join_create(n, lent, set);
         finish(t, map, staging)
     }
@@ -105,7 +105,7 @@ impl StorageNode {
         ensures { λ _. ⌜ now (staging .exit) ≡ stagingLeft Event.assemble self (now (map .entry)) (now (staging .entry)) ⌝ }
     {
         let n = self.node;
-        let lent = lent_number(true, n.chunks, map, staging);
+        let lent = lent_number(n.chunks, map, staging);
         let t = nodejoins::assemble(n, lent);
         finish(t, map, staging)
     }
@@ -117,7 +117,7 @@ impl StorageNode {
         ensures { λ _. ⌜ now (staging .exit) ≡ stagingLeft (Event.leave delete) self (now (map .entry)) (now (staging .entry)) ⌝ }
     {
         let n = self.node;
-        let lent = lent_number(true, n.chunks, map, staging);
+        let lent = lent_number(n.chunks, map, staging);
         let t = nodejoins::leave(n, lent, delete);
         finish(t, map, staging)
     }
@@ -129,7 +129,7 @@ impl StorageNode {
         ensures { λ _. ⌜ now (staging .exit) ≡ stagingLeft (Event.enable1 version set) self (now (map .entry)) (now (staging .entry)) ⌝ }
     {
         let n = self.node;
-        let lent = lent_number(true, n.chunks, map, staging);
+        let lent = lent_number(n.chunks, map, staging);
         let t = nodeenables::enable1(n, lent, version, set);
         finish(t, map, staging)
     }
@@ -141,7 +141,7 @@ impl StorageNode {
         ensures { λ _. ⌜ now (staging .exit) ≡ stagingLeft Event.enable0 self (now (map .entry)) (now (staging .entry)) ⌝ }
     {
         let n = self.node;
-        let lent = lent_number(true, n.chunks, map, staging);
+        let lent = lent_number(n.chunks, map, staging);
         let t = nodeenables::enable0(n, lent);
         finish(t, map, staging)
     }
@@ -153,7 +153,7 @@ impl StorageNode {
         ensures { λ _. ⌜ now (staging .exit) ≡ stagingLeft Event.fault self (now (map .entry)) (now (staging .entry)) ⌝ }
     {
         let n = self.node;
-        let lent = lent_number(true, n.chunks, map, staging);
+        let lent = lent_number(n.chunks, map, staging);
         let t = nodeenables::fault(n, lent);
         finish(t, map, staging)
     }
@@ -172,7 +172,7 @@ impl StorageNode {
         ensures { λ _. ⌜ now (staging .exit) ≡ stagingLeft (Event.write chunk set version) self (now (map .entry)) (now (staging .entry)) ⌝ }
     {
         let n = self.node;
-        let lent = lent_number(true, n.chunks, map, staging);
+        let lent = lent_number(n.chunks, map, staging);
         let t = nodewrites::write::write(n, lent, chunk, set, version);
         finish(t, map, staging)
     }
@@ -184,7 +184,7 @@ impl StorageNode {
         ensures { λ _. ⌜ now (staging .exit) ≡ stagingLeft (Event.synced member chunk) self (now (map .entry)) (now (staging .entry)) ⌝ }
     {
         let n = self.node;
-        let lent = lent_number(true, n.chunks, map, staging);
+        let lent = lent_number(n.chunks, map, staging);
         let t = nodewrites::write::synced(n, lent, member, chunk);
         finish(t, map, staging)
     }
@@ -196,7 +196,7 @@ impl StorageNode {
         ensures { λ _. ⌜ now (staging .exit) ≡ stagingLeft (Event.poolInfo op member) self (now (map .entry)) (now (staging .entry)) ⌝ }
     {
         let n = self.node;
-        let lent = lent_number(true, n.chunks, map, staging);
+        let lent = lent_number(n.chunks, map, staging);
         let t = nodewrites::info::pool_info(n, lent, op, member);
         finish(t, map, staging)
     }
@@ -208,37 +208,38 @@ impl StorageNode {
         ensures { λ _. ⌜ now (staging .exit) ≡ stagingLeft (Event.mapReady keep) self (now (map .entry)) (now (staging .entry)) ⌝ }
     {
         let n = self.node;
-        let lent = lent_number(true, n.chunks, map, staging);
+        let lent = lent_number(n.chunks, map, staging);
         let t = nodeserve::map_ready(n, lent, keep);
         finish(t, map, staging)
     }
 
-    // The map goes out: where it goes is the caller's.
-    pub fn give(mut self, map: &mut [u8], staging: &mut [u8]) -> Out
-        ensures { λ r. ⌜ r ≡ answers Event.give self (now (map .entry)) (now (staging .entry)) ⌝ }
-        ensures { λ _. ⌜ now (map .exit) ≡ mapLeft Event.give self (now (map .entry)) (now (staging .entry)) ⌝ }
-        ensures { λ _. ⌜ now (staging .exit) ≡ stagingLeft Event.give self (now (map .entry)) (now (staging .entry)) ⌝ }
+    // A part of the map goes out, the map's bytes from the offset on: where it goes is the caller's.
+    pub fn give_part(mut self, map: &mut [u8], staging: &mut [u8], offset: u64, length: u64) -> Out
+        ensures { λ r. ⌜ r ≡ answers (Event.givePart offset length) self (now (map .entry)) (now (staging .entry)) ⌝ }
+        ensures { λ _. ⌜ now (map .exit) ≡ mapLeft (Event.givePart offset length) self (now (map .entry)) (now (staging .entry)) ⌝ }
+        ensures { λ _. ⌜ now (staging .exit) ≡ stagingLeft (Event.givePart offset length) self (now (map .entry)) (now (staging .entry)) ⌝ }
     {
         let n = self.node;
-        let lent = lent_number(true, n.chunks, map, staging);
-        let t = nodeserve::give(n, lent);
+        let lent = lent_number(n.chunks, map, staging);
+        let t = nodeserve::give_part(n, lent, offset, length);
         finish(t, map, staging)
     }
 
-    // A map is taken: ORed into staging.
-    pub fn take(mut self, map: &mut [u8], staging: &mut [u8], taken: &[u8]) -> Out
-        ensures { λ r. ⌜ r ≡ answers (Event.take (now (taken .entry))) self (now (map .entry)) (now (staging .entry)) ⌝ }
-        ensures { λ _. ⌜ now (map .exit) ≡ mapLeft (Event.take (now (taken .entry))) self (now (map .entry)) (now (staging .entry)) ⌝ }
-        ensures { λ _. ⌜ now (staging .exit) ≡ stagingLeft (Event.take (now (taken .entry))) self (now (map .entry)) (now (staging .entry)) ⌝ }
+    // A part of a map is taken: ORed into staging at its offset.
+    pub fn take_part(mut self, map: &mut [u8], staging: &mut [u8], offset: u64, part: &[u8]) -> Out
+        ensures { λ r. ⌜ r ≡ answers (Event.takePart offset (now (part .entry))) self (now (map .entry)) (now (staging .entry)) ⌝ }
+        ensures { λ _. ⌜ now (map .exit) ≡ mapLeft (Event.takePart offset (now (part .entry))) self (now (map .entry)) (now (staging .entry)) ⌝ }
+        ensures { λ _. ⌜ now (staging .exit) ≡ stagingLeft (Event.takePart offset (now (part .entry))) self (now (map .entry)) (now (staging .entry)) ⌝ }
     {
         let n = self.node;
-        let third = maps::is_sound(taken, n.chunks);
-        let lent = lent_number(third, n.chunks, map, staging);
-        let t = nodehand::take(n, lent);
+        let lent = lent_number(n.chunks, map, staging);
+        let clean = parts::is_clean(part, n.chunks, offset);
+        let length = part.len() as u64;
+        let t = nodehand::take_part(n, lent, offset, length, clean);
         let e = t.effect;
         let s = e.staging;
         let out = finish(t, map, staging);
-        nodemaps::take_in(s, taken, staging);
+        nodemaps::take_in(s, part, staging);
         out
     }
 
@@ -256,7 +257,7 @@ impl StorageNode {
         ensures { λ _. ⌜ now (staging .exit) ≡ stagingLeft (Event.mapDone enabling version set) self (now (map .entry)) (now (staging .entry)) ⌝ }
     {
         let n = self.node;
-        let lent = lent_number(true, n.chunks, map, staging);
+        let lent = lent_number(n.chunks, map, staging);
         let t = nodehand::map_done(n, lent, enabling, version, set);
         finish(t, map, staging)
     }
@@ -268,7 +269,7 @@ impl StorageNode {
         ensures { λ _. ⌜ now (staging .exit) ≡ stagingLeft Event.mapDisable self (now (map .entry)) (now (staging .entry)) ⌝ }
     {
         let n = self.node;
-        let lent = lent_number(true, n.chunks, map, staging);
+        let lent = lent_number(n.chunks, map, staging);
         let t = nodehand::map_disable(n, lent);
         finish(t, map, staging)
     }
@@ -280,7 +281,7 @@ impl StorageNode {
         ensures { λ _. ⌜ now (staging .exit) ≡ stagingLeft Event.mapGetVer self (now (map .entry)) (now (staging .entry)) ⌝ }
     {
         let n = self.node;
-        let lent = lent_number(true, n.chunks, map, staging);
+        let lent = lent_number(n.chunks, map, staging);
         let t = nodeserve::map_get_ver(n, lent);
         finish(t, map, staging)
     }
@@ -292,18 +293,18 @@ impl StorageNode {
         ensures { λ _. ⌜ now (staging .exit) ≡ stagingLeft (Event.lastIoToMap chosen) self (now (map .entry)) (now (staging .entry)) ⌝ }
     {
         let n = self.node;
-        let lent = lent_number(true, n.chunks, map, staging);
+        let lent = lent_number(n.chunks, map, staging);
         let t = nodeserve::last_io_to_map(n, lent, chosen);
         finish(t, map, staging)
     }
 }
 
-// The number that the lent maps refuse with, 0 where they do not. third: a third one, if there is one, is sound.
-fn lent_number(third: bool, chunks: u64, map: &[u8], staging: &[u8]) -> u64
-    ensures { λ r. ⌜ r ≡ lentNumber third chunks (now (map .entry)) (now (staging .entry)) ⌝ }
+// The number that the lent maps refuse with, 0 where they do not.
+fn lent_number(chunks: u64, map: &[u8], staging: &[u8]) -> u64
+    ensures { λ r. ⌜ r ≡ lentNumber chunks (now (map .entry)) (now (staging .entry)) ⌝ }
 {
     let both = both_sound(chunks, map, staging);
-    refusals::first(!(third & both), 2, 0)
+    refusals::first(!both, 2, 0)
 }
 
 fn both_sound(chunks: u64, map: &[u8], staging: &[u8]) -> bool

@@ -1,14 +1,14 @@
 -- Enable 1, enable 0, fault: what an accepted one knows, and that it keeps the state rules and the table of legal changes. Assumes nothing.
 use mathlib.Core.Path.{_≡_, refl}
-use mathlib.Core.Bool.{true, _&&_}
+use mathlib.Core.Bool.{true, false, _&&_}
 use mathlib.Core.List.{List}
 use Prim.Native.Nat.{ℕ}
+use native.Mathlib.Omega.{arith}
 use lib.Dec.{ltb}
 use Rattle.laws.specs.Tests.{and-both}
 use Rattle.refusals.specs.Refusals.{Test}
 use Rattle.order.proofs.Order.{none-applies}
 use Rattle.nodestate.specs.declared.State.{State}
-use Rattle.nodestate.specs.declared.Transfer.{Transfer}
 use Rattle.nodestate.specs.declared.Node.{Node}
 use Rattle.nodestate.specs.States.{isJoined, isServing}
 use Rattle.nodestate.specs.Change.{wentTo, takenOver, storedVersion, transferred, endedTransfer, instructed}
@@ -34,8 +34,8 @@ enable1-keeps n lent version set e =
     let v = p .rules in
     let w = enable1-passed n lent version set e .1 in
     record {
-      rules = valid-of (enabled n version set) (record { some = v .some; few = v .few; stand = rw (w .holds) (given _ _ (at-node (λ s store create t own. gives (standing s store create t own && (isJoined s && store)) (standing State.Normal store create Transfer.Nothing true)) refl n) (and-both (v .stand) (p .from))); ids = w .set-lt; top = w .low; keeps = v .keeps });
-      lawful = given _ _ (at-node (λ s store create t own. gives (standing s store create t own && (isJoined s && store)) (legal Kind.enable1 s (State.Normal))) refl n) (and-both (v .stand) (p .from));
+      rules = valid-of (enabled n version set) (record { some = v .some; few = v .few; stand = rw (w .holds) (given _ _ (at-node (λ s store create hand own. gives (standing s store create hand own && (isJoined s && store)) (standing State.Normal store create false true)) refl n) (and-both (v .stand) (p .from))); ids = w .set-lt; top = w .low; keeps = v .keeps; part = omega arith });
+      lawful = given _ _ (at-node (λ s store create hand own. gives (standing s store create hand own && (isJoined s && store)) (legal Kind.enable1 s (State.Normal))) refl n) (and-both (v .stand) (p .from));
       same-id = refl;
       same-chunks = refl;
       size = refl;
@@ -55,8 +55,8 @@ enable0-keeps n lent e =
     let p = stop-passed n lent e in
     let v = p .rules in
     record {
-      rules = valid-of (disabled n) (record { some = v .some; few = v .few; stand = given _ _ (at-node (λ s store create t own. gives (standing s store create t own && (stoppable s)) (standing State.NoIo store create Transfer.Nothing own)) refl n) (and-both (v .stand) (p .from)); ids = v .ids; top = v .top; keeps = v .keeps });
-      lawful = given _ _ (at-node (λ s store create t own. gives (standing s store create t own && (stoppable s)) (legal Kind.enable0 s (State.NoIo))) refl n) (and-both (v .stand) (p .from));
+      rules = valid-of (disabled n) (record { some = v .some; few = v .few; stand = given _ _ (at-node (λ s store create hand own. gives (standing s store create hand own && (stoppable s)) (standing State.NoIo store create false own)) refl n) (and-both (v .stand) (p .from)); ids = v .ids; top = v .top; keeps = v .keeps; part = omega arith });
+      lawful = given _ _ (at-node (λ s store create hand own. gives (standing s store create hand own && (stoppable s)) (legal Kind.enable0 s (State.NoIo))) refl n) (and-both (v .stand) (p .from));
       same-id = refl;
       same-chunks = refl;
       size = refl;
@@ -68,8 +68,8 @@ fault-keeps n lent e =
     let p = stop-passed n lent e in
     let v = p .rules in
     record {
-      rules = valid-of (wentTo n State.NoIo) (record { some = v .some; few = v .few; stand = given _ _ (at-node (λ s store create t own. gives (standing s store create t own && (stoppable s)) (standing State.NoIo store create t own)) refl n) (and-both (v .stand) (p .from)); ids = v .ids; top = v .top; keeps = v .keeps });
-      lawful = given _ _ (at-node (λ s store create t own. gives (standing s store create t own && (stoppable s)) (legal Kind.fault s (State.NoIo))) refl n) (and-both (v .stand) (p .from));
+      rules = valid-of (wentTo n State.NoIo) (record { some = v .some; few = v .few; stand = given _ _ (at-node (λ s store create hand own. gives (standing s store create hand own && (stoppable s)) (standing State.NoIo store create hand own)) refl n) (and-both (v .stand) (p .from)); ids = v .ids; top = v .top; keeps = v .keeps; part = v .part });
+      lawful = given _ _ (at-node (λ s store create hand own. gives (standing s store create hand own && (stoppable s)) (legal Kind.fault s (State.NoIo))) refl n) (and-both (v .stand) (p .from));
       same-id = refl;
       same-chunks = refl;
       size = refl;

@@ -11,7 +11,6 @@ use Rattle.order.proofs.Order.{first-applies, none-applies}
 use Rattle.nodestate.specs.declared.Answer.{Answer}
 use Rattle.nodestate.specs.declared.Turn.{Turn}
 use Rattle.nodestate.specs.Turns.{refused, settled}
-use Rattle.node.specs.Events.{third}
 use Rattle.node.specs.Face.{lentTo, turnAt, answers}
 use Rattle.node.proofs.Theorems.{isRefused, Law, law, refusal-changes-nothing}
 use Rattle.nodeevents.specs.Tests.{testsOf}
@@ -29,8 +28,8 @@ demand-1 e s xs ys = at (eqb why 0) refl
     why : ℕ
     why = refusal (testsOf e s xs ys)
 
-    h : Law e (s .node) (lentTo (third e) (s .node) xs ys)
-    h = law e (s .node) (lentTo (third e) (s .node) xs ys)
+    h : Law e (s .node) (lentTo (s .node) xs ys)
+    h = law e (s .node) (lentTo (s .node) xs ys)
 
     turn : (b : Bool) → eqb why 0 ≡ b → turnAt e s xs ys ≡ pick b (h .done) (refused why (s .node))
     turn b z = h .same ∙ ap (λ (x : Bool). pick x (h .done) (refused why (s .node))) z

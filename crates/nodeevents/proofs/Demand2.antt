@@ -9,7 +9,7 @@ use Rattle.laws.specs.Tests.{clash, and-both}
 use Rattle.refusals.specs.Refusals.{applies}
 use Rattle.nodestate.specs.declared.Answer.{Answer}
 use Rattle.node.specs.declared.StorageNode.{StorageNode}
-use Rattle.node.specs.Events.{Event, third}
+use Rattle.node.specs.Events.{Event}
 use Rattle.node.specs.Face.{lentTo, answers}
 use Rattle.node.proofs.Theorems.{isRefused, law, Good, fresh-good, stays-good, accepted-keeps}
 use Rattle.nodeevents.specs.Tests.{testsOf}
@@ -35,13 +35,13 @@ given e s xs ys n q = at (demand-1 e s xs ys)
 pub never-one : NeverOne
 never-one s xs ys r e n q z =
     clash (ap (λ (k : ℕ). applies k (testsOf e s xs ys)) (sym z) ∙ given e s xs ys n q)
-    (law e (s .node) (lentTo (third e) (s .node) xs ys) .one ∙ ap not (reached-good s xs ys r .rules))
+    (law e (s .node) (lentTo (s .node) xs ys) .one ∙ ap not (reached-good s xs ys r .rules))
 
 pub never-two : NeverTwo
-never-two s xs ys r e n t q z =
+never-two s xs ys r e n q z =
     let g = reached-good s xs ys r in
     clash (ap (λ (k : ℕ). applies k (testsOf e s xs ys)) (sym z) ∙ given e s xs ys n q)
-    (law e (s .node) (lentTo (third e) (s .node) xs ys) .two ∙ ap (λ (b : Bool). eqb (pick (not b) 2 0) 2) (and-both t (and-both (g .map) (g .staging))))
+    (law e (s .node) (lentTo (s .node) xs ys) .two ∙ ap (λ (b : Bool). eqb (pick (not b) 2 0) 2) (and-both (g .map) (g .staging)))
 
 pub taken-plain : (a : Answer) → isAccepted a ≡ true → isRefused a ≡ false
 taken-plain (Answer.Refused n) e = clash e refl

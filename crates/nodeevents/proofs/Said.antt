@@ -16,10 +16,12 @@ use Rattle.sets.specs.Sets.{has, with}
 use Rattle.sets.proofs.Laws.{has-below, has-with-same, has-with-other, has-none, has-without-same, has-without-other, still}
 use Rattle.chunks.specs.Chunk.{there, dirty, cleared, markedFor}
 use Rattle.chunks.proofs.Laws.{dirty-lt}
-use Rattle.maps.specs.Map.{sound, zeroed, rowsKept, zeroRow, orIn}
+use Rattle.maps.specs.Map.{sound, cleanFrom, zeroed, rowsKept, zeroRow, orIn}
 use Rattle.maps.proofs.Chunks.{same, same-yes, same-no, hit-yes, hit-no, dirty-markedFor, dirty-cleared, dirty-or}
 use Rattle.maps.proofs.Sound.{Sound, sound-fact, sound-cleared, sound-markedFor, sound-or, sound-kept, sound-zeroRow}
 use Rattle.maps.proofs.Rows.{copied-all, zeroed-all}
+use Rattle.parts.specs.Parts.{orPart}
+use Rattle.parts.proofs.Joined.{part-in, part-before, part-past, sound-part}
 use Rattle.state.specs.declared.Op.{Op}
 use Rattle.nodestate.specs.declared.State.{State}
 use Rattle.nodestate.specs.declared.OnMap.{OnMap}
@@ -37,24 +39,25 @@ use Rattle.nodeenables.specs.Enable.{enabled, disabled}
 use Rattle.nodewrites.specs.Write.{writeRefusal, written}
 use Rattle.nodewrites.specs.Info.{informed}
 use Rattle.nodeserve.specs.Serve.{readied}
-use Rattle.nodehand.specs.Hand.{mapTaken, committed}
+use Rattle.nodehand.specs.Hand.{takePartRefusal, partTaken, committed}
+use Rattle.nodehand.proofs.Keeps.{takePart-passed}
 use Rattle.nodemaps.specs.Carry.{mapAfter, stagingAfter, takenIn}
 use Rattle.nodemaps.proofs.Bytes.{past-end, kept-in, kept-out, zeroed-in, zeroed-out}
 use Rattle.nodemaps.proofs.Sound.{sound-map}
 use Rattle.nodemaps.proofs.Rows.{dirty-nowhere, keptIn, kept-yes, kept-no, due, lastIos-chunk}
 use Rattle.nodewrites.proofs.Keeps.{write-chunk}
-use Rattle.node.specs.Events.{Event, third}
-use Rattle.node.specs.Face.{answers, lentTo, soundThird, mapBy, stagingBy, stagingWith}
+use Rattle.node.specs.Events.{Event, partIn}
+use Rattle.node.specs.Face.{answers, lentTo, mapBy, stagingBy, stagingWith}
 use Rattle.node.specs.Held.{Held}
 use Rattle.node.proofs.Theorems.{law, Accepted, accepted-done}
-use Rattle.nodeevents.specs.Said.{Accepts, Zeroed, Rows, Marked, Cleared, Ored, keptChunks, AmongKept, LastIos, saidOf, StagingAsSaid, TransferAsSaid, In, MapAsSaid, lastSixteen, KeptAsSaid}
+use Rattle.nodeevents.specs.Said.{Accepts, Zeroed, Rows, Marked, Cleared, PartOred, Ored, keptChunks, AmongKept, LastIos, saidOf, StagingAsSaid, TransferAsSaid, In, MapAsSaid, lastSixteen, KeptAsSaid}
 use Rattle.nodeevents.proofs.Demand2.{taken-plain}
 
 -- ---- an accepted event
 
 -- the turn that it does
 abbrev doneAt : Event → Held → Turn
-doneAt e w = law e (w .at .node) (lentTo (third e) (w .at .node) (w .map) (w .staging)) .done
+doneAt e w = law e (w .at .node) (lentTo (w .at .node) (w .map) (w .staging)) .done
 
 abbrev pub Known : Event → Held → Type 0
 Known e w = Accepted e (w .at) (w .map) (w .staging)
@@ -63,17 +66,11 @@ pub known : (e : Event) (w : Held) → Accepts e w → Known e w
 known e w a = accepted-done e (w .at) (w .map) (w .staging) (taken-plain (answers e (w .at) (w .map) (w .staging) .answer) a)
 
 module _ (e : Event) (w : Held) (d : Known e w) where
-  pub third-sound : soundThird (w .at .node .chunks) (third e) ≡ true
-  third-sound = and-left (soundThird (w .at .node .chunks) (third e)) _ (d .sure)
-
-  both-sound : (sound (w .at .node .chunks) (w .map) && sound (w .at .node .chunks) (w .staging)) ≡ true
-  both-sound = and-right (soundThird (w .at .node .chunks) (third e)) _ (d .sure)
-
   map-sound : Sound (w .at .node .chunks) (w .map)
-  map-sound = sound-fact _ _ (and-left (sound (w .at .node .chunks) (w .map)) _ both-sound)
+  map-sound = sound-fact _ _ (and-left (sound (w .at .node .chunks) (w .map)) _ (d .sure))
 
-  pub staging-sound : Sound (w .at .node .chunks) (w .staging)
-  staging-sound = sound-fact _ _ (and-right (sound (w .at .node .chunks) (w .map)) _ both-sound)
+  staging-sound : Sound (w .at .node .chunks) (w .staging)
+  staging-sound = sound-fact _ _ (and-right (sound (w .at .node .chunks) (w .map)) _ (d .sure))
 
 -- ---- what becomes of a map
 
@@ -157,7 +154,24 @@ module _ (n : ℕ) (xs : List ℕ) (s : Sound n xs) where
       nothing : (m c : ℕ) → there member chunk ≡ false → dirty (cleared xs member chunk) m c ≡ dirty xs m c
       nothing m c t = unfold cleared in rw t refl
 
-  ors : (zs : List ℕ) → Sound n zs → Ored xs zs (orIn xs zs)
+  part-ors : (offset : ℕ) (part : List ℕ) → cleanFrom n offset part ≡ true → offset + length part ≤ 8192 → PartOred offset part xs (orPart offset part xs)
+  part-ors offset part c h =
+      record {
+        size = sound-part n offset part xs c s .len;
+        those = λ k a b. part-in offset part xs k (omega (arith, s .len)) a b;
+        others = λ k d. elim (decLt k 8192) [
+          | yes l ↦ elim (decLt k offset) [
+            | yes p ↦ part-before offset part xs k (omega (arith, s .len)) p
+            | no g ↦ elim (decLt k (offset + length part)) [
+              | yes q ↦ absurd (d (omega arith, q))
+              | no r ↦ part-past offset part xs k (omega (arith, s .len)) (omega arith)
+            ]
+          ]
+          | no l ↦ past-end (orPart offset part xs) k (sound-part n offset part xs c s .len) (omega arith) ∙ sym (past-end xs k (s .len) (omega arith))
+        ];
+      }
+
+  pub ors : (zs : List ℕ) → Sound n zs → Ored xs zs (orIn xs zs)
   ors zs r =
       record {
         size = sound-or n xs zs s r .len;
@@ -263,27 +277,26 @@ is-no-io State.NoIo e = refl
 
 in-no-io : (n : Node) → Valid n → inHand (n .transfer) ≡ true → n .state ≡ State.NoIo
 in-no-io n v h =
-    is-no-io (n .state) (given _ _ (at-node (λ s store create t own. gives (standing s store create t own && inHand t) (isNoIo s)) refl n) (and-both (v .stand) h))
+    is-no-io (n .state) (given _ _ (at-node (λ s store create hand own. gives (standing s store create hand own && hand) (isNoIo s)) refl n) (and-both (v .stand) h))
 
 none-else : (n : Node) → Valid n → n .state ≢ State.NoIo → Transfer.Nothing ≡ n .transfer
 none-else n v d = at (n .transfer) refl
   where
     at : (t : Transfer) → n .transfer ≡ t → Transfer.Nothing ≡ n .transfer
     at Transfer.Nothing e = sym e
-    at Transfer.Ready e = absurd (d (in-no-io n v (ap inHand e)))
-    at Transfer.Taken e = absurd (d (in-no-io n v (ap inHand e)))
+    at (Transfer.InHand bytes) e = absurd (d (in-no-io n v (ap inHand e)))
 
 -- ---- every event
 
 -- what is left of an accepted event's node is as said
 record Done (e : Event) (w : Held) : Type 0 where
-  staging : saidOf e w .staging (stagingWith (third e) (doneAt e w .effect .staging) (stagingBy (doneAt e w) (w .map) (w .staging)))
+  staging : saidOf e w .staging (stagingWith (partIn e) (doneAt e w .effect .staging) (stagingBy (doneAt e w) (w .map) (w .staging)))
   transfer : saidOf e w .transfer (doneAt e w .node .transfer)
   map : saidOf e w .map (mapBy (doneAt e w) (w .map) (w .staging))
   kept : length (w .at .node .kept) ≡ 16 → saidOf e w .kept (keptChunks (doneAt e w .node))
 
 done : (e : Event) (w : Held) → Known e w → Done e w
-unfolding law stagingBy mapBy stagingAfter mapAfter takenIn wentTo equipped takenOver memberEntered memberDropped storedVersion keptChunk forgotten transferred endedTransfer instructed registeredCreate registeredAdd unregistered wiped joinedCreate left enabled disabled informed readied mapTaken committed written writeRefusal
+unfolding law stagingBy mapBy stagingAfter mapAfter takenIn wentTo equipped takenOver memberEntered memberDropped storedVersion keptChunk forgotten transferred endedTransfer instructed registeredCreate registeredAdd unregistered wiped joinedCreate left enabled disabled informed readied partTaken committed written takePartRefusal writeRefusal
 done Event.registerCreate w d =
     record {
       staging = refl;
@@ -365,7 +378,7 @@ done (Event.write chunk set version) w d =
     record {
       staging = refl;
       transfer = refl;
-      map = marks (w .at .node .chunks) (w .map) (map-sound (Event.write chunk set version) w d) set chunk (ltb-true _ _ (write-chunk (w .at .node) (lentTo (third (Event.write chunk set version)) (w .at .node) (w .map) (w .staging)) chunk set version (d .none))) (d .rules .few);
+      map = marks (w .at .node .chunks) (w .map) (map-sound (Event.write chunk set version) w d) set chunk (ltb-true _ _ (write-chunk (w .at .node) (lentTo (w .at .node) (w .map) (w .staging)) chunk set version (d .none))) (d .rules .few);
       kept = λ h. one-more (w .at .node .kept) (w .at .node .held) chunk h (few-held (w .at .node) (d .rules));
     }
 done (Event.synced member chunk) w d =
@@ -417,16 +430,19 @@ done (Event.mapReady false) w d =
       map = refl;
       kept = λ h. refl;
     }
-done Event.give w d =
+done (Event.givePart offset size) w d =
     record {
       staging = refl;
       transfer = refl;
       map = refl;
       kept = λ h. refl;
     }
-done (Event.take zs) w d =
+done (Event.takePart offset part) w d =
     record {
-      staging = ors (w .at .node .chunks) (w .staging) (staging-sound (Event.take zs) w d) zs (sound-fact _ _ (third-sound (Event.take zs) w d));
+      staging =
+          let e : Event = Event.takePart offset part in
+          let p = takePart-passed (w .at .node) (lentTo (w .at .node) (w .map) (w .staging)) offset (length part) _ (d .none) .1 in
+          part-ors (w .at .node .chunks) (w .staging) (staging-sound e w d) offset part (p .pure) (p .part .within);
       transfer = refl;
       map = refl;
       kept = λ h. refl;
@@ -468,7 +484,7 @@ done (Event.lastIoToMap chosen) w d =
 pub staging-as-said : StagingAsSaid
 staging-as-said e w a =
     let d = known e w a in
-    subst (λ (t : Turn). saidOf e w .staging (stagingWith (third e) (t .effect .staging) (stagingBy t (w .map) (w .staging)))) (sym (d .turn)) (done e w d .staging)
+    subst (λ (t : Turn). saidOf e w .staging (stagingWith (partIn e) (t .effect .staging) (stagingBy t (w .map) (w .staging)))) (sym (d .turn)) (done e w d .staging)
 
 pub transfer-as-said : TransferAsSaid
 transfer-as-said e w a = let d = known e w a in subst (λ (t : Turn). saidOf e w .transfer (t .node .transfer)) (sym (d .turn)) (done e w d .transfer)

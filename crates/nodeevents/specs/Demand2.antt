@@ -10,8 +10,8 @@ use Rattle.nodestate.specs.declared.Answer.{Answer}
 use Rattle.nodestate.specs.StateRules.{valid}
 use Rattle.nodestate.specs.Table.{legal}
 use Rattle.node.specs.declared.StorageNode.{StorageNode}
-use Rattle.node.specs.Events.{Event, kindOf, third}
-use Rattle.node.specs.Face.{freshNode, soundThird, answers, mapLeft, stagingLeft}
+use Rattle.node.specs.Events.{Event, kindOf}
+use Rattle.node.specs.Face.{freshNode, answers, mapLeft, stagingLeft}
 use Rattle.nodeevents.specs.Demand1.{isAccepted}
 
 -- A node with its map and staging is reached if it is a fresh one of any id, with 1 to 4,096 chunks and two sound maps, or what an event left of a reached one:
@@ -30,10 +30,9 @@ RulesKept = (s : StorageNode) (xs ys : List ℕ) → Reached s xs ys
 abbrev pub NeverOne : Type 0
 NeverOne = (s : StorageNode) (xs ys : List ℕ) → Reached s xs ys → (e : Event) (n : ℕ) → answers e s xs ys .answer ≡ Answer.Refused n → n ≢ 1
 
--- Nor is refusal 2, unless a map that is lent to be taken is unsound.
+-- Nor is refusal 2.
 abbrev pub NeverTwo : Type 0
-NeverTwo = (s : StorageNode) (xs ys : List ℕ) → Reached s xs ys → (e : Event) (n : ℕ) → soundThird (s .node .chunks) (third e) ≡ true
-    → answers e s xs ys .answer ≡ Answer.Refused n → n ≢ 2
+NeverTwo = (s : StorageNode) (xs ys : List ℕ) → Reached s xs ys → (e : Event) (n : ℕ) → answers e s xs ys .answer ≡ Answer.Refused n → n ≢ 2
 
 -- Every accepted event at a reached node changes its state only along source document 003's table.
 abbrev pub ByTheTable : Type 0

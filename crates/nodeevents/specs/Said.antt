@@ -4,10 +4,11 @@ use mathlib.Core.Path.{_≡_}
 use mathlib.Core.Logic.{_≢_}
 use mathlib.Core.Bool.{Bool, true, false}
 use mathlib.Core.List.{List, [], _∷_, _++_}
-use Prim.Native.Nat.{ℕ, _-_, _/_, _≤_, _<_, max}
+use Prim.Native.Nat.{ℕ, _+_, _-_, _*_, _/_, _%_, _≤_, _<_, max}
+use lib.Bits.{bitOr}
 use lib.ListN.{length, getD, drop, replicate}
-use Rattle.laws.specs.Words.{pick}
-use Rattle.refusals.specs.Limits.{versionLimit}
+use Rattle.laws.specs.Words.{pick, bit}
+use Rattle.refusals.specs.Limits.{mapBytes, versionLimit}
 use Rattle.sets.specs.Sets.{has}
 use Rattle.chunks.specs.Chunk.{dirty}
 use Rattle.maps.specs.Map.{sound}
@@ -19,7 +20,8 @@ use Rattle.nodestate.specs.States.{isServing}
 use Rattle.nodestate.specs.StateRules.{valid}
 use Rattle.node.specs.Events.{Event}
 use Rattle.node.specs.Face.{answers}
-use Rattle.node.specs.Held.{Held, next}
+use Rattle.node.specs.Held.{Held, next, after}
+use Rattle.node.specs.Cuts.{sized, total, Cuts, takes}
 use Rattle.nodeevents.specs.Demand1.{isAccepted}
 
 -- the event is accepted
@@ -49,6 +51,12 @@ pub record Cleared (member chunk : ℕ) (from left : List ℕ) : Type 0 where
   pub size : length left ≡ 8192
   pub that : dirty left member chunk ≡ 0
   pub others : (m c : ℕ) → ¬ ((m ≡ member) × (c ≡ chunk)) → dirty left m c ≡ dirty from m c
+
+-- a part is ORed in from an offset on, byte for byte, and every other byte is as it was
+pub record PartOred (offset : ℕ) (part from left : List ℕ) : Type 0 where
+  pub size : length left ≡ 8192
+  pub those : (k : ℕ) → offset ≤ k → k < offset + length part → getD left k 0 ≡ bitOr (getD from k 0) (getD part (k - offset) 0)
+  pub others : (k : ℕ) → ¬ ((offset ≤ k) × (k < offset + length part)) → getD left k 0 ≡ getD from k 0
 
 -- a second map is ORed in: a bit is set where it is in either
 pub record Ored (from second left : List ℕ) : Type 0 where
@@ -120,7 +128,7 @@ lastSixteen xs = drop (length xs - 16) xs
 -- Register create: "map zeroed", "kept chunks gone"; add: "map kept". Unregister: "delete zeroes map"; "NO_IO with store stays, without it, staging dropped". Join create: "other
 -- rows zeroed". Leave: "staging dropped; delete zeroes the other rows, never its own". "A write marks", and "keeps the last 16 chunk numbers". POOL_INFO: "add-create enters a
 -- member with a zero row", "remove-delete zeroes row"; add-assemble and remove-disassemble name no byte. "MAP_READY .. fills staging (zero, or the map)", and a transfer begins,
--- also where one is in hand. "Taking a map ORs it in." "MAP_DONE commits." "Enable 1 and MAP_DONE .. zero rows outside it." "MAP_DISABLE, Leave and Enable drop staging; dropped or
+-- also where one is in hand, at byte 0. "Taking a map ORs it in", part by part. "MAP_DONE commits." "Enable 1 and MAP_DONE .. zero rows outside it." "MAP_DISABLE, Leave and Enable drop staging; dropped or
 -- committed, it is zeroed."
 abbrev pub saidOf : Event → Held → Sentence
 saidOf Event.registerCreate w = record { staging = StagingStays w; transfer = TransferStays w; map = Zeroed; kept = λ left. left ≡ [] }
@@ -159,9 +167,9 @@ saidOf (Event.poolInfo op member) w =
       map = λ left. pick (zeroesRow op) (Rows (λ m. m ≢ member) (w .map) left) (left ≡ w .map);
       kept = KeptStays w;
     }
-saidOf (Event.mapReady keep) w = record { staging = λ left. pick keep (left ≡ w .map) (Zeroed left); transfer = λ left. left ≡ Transfer.Ready; map = MapStays w; kept = KeptStays w }
-saidOf Event.give w = record { staging = StagingStays w; transfer = TransferStays w; map = MapStays w; kept = KeptStays w }
-saidOf (Event.take zs) w = record { staging = Ored (w .staging) zs; transfer = λ left. left ≡ Transfer.Taken; map = MapStays w; kept = KeptStays w }
+saidOf (Event.mapReady keep) w = record { staging = λ left. pick keep (left ≡ w .map) (Zeroed left); transfer = λ left. left ≡ Transfer.InHand 0; map = MapStays w; kept = KeptStays w }
+saidOf (Event.givePart offset size) w = record { staging = StagingStays w; transfer = TransferStays w; map = MapStays w; kept = KeptStays w }
+saidOf (Event.takePart offset part) w = record { staging = PartOred offset part (w .staging); transfer = λ left. left ≡ Transfer.InHand (offset + length part); map = MapStays w; kept = KeptStays w }
 saidOf (Event.mapDone enabling version set) w = record { staging = Zeroed; transfer = Gone; map = Rows (In set) (w .staging); kept = KeptStays w }
 saidOf Event.mapDisable w = record { staging = Zeroed; transfer = Gone; map = MapStays w; kept = KeptStays w }
 saidOf Event.mapGetVer w = record { staging = StagingStays w; transfer = TransferStays w; map = MapStays w; kept = KeptStays w }
@@ -180,24 +188,101 @@ MapAsSaid = (e : Event) (w : Held) → Accepts e w → saidOf e w .map (next e w
 abbrev pub KeptAsSaid : Type 0
 KeptAsSaid = (e : Event) (w : Held) → length (w .at .node .kept) ≡ 16 → Accepts e w → saidOf e w .kept (keptChunks (next e w .at .node))
 
--- ---- a map received: MAP_READY, a map zs taken, MAP_DONE, one right after the other
+-- ---- which parts are taken and given
+
+-- A part that is taken has 1 to 1,024 bytes, starts where the last ended, ends within the map, and none of its bits is past the chunk count: byte i of it is byte offset + i of the
+-- map, bit j of that byte stands for chunk 8 * ((offset + i) % 512) + j.
+pub record TakenPart (offset : ℕ) (part : List ℕ) (n : Node) : Type 0 where
+  pub some : 1 ≤ length part
+  pub few : length part ≤ 1024
+  pub here : n .transfer ≡ Transfer.InHand offset
+  pub within : offset + length part ≤ 8192
+  pub none : (i j : ℕ) → i < length part → n .chunks ≤ 8 * ((offset + i) % 512) + j → bit (getD part i 0) j ≡ 0
+
+abbrev pub OnlyParts : Type 0
+OnlyParts = (offset : ℕ) (part : List ℕ) (w : Held) → Accepts (Event.takePart offset part) w → TakenPart offset part (w .at .node)
+
+-- A part that is given has 1 to 1,024 bytes, all of them the map's.
+abbrev pub OnlyGiven : Type 0
+OnlyGiven = (offset size : ℕ) (w : Held) → Accepts (Event.givePart offset size) w → (1 ≤ size) × (size ≤ 1024) × (offset + size ≤ 8192)
+
+-- A part that is not taken changes nothing: the transfer stays in hand where it was.
+abbrev pub RefusedPart : Type 0
+RefusedPart = (offset : ℕ) (part : List ℕ) (w : Held) → isAccepted (answers (Event.takePart offset part) (w .at) (w .map) (w .staging) .answer) ≡ false
+    → next (Event.takePart offset part) w ≡ w
+
+-- ---- a map received: MAP_READY, consecutive parts of a map zs, MAP_DONE, one right after the other
 
 abbrev pub ready : Bool → Held → Held
 ready keep w = next (Event.mapReady keep) w
 
-abbrev pub took : Bool → List ℕ → Held → Held
-took keep zs w = next (Event.take zs) (ready keep w)
+-- the parts have these lengths
+abbrev pub took : Bool → List ℕ → List ℕ → Held → Held
+took keep zs lengths w = after (takes zs 0 lengths) (ready keep w)
 
--- all three are accepted
-pub record Received (keep : Bool) (zs : List ℕ) (enabling : Bool) (version set : ℕ) (w : Held) : Type 0 where
+-- each event is accepted where those before it left the node
+abbrev pub AllAccepted : List Event → Held → Type 0
+AllAccepted [] w = Unit {0}
+AllAccepted (e ∷ es) w = Accepts e w × AllAccepted es (next e w)
+
+-- a node that can receive: it keeps its state rules, has two sound maps and serves (and its array has its sixteen places)
+pub record Able (w : Held) : Type 0 where
+  pub size : length (w .at .node .kept) ≡ 16
+  pub rules : valid (w .at .node) ≡ true
+  pub map : sound (w .at .node .chunks) (w .map) ≡ true
+  pub staging : sound (w .at .node .chunks) (w .staging) ≡ true
+  pub serves : isServing (w .at .node) ≡ true
+
+-- It gives any part of its map.
+abbrev pub GivesParts : Type 0
+GivesParts = (offset size : ℕ) (w : Held) → Able w → 1 ≤ size → size ≤ 1024 → offset + size ≤ 8192 → Accepts (Event.givePart offset size) w
+
+-- the bytes of zs below n have come: they are ORed in, and every other byte is as it was
+pub record Came (n : ℕ) (zs from left : List ℕ) : Type 0 where
+  pub size : length left ≡ 8192
+  pub those : (k : ℕ) → k < n → getD left k 0 ≡ bitOr (getD from k 0) (getD zs k 0)
+  pub others : (k : ℕ) → n ≤ k → getD left k 0 ≡ getD from k 0
+
+pub record Took (keep : Bool) (zs lengths : List ℕ) (w : Held) : Type 0 where
   pub readies : Accepts (Event.mapReady keep) w
-  pub takes : Accepts (Event.take zs) (ready keep w)
-  pub commits : Accepts (Event.mapDone enabling version set) (took keep zs w)
+  pub takes : AllAccepted (takes zs 0 lengths) (ready keep w)
+  pub transfer : took keep zs lengths w .at .node .transfer ≡ Transfer.InHand (total lengths)
+  pub staging : Came (total lengths) zs (ready keep w .staging) (took keep zs lengths w .staging)
+
+-- After MAP_READY any list of consecutive parts of a sound map, 1 to 1,024 bytes each, is accepted, also one that is cut short. Staging is then the OR with the bytes
+-- that came, and every other byte of it is as MAP_READY left it.
+abbrev pub PartsTaken : Type 0
+PartsTaken = (keep : Bool) (zs lengths : List ℕ) (w : Held) → Able w → sound (w .at .node .chunks) zs ≡ true → sized lengths ≡ true → total lengths ≤ mapBytes
+    → Took keep zs lengths w
+
+-- Wherever the cuts fall, staging ends as if the map had come whole: ORed in.
+abbrev pub PartsAsWhole : Type 0
+PartsAsWhole = (keep : Bool) (zs lengths : List ℕ) (w : Held) → Able w → sound (w .at .node .chunks) zs ≡ true → Cuts lengths
+    → Ored (ready keep w .staging) zs (took keep zs lengths w .staging)
+
+-- So it does not matter where they fall: state, map and staging are the same.
+abbrev pub AnyCuts : Type 0
+AnyCuts = (keep : Bool) (zs lengths lengths′ : List ℕ) (w : Held) → Able w → sound (w .at .node .chunks) zs ≡ true → Cuts lengths → Cuts lengths′
+    → took keep zs lengths w ≡ took keep zs lengths′ w
+
+-- Then MAP_DONE, for an enabling version and set.
+
+abbrev pub received : Bool → List ℕ → List ℕ → Bool → ℕ → ℕ → Held → List ℕ
+received keep zs lengths enabling version set w = next (Event.mapDone enabling version set) (took keep zs lengths w) .map
+
+-- It is accepted too, if set and version are such as it takes.
+abbrev pub Receives : Type 0
+Receives = (keep : Bool) (zs lengths : List ℕ) (enabling : Bool) (version set : ℕ) (w : Held) → Able w → sound (w .at .node .chunks) zs ≡ true → Cuts lengths
+    → set ≤ 65535
+    → has set (w .at .node .id) ≡ true
+    → version ≤ versionLimit
+    → Accepts (Event.mapDone enabling version set) (took keep zs lengths w)
 
 -- Start empty: what the receiver held is gone. The map left is the map taken, in the rows of the set, byte for byte, and zero elsewhere.
 abbrev pub OldMarksGone : Type 0
-OldMarksGone = (zs : List ℕ) (enabling : Bool) (version set : ℕ) (w : Held) → Received false zs enabling version set w
-    → Rows (In set) zs (next (Event.mapDone enabling version set) (took false zs w) .map)
+OldMarksGone = (zs lengths : List ℕ) (enabling : Bool) (version set : ℕ) (w : Held) → Able w → sound (w .at .node .chunks) zs ≡ true → Cuts lengths
+    → Accepts (Event.mapDone enabling version set) (took false zs lengths w)
+    → Rows (In set) zs (received false zs lengths enabling version set w)
 
 -- Start from what it holds: in the rows of the set the map left is the OR of what it held and the map taken, and zero elsewhere.
 pub record Gathered (set : ℕ) (from second left : List ℕ) : Type 0 where
@@ -206,20 +291,10 @@ pub record Gathered (set : ℕ) (from second left : List ℕ) : Type 0 where
   pub others : (k : ℕ) → ¬ (In set (k / 512)) → getD left k 0 ≡ 0
 
 abbrev pub OldMarksKept : Type 0
-OldMarksKept = (zs : List ℕ) (enabling : Bool) (version set : ℕ) (w : Held) → Received true zs enabling version set w
-    → Gathered set (w .map) zs (next (Event.mapDone enabling version set) (took true zs w) .map)
+OldMarksKept = (zs lengths : List ℕ) (enabling : Bool) (version set : ℕ) (w : Held) → Able w → sound (w .at .node .chunks) zs ≡ true → Cuts lengths
+    → Accepts (Event.mapDone enabling version set) (took true zs lengths w)
+    → Gathered set (w .map) zs (received true zs lengths enabling version set w)
 
--- All three are accepted at a node that keeps its state rules, has two sound maps and serves, if the map taken is sound, and set and version are such as MAP_DONE
--- takes: so the two theorems above have instances, at every such node.
-abbrev pub Receives : Type 0
-Receives = (keep : Bool) (zs : List ℕ) (enabling : Bool) (version set : ℕ) (w : Held)
-    → length (w .at .node .kept) ≡ 16
-    → valid (w .at .node) ≡ true
-    → sound (w .at .node .chunks) (w .map) ≡ true
-    → sound (w .at .node .chunks) (w .staging) ≡ true
-    → isServing (w .at .node) ≡ true
-    → sound (w .at .node .chunks) zs ≡ true
-    → set ≤ 65535
-    → has set (w .at .node .id) ≡ true
-    → version ≤ versionLimit
-    → Received keep zs enabling version set w
+-- Before byte 8,192 MAP_DONE is refused, with 15 at the latest.
+abbrev pub NotBefore : Type 0
+NotBefore = (enabling : Bool) (version set : ℕ) (w : Held) → Accepts (Event.mapDone enabling version set) w → w .at .node .transfer ≡ Transfer.InHand mapBytes

@@ -1,12 +1,12 @@
--- The transfer in hand: taking a map, MAP_DONE, MAP_DISABLE; with nothing in hand they give 15, never 9. `lent` is the number that the
--- lent maps refuse with, the one that is taken with them.
-use mathlib.Core.Bool.{Bool, true, false, not, _||_}
+-- The transfer in hand: taking a part of a map, MAP_DONE, MAP_DISABLE; with nothing in hand they give 15, never 9. `lent` is the number that the lent maps refuse with.
+use mathlib.Core.Bool.{Bool, true, false, not, _&&_, _||_}
 use mathlib.Core.List.{List, [], _∷_}
-use Prim.Native.Nat.{ℕ}
-use lib.Dec.{ltb}
+use Prim.Native.Nat.{ℕ, _+_}
+use lib.Dec.{eqb, ltb}
 use Rattle.refusals.specs.Limits.{versionLimit}
 use Rattle.refusals.specs.Refusals.{Test, test, refusal}
 use Rattle.sets.specs.Sets.{has}
+use Rattle.parts.specs.Parts.{isPart}
 use Rattle.nodestate.specs.declared.State.{State}
 use Rattle.nodestate.specs.declared.Transfer.{Transfer}
 use Rattle.nodestate.specs.declared.OnMap.{OnMap}
@@ -14,7 +14,7 @@ use Rattle.nodestate.specs.declared.OnStaging.{OnStaging}
 use Rattle.nodestate.specs.declared.Answer.{Answer}
 use Rattle.nodestate.specs.declared.Node.{Node}
 use Rattle.nodestate.specs.declared.Turn.{Turn}
-use Rattle.nodestate.specs.States.{inHand, isMapTaken}
+use Rattle.nodestate.specs.States.{inHand, taken, isWhole}
 use Rattle.nodestate.specs.Change.{wentTo, transferred, endedTransfer, instructed}
 use Rattle.nodestate.specs.Turns.{commonTests, does, turn, settled}
 
@@ -25,15 +25,28 @@ handTests n lent =
 unfoldable pub handRefusal : Node → ℕ → ℕ
 handRefusal n lent = refusal (handTests n lent)
 
--- ---- taking a map ORs it in
+-- ---- taking a part ORs it in at its offset
 
-unfoldable pub mapTaken : Node → Node
-mapTaken n = transferred n Transfer.Taken
+-- the part comes next: there is such a part, it starts where the last ended, and no bit of it is past the chunk count (clean)
+abbrev pub isNext : Node → ℕ → ℕ → Bool → Bool
+isNext n offset length clean = isPart offset length && (eqb offset (taken (n .transfer)) && clean)
 
-unfoldable pub take : Node → ℕ → Turn
-take n lent = settled (handRefusal n lent) n (turn Answer.Done (mapTaken n) (does OnMap.Keep OnStaging.Or))
+abbrev pub takePartTests : Node → ℕ → ℕ → ℕ → Bool → List Test
+takePartTests n lent offset length clean =
+    commonTests n lent (test 3 (ltb 15 (n .id)) ∷ test 15 (not (inHand (n .transfer))) ∷ test 16 (not (isNext n offset length clean)) ∷ [])
 
--- ---- MAP_DONE (enabling or not, version, set holding itself): commits, NORMAL if enabling; version and set stored, rows outside the set zeroed
+unfoldable pub takePartRefusal : Node → ℕ → ℕ → ℕ → Bool → ℕ
+takePartRefusal n lent offset length clean = refusal (takePartTests n lent offset length clean)
+
+-- the bytes up to the part's end were taken
+unfoldable pub partTaken : Node → ℕ → ℕ → Node
+partTaken n offset length = transferred n (Transfer.InHand (offset + length))
+
+unfoldable pub takePart : Node → ℕ → ℕ → ℕ → Bool → Turn
+takePart n lent offset length clean =
+    settled (takePartRefusal n lent offset length clean) n (turn Answer.Done (partTaken n offset length) (does OnMap.Keep (OnStaging.Or offset)))
+
+-- ---- MAP_DONE (enabling or not, version, set holding itself): 15 until the whole map was taken; commits, NORMAL if enabling; version and set stored, rows outside the set zeroed
 
 abbrev pub mapDoneTests : Node → ℕ → ℕ → ℕ → List Test
 mapDoneTests n lent version set =
@@ -41,7 +54,7 @@ mapDoneTests n lent version set =
     (test 3 (ltb 15 (n .id) || ltb 65535 set)
     ∷ test 10 (not (has set (n .id)))
     ∷ test 14 (ltb versionLimit version)
-    ∷ test 15 (not (isMapTaken (n .transfer)))
+    ∷ test 15 (not (isWhole (n .transfer)))
     ∷ [])
 
 unfoldable pub mapDoneRefusal : Node → ℕ → ℕ → ℕ → ℕ

@@ -1,6 +1,7 @@
-// Taking a map, MAP_DONE, MAP_DISABLE.
+// Taking a part of a map, MAP_DONE, MAP_DISABLE.
 ghost use mathlib.Core.Path.{_≡_};
-ghost use Rattle.nodehand.specs.Hand.{handRefusal, mapTaken, take, mapDoneRefusal, doneTo, committed, mapDone, mapDisable};
+ghost use Prim.Native.Nat.{_+_, _≤_};
+ghost use Rattle.nodehand.specs.Hand.{handRefusal, isNext, takePartRefusal, partTaken, takePart, mapDoneRefusal, doneTo, committed, mapDone, mapDisable};
 use nodestate::Answer;
 use nodestate::Node;
 use nodestate::OnMap;
@@ -13,7 +14,7 @@ use nodestate::states;
 use nodestate::turns;
 use refusals::first;
 
-// What refuses taking a map and MAP_DISABLE.
+// What refuses MAP_DISABLE.
 fn hand_refusal(n: Node, lent: u64) -> u64
     ensures { λ r. ⌜ r ≡ handRefusal n lent ⌝ }
 {
@@ -22,28 +23,53 @@ fn hand_refusal(n: Node, lent: u64) -> u64
     turns::common(n, lent, first(15 < n.id, 3, first(!ready, 15, 0)))
 }
 
-// A map is taken: it is ORed into staging.
-pub fn take(n: Node, lent: u64) -> Turn
-    ensures { λ r. ⌜ r ≡ take n lent ⌝ }
+// Whether a part comes next: there is such a part, it starts where the last ended, and no bit of it is past the chunk count.
+fn is_next(n: Node, offset: u64, length: u64, clean: bool) -> bool
+    ensures { λ r. ⌜ r ≡ isNext n offset length clean ⌝ }
 {
-    let why = hand_refusal(n, lent);
-    let next = map_taken(n);
-    let effect = turns::does(OnMap::Keep, OnStaging::Or);
-    let done = turns::turn(Answer::Done, next, effect);
-    turns::settled(why, n, done)
+    let t = n.transfer;
+    let here = offset == states::taken(t);
+    parts::is_part(offset, length) & (here & clean)
 }
 
-fn map_taken(n: Node) -> Node
-    ensures { λ r. ⌜ r ≡ mapTaken n ⌝ }
+fn take_part_refusal(n: Node, lent: u64, offset: u64, length: u64, clean: bool) -> u64
+    ensures { λ r. ⌜ r ≡ takePartRefusal n lent offset length clean ⌝ }
 {
-    change::transferred(n, Transfer::Taken)
+    let t = n.transfer;
+    let ready = states::in_hand(t);
+    let next = is_next(n, offset, length, clean);
+    turns::common(
+        n,
+        lent,
+        first(15 < n.id, 3, first(!ready, 15, first(!next, 16, 0))),
+    )
+}
+
+// A part is taken: it is ORed into staging.
+pub fn take_part(n: Node, lent: u64, offset: u64, length: u64, clean: bool) -> Turn
+    ensures { λ r. ⌜ r ≡ takePart n lent offset length clean ⌝ }
+{
+    let why = take_part_refusal(n, lent, offset, length, clean);
+    if why != 0 {
+        return turns::refused(why, n);
+    }
+    let next = part_taken(n, offset, length);
+    let effect = turns::does(OnMap::Keep, OnStaging::Or(offset));
+    turns::turn(Answer::Done, next, effect)
+}
+
+fn part_taken(n: Node, offset: u64, length: u64) -> Node
+    requires { ⌜ offset + length ≤ 8192 ⌝ }
+    ensures { λ r. ⌜ r ≡ partTaken n offset length ⌝ }
+{
+    change::transferred(n, Transfer::InHand(offset + length))
 }
 
 fn map_done_refusal(n: Node, lent: u64, version: u64, set: u64) -> u64
     ensures { λ r. ⌜ r ≡ mapDoneRefusal n lent version set ⌝ }
 {
     let t = n.transfer;
-    let full = states::is_map_taken(t);
+    let full = states::is_whole(t);
     let own = sets::has(set, n.id);
     let ids = (15 < n.id) | (65535 < set);
     let high = refusals::VERSION_LIMIT < version;

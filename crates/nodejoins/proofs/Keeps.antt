@@ -11,7 +11,6 @@ use Rattle.refusals.specs.Refusals.{Test}
 use Rattle.sets.proofs.Laws.{has-with-same, with-lt}
 use Rattle.order.proofs.Order.{none-applies}
 use Rattle.nodestate.specs.declared.State.{State}
-use Rattle.nodestate.specs.declared.Transfer.{Transfer}
 use Rattle.nodestate.specs.declared.Node.{Node}
 use Rattle.nodestate.specs.States.{isRegistered, isJoined}
 use Rattle.nodestate.specs.Change.{wentTo, equipped, takenOver, transferred, endedTransfer}
@@ -38,8 +37,8 @@ joinCreate-keeps n lent set e =
     let ts : List Test = joinCreateTests n lent set in
     let l : set ≤ 65535 = ltb-false 65535 set (or-false (ltb 15 (n .id)) (ltb 65535 set) (none-applies ts e 3 refl) .1) in
     record {
-      rules = valid-of (joinedCreate n set) (record { some = v .some; few = v .few; stand = rw (has-with-same set (n .id) (p .own)) (given _ _ (at-node (λ s store create t own. gives (standing s store create t own && (isRegistered s && create)) (standing State.Created store false t true)) refl n) (and-both (v .stand) (p .from))); ids = with-lt set (n .id) (omega (arith, l)); top = v .top; keeps = v .keeps });
-      lawful = given _ _ (at-node (λ s store create t own. gives (standing s store create t own && (isRegistered s && create)) (legal Kind.joinCreate s (State.Created))) refl n) (and-both (v .stand) (p .from));
+      rules = valid-of (joinedCreate n set) (record { some = v .some; few = v .few; stand = rw (has-with-same set (n .id) (p .own)) (given _ _ (at-node (λ s store create hand own. gives (standing s store create hand own && (isRegistered s && create)) (standing State.Created store false hand true)) refl n) (and-both (v .stand) (p .from))); ids = with-lt set (n .id) (omega (arith, l)); top = v .top; keeps = v .keeps; part = v .part });
+      lawful = given _ _ (at-node (λ s store create hand own. gives (standing s store create hand own && (isRegistered s && create)) (legal Kind.joinCreate s (State.Created))) refl n) (and-both (v .stand) (p .from));
       same-id = refl;
       same-chunks = refl;
       size = refl;
@@ -59,8 +58,8 @@ assemble-keeps n lent e =
     let p = assemble-passed n lent e in
     let v = p .rules in
     record {
-      rules = valid-of (wentTo n State.NoIo) (record { some = v .some; few = v .few; stand = given _ _ (at-node (λ s store create t own. gives (standing s store create t own && (assembles s store create)) (standing State.NoIo store create t own)) refl n) (and-both (v .stand) (p .from)); ids = v .ids; top = v .top; keeps = v .keeps });
-      lawful = given _ _ (at-node (λ s store create t own. gives (standing s store create t own && (assembles s store create)) (legal Kind.assemble s (State.NoIo))) refl n) (and-both (v .stand) (p .from));
+      rules = valid-of (wentTo n State.NoIo) (record { some = v .some; few = v .few; stand = given _ _ (at-node (λ s store create hand own. gives (standing s store create hand own && (assembles s store create)) (standing State.NoIo store create hand own)) refl n) (and-both (v .stand) (p .from)); ids = v .ids; top = v .top; keeps = v .keeps; part = v .part });
+      lawful = given _ _ (at-node (λ s store create hand own. gives (standing s store create hand own && (assembles s store create)) (legal Kind.assemble s (State.NoIo))) refl n) (and-both (v .stand) (p .from));
       same-id = refl;
       same-chunks = refl;
       size = refl;
@@ -80,8 +79,8 @@ leave-keeps n lent e =
     let p = leave-passed n lent e in
     let v = p .rules in
     record {
-      rules = valid-of (left n) (record { some = v .some; few = v .few; stand = given _ _ (at-node (λ s store create t own. gives (standing s store create t own && (isJoined s)) (standing (leftTo store) store create Transfer.Nothing own)) refl n) (and-both (v .stand) (p .from)); ids = v .ids; top = v .top; keeps = v .keeps });
-      lawful = given _ _ (at-node (λ s store create t own. gives (standing s store create t own && (isJoined s)) (legal Kind.leave s (leftTo store))) refl n) (and-both (v .stand) (p .from));
+      rules = valid-of (left n) (record { some = v .some; few = v .few; stand = given _ _ (at-node (λ s store create hand own. gives (standing s store create hand own && (isJoined s)) (standing (leftTo store) store create false own)) refl n) (and-both (v .stand) (p .from)); ids = v .ids; top = v .top; keeps = v .keeps; part = omega arith });
+      lawful = given _ _ (at-node (λ s store create hand own. gives (standing s store create hand own && (isJoined s)) (legal Kind.leave s (leftTo store))) refl n) (and-both (v .stand) (p .from));
       same-id = refl;
       same-chunks = refl;
       size = refl;

@@ -11,7 +11,9 @@ use Rattle.laws.specs.Tests.{picked}
 use Rattle.laws.specs.Words.{pick}
 use Rattle.laws.specs.Loops.{runAt}
 use Rattle.chunks.specs.Chunk.{dirty}
-use Rattle.maps.proofs.Sound.{Sound, sound-cleared, sound-or, sound-copied, sound-zeroRow, sound-zeroed, sound-kept, sound-markedFor}
+use Rattle.maps.proofs.Sound.{Sound, sound-cleared, sound-copied, sound-zeroRow, sound-zeroed, sound-kept, sound-markedFor}
+use Rattle.maps.specs.Map.{cleanFrom}
+use Rattle.parts.proofs.Joined.{sound-part}
 use Rattle.nodestate.specs.declared.OnMap.{OnMap}
 use Rattle.nodestate.specs.declared.OnStaging.{OnStaging}
 use Rattle.nodestate.specs.declared.Node.{Node}
@@ -57,11 +59,18 @@ unfolding stagingAfter
 sound-staging c OnStaging.Keep xs ys s r = r
 sound-staging c OnStaging.Zero xs ys s r = sound-zeroed c ys r
 sound-staging c OnStaging.Fill xs ys s r = sound-copied c ys xs r s
-sound-staging c OnStaging.Or xs ys s r = r
+sound-staging c (OnStaging.Or offset) xs ys s r = r
 
-pub sound-taken : (c : ℕ) (e : OnStaging) (zs ys : List ℕ) → Sound c zs → Sound c ys → Sound c (takenIn e zs ys)
+-- a part that is ORed in is clean by the chunk count c
+abbrev pub fitsStaging : ℕ → OnStaging → List ℕ → Bool
+fitsStaging c OnStaging.Keep part = true
+fitsStaging c OnStaging.Zero part = true
+fitsStaging c OnStaging.Fill part = true
+fitsStaging c (OnStaging.Or offset) part = cleanFrom c offset part
+
+pub sound-taken : (c : ℕ) (e : OnStaging) (part ys : List ℕ) → fitsStaging c e part ≡ true → Sound c ys → Sound c (takenIn e part ys)
 unfolding takenIn
-sound-taken c OnStaging.Keep zs ys s r = r
-sound-taken c OnStaging.Zero zs ys s r = r
-sound-taken c OnStaging.Fill zs ys s r = r
-sound-taken c OnStaging.Or zs ys s r = sound-or c ys zs r s
+sound-taken c OnStaging.Keep part ys f r = r
+sound-taken c OnStaging.Zero part ys f r = r
+sound-taken c OnStaging.Fill part ys f r = r
+sound-taken c (OnStaging.Or offset) part ys f r = sound-part c offset part ys f r

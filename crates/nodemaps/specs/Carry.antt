@@ -7,7 +7,8 @@ use Rattle.laws.specs.Words.{pick}
 use Rattle.laws.specs.Loops.{runAt}
 use Rattle.sets.specs.Sets.{without}
 use Rattle.chunks.specs.Chunk.{dirty, markedFor, cleared}
-use Rattle.maps.specs.Map.{zeroRow, zeroed, rowsKept, orIn, copied}
+use Rattle.maps.specs.Map.{zeroRow, zeroed, rowsKept, copied}
+use Rattle.parts.specs.Parts.{orPart}
 use Rattle.nodestate.specs.declared.OnMap.{OnMap}
 use Rattle.nodestate.specs.declared.OnStaging.{OnStaging}
 use Rattle.nodestate.specs.declared.Node.{Node}
@@ -41,11 +42,11 @@ unfoldable pub stagingAfter : OnStaging → List ℕ → List ℕ → List ℕ
 stagingAfter OnStaging.Keep xs ys = ys
 stagingAfter OnStaging.Zero xs ys = zeroed ys
 stagingAfter OnStaging.Fill xs ys = copied ys xs
-stagingAfter OnStaging.Or xs ys = ys
+stagingAfter (OnStaging.Or offset) xs ys = ys
 
--- the staging map after taking the map zs
+-- the staging map after taking a part
 unfoldable pub takenIn : OnStaging → List ℕ → List ℕ → List ℕ
-takenIn OnStaging.Keep zs ys = ys
-takenIn OnStaging.Zero zs ys = ys
-takenIn OnStaging.Fill zs ys = ys
-takenIn OnStaging.Or zs ys = orIn ys zs
+takenIn OnStaging.Keep part ys = ys
+takenIn OnStaging.Zero part ys = ys
+takenIn OnStaging.Fill part ys = ys
+takenIn (OnStaging.Or offset) part ys = orPart offset part ys

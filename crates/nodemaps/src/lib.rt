@@ -49,19 +49,19 @@ fn carry_staging(e: OnStaging, map: &[u8], staging: &mut [u8])
         OnStaging::Keep => {}
         OnStaging::Zero => maps::zero(staging),
         OnStaging::Fill => maps::copy(staging, map),
-        OnStaging::Or => {}
+        OnStaging::Or(offset) => {}
     }
 }
 
-// Taking a map: ORed into staging where the event was accepted.
-pub fn take_in(e: OnStaging, taken: &[u8], staging: &mut [u8])
-    ensures { λ _. ⌜ now (staging .exit) ≡ takenIn e (now (taken .entry)) (now (staging .entry)) ⌝ }
+// Taking a part: ORed into staging at its offset where the event was accepted.
+pub fn take_in(e: OnStaging, part: &[u8], staging: &mut [u8])
+    ensures { λ _. ⌜ now (staging .exit) ≡ takenIn e (now (part .entry)) (now (staging .entry)) ⌝ }
 {
     match e {
         OnStaging::Keep => {}
         OnStaging::Zero => {}
         OnStaging::Fill => {}
-        OnStaging::Or => maps::or_in(staging, taken),
+        OnStaging::Or(offset) => parts::or_part(staging, offset, part),
     }
 }
 

@@ -11,7 +11,6 @@ use Rattle.refusals.specs.Refusals.{Test}
 use Rattle.sets.proofs.Laws.{has-with-same, with-lt, has-none}
 use Rattle.order.proofs.Order.{none-applies}
 use Rattle.nodestate.specs.declared.State.{State}
-use Rattle.nodestate.specs.declared.Transfer.{Transfer}
 use Rattle.nodestate.specs.declared.Node.{Node}
 use Rattle.nodestate.specs.States.{isEmpty}
 use Rattle.nodestate.specs.Change.{wentTo, equipped, takenOver, storedVersion, forgotten, transferred, endedTransfer, instructed}
@@ -36,8 +35,8 @@ registerCreate-keeps n lent h e =
     let p = registerCreate-passed n lent e in
     let v = p .rules in
     record {
-      rules = valid-of (registeredCreate n) (record { some = v .some; few = v .few; stand = rw (has-with-same 0 (n .id) (p .own)) (given _ _ (at-node (λ s store create t own. gives (standing s store create t own && (isEmpty s)) (standing State.Registered true true t true)) refl n) (and-both (v .stand) (p .from))); ids = with-lt 0 (n .id) (omega arith); top = omega arith; keeps = refl });
-      lawful = given _ _ (at-node (λ s store create t own. gives (standing s store create t own && (isEmpty s)) (legal Kind.registerCreate s (State.Registered))) refl n) (and-both (v .stand) (p .from));
+      rules = valid-of (registeredCreate n) (record { some = v .some; few = v .few; stand = rw (has-with-same 0 (n .id) (p .own)) (given _ _ (at-node (λ s store create hand own. gives (standing s store create hand own && (isEmpty s)) (standing State.Registered true true hand true)) refl n) (and-both (v .stand) (p .from))); ids = with-lt 0 (n .id) (omega arith); top = omega arith; keeps = refl; part = v .part });
+      lawful = given _ _ (at-node (λ s store create hand own. gives (standing s store create hand own && (isEmpty s)) (legal Kind.registerCreate s (State.Registered))) refl n) (and-both (v .stand) (p .from));
       same-id = refl;
       same-chunks = refl;
       size = sym h;
@@ -58,8 +57,8 @@ registerAdd-keeps n lent set version e =
     let v = p .rules in
     let w = registerAdd-passed n lent set version e .1 in
     record {
-      rules = valid-of (registeredAdd n set version) (record { some = v .some; few = v .few; stand = rw (w .holds) (given _ _ (at-node (λ s store create t own. gives (standing s store create t own && (takesStore s store)) (standing (addedTo s) true false t true)) refl n) (and-both (v .stand) (p .from))); ids = w .set-lt; top = w .low; keeps = v .keeps });
-      lawful = given _ _ (at-node (λ s store create t own. gives (standing s store create t own && (takesStore s store)) (legal Kind.registerAdd s (addedTo s))) refl n) (and-both (v .stand) (p .from));
+      rules = valid-of (registeredAdd n set version) (record { some = v .some; few = v .few; stand = rw (w .holds) (given _ _ (at-node (λ s store create hand own. gives (standing s store create hand own && (takesStore s store)) (standing (addedTo s) true false hand true)) refl n) (and-both (v .stand) (p .from))); ids = w .set-lt; top = w .low; keeps = v .keeps; part = v .part });
+      lawful = given _ _ (at-node (λ s store create hand own. gives (standing s store create hand own && (takesStore s store)) (legal Kind.registerAdd s (addedTo s))) refl n) (and-both (v .stand) (p .from));
       same-id = refl;
       same-chunks = refl;
       size = refl;
@@ -79,8 +78,8 @@ unregister-keeps n lent true e =
     let p = unregister-passed n lent true e in
     let v = p .rules in
     record {
-      rules = valid-of (unregistered n true) (record { some = v .some; few = v .few; stand = rw (has-none (n .id)) (given _ _ (at-node (λ s store create t own. gives (standing s store create t own && (givesStore s store true)) (standing (unregisteredTo s) false false Transfer.Nothing false)) refl n) (and-both (v .stand) (p .from))); ids = omega arith; top = omega arith; keeps = v .keeps });
-      lawful = given _ _ (at-node (λ s store create t own. gives (standing s store create t own && (givesStore s store true)) (legal Kind.unregister s (unregisteredTo s))) refl n) (and-both (v .stand) (p .from));
+      rules = valid-of (unregistered n true) (record { some = v .some; few = v .few; stand = rw (has-none (n .id)) (given _ _ (at-node (λ s store create hand own. gives (standing s store create hand own && (givesStore s store true)) (standing (unregisteredTo s) false false false false)) refl n) (and-both (v .stand) (p .from))); ids = omega arith; top = omega arith; keeps = v .keeps; part = omega arith });
+      lawful = given _ _ (at-node (λ s store create hand own. gives (standing s store create hand own && (givesStore s store true)) (legal Kind.unregister s (unregisteredTo s))) refl n) (and-both (v .stand) (p .from));
       same-id = refl;
       same-chunks = refl;
       size = refl;
@@ -89,8 +88,8 @@ unregister-keeps n lent false e =
     let p = unregister-passed n lent false e in
     let v = p .rules in
     record {
-      rules = valid-of (unregistered n false) (record { some = v .some; few = v .few; stand = given _ _ (at-node (λ s store create t own. gives (standing s store create t own && (givesStore s store false)) (standing (unregisteredTo s) false false Transfer.Nothing own)) refl n) (and-both (v .stand) (p .from)); ids = v .ids; top = v .top; keeps = v .keeps });
-      lawful = given _ _ (at-node (λ s store create t own. gives (standing s store create t own && (givesStore s store false)) (legal Kind.unregister s (unregisteredTo s))) refl n) (and-both (v .stand) (p .from));
+      rules = valid-of (unregistered n false) (record { some = v .some; few = v .few; stand = given _ _ (at-node (λ s store create hand own. gives (standing s store create hand own && (givesStore s store false)) (standing (unregisteredTo s) false false false own)) refl n) (and-both (v .stand) (p .from)); ids = v .ids; top = v .top; keeps = v .keeps; part = omega arith });
+      lawful = given _ _ (at-node (λ s store create hand own. gives (standing s store create hand own && (givesStore s store false)) (legal Kind.unregister s (unregisteredTo s))) refl n) (and-both (v .stand) (p .from));
       same-id = refl;
       same-chunks = refl;
       size = refl;

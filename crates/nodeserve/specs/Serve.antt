@@ -1,9 +1,10 @@
--- What a serving node is asked for: MAP_READY, give, MAP_GET_VER, LAST_IO_TO_MAP. `lent` is the number that the lent maps refuse with.
+-- What a serving node is asked for: MAP_READY, a part of its map, MAP_GET_VER, LAST_IO_TO_MAP. `lent` is the number that the lent maps refuse with.
 use mathlib.Core.Bool.{Bool, true, false, not, _||_}
 use mathlib.Core.List.{List, [], _∷_}
 use Prim.Native.Nat.{ℕ}
 use lib.Dec.{ltb}
 use Rattle.refusals.specs.Refusals.{Test, test, refusal}
+use Rattle.parts.specs.Parts.{isPart}
 use Rattle.nodestate.specs.declared.State.{State}
 use Rattle.nodestate.specs.declared.Transfer.{Transfer}
 use Rattle.nodestate.specs.declared.OnMap.{OnMap}
@@ -22,10 +23,10 @@ serveTests n lent =
 unfoldable pub serveRefusal : Node → ℕ → ℕ
 serveRefusal n lent = refusal (serveTests n lent)
 
--- ---- MAP_READY (keep or start empty): gives NO_IO and fills staging, with the map or with zero; a transfer in hand starts over
+-- ---- MAP_READY (keep or start empty): gives NO_IO and fills staging, with the map or with zero; a transfer in hand starts over, at byte 0
 
 unfoldable pub readied : Node → Node
-readied n = transferred (wentTo n State.NoIo) Transfer.Ready
+readied n = transferred (wentTo n State.NoIo) (Transfer.InHand 0)
 
 abbrev pub fills : Bool → OnStaging
 fills true = OnStaging.Fill
@@ -34,10 +35,17 @@ fills false = OnStaging.Zero
 unfoldable pub mapReady : Node → ℕ → Bool → Turn
 mapReady n lent keep = settled (serveRefusal n lent) n (turn Answer.Done (readied n) (does OnMap.Keep (fills keep)))
 
--- ---- give: the map as it is
+-- ---- giving a part (offset, length): the map's bytes there as they are
 
-unfoldable pub give : Node → ℕ → Turn
-give n lent = settled (serveRefusal n lent) n (turn Answer.Done n (does OnMap.Keep OnStaging.Keep))
+abbrev pub givePartTests : Node → ℕ → ℕ → ℕ → List Test
+givePartTests n lent offset length =
+    commonTests n lent (test 3 (ltb 15 (n .id)) ∷ test 9 (not (isServing n)) ∷ test 16 (not (isPart offset length)) ∷ [])
+
+unfoldable pub givePartRefusal : Node → ℕ → ℕ → ℕ → ℕ
+givePartRefusal n lent offset length = refusal (givePartTests n lent offset length)
+
+unfoldable pub givePart : Node → ℕ → ℕ → ℕ → Turn
+givePart n lent offset length = settled (givePartRefusal n lent offset length) n (turn Answer.Done n (does OnMap.Keep OnStaging.Keep))
 
 -- ---- MAP_GET_VER: the answer carries the version
 

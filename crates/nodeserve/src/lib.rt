@@ -1,6 +1,6 @@
-// MAP_READY, give, MAP_GET_VER, LAST_IO_TO_MAP.
+// MAP_READY, giving a part of the map, MAP_GET_VER, LAST_IO_TO_MAP.
 ghost use mathlib.Core.Path.{_≡_};
-ghost use Rattle.nodeserve.specs.Serve.{serveRefusal, readied, fills, mapReady, give, mapGetVer, lastIoRefusal, lastIoToMap};
+ghost use Rattle.nodeserve.specs.Serve.{serveRefusal, readied, fills, mapReady, givePartRefusal, givePart, mapGetVer, lastIoRefusal, lastIoToMap};
 use nodestate::Answer;
 use nodestate::Node;
 use nodestate::OnMap;
@@ -13,7 +13,7 @@ use nodestate::states;
 use nodestate::turns;
 use refusals::first;
 
-// What refuses MAP_READY, give and MAP_GET_VER.
+// What refuses MAP_READY and MAP_GET_VER.
 fn serve_refusal(n: Node, lent: u64) -> u64
     ensures { λ r. ⌜ r ≡ serveRefusal n lent ⌝ }
 {
@@ -37,7 +37,7 @@ fn readied(n: Node) -> Node
     ensures { λ r. ⌜ r ≡ readied n ⌝ }
 {
     let here = change::went_to(n, State::NoIo);
-    change::transferred(here, Transfer::Ready)
+    change::transferred(here, Transfer::InHand(0))
 }
 
 fn fills(keep: bool) -> OnStaging
@@ -50,11 +50,23 @@ fn fills(keep: bool) -> OnStaging
     }
 }
 
-// The map goes out as it is; where it goes is the caller's.
-pub fn give(n: Node, lent: u64) -> Turn
-    ensures { λ r. ⌜ r ≡ give n lent ⌝ }
+fn give_part_refusal(n: Node, lent: u64, offset: u64, length: u64) -> u64
+    ensures { λ r. ⌜ r ≡ givePartRefusal n lent offset length ⌝ }
 {
-    let why = serve_refusal(n, lent);
+    let serves = states::is_serving(n);
+    let part = parts::is_part(offset, length);
+    turns::common(
+        n,
+        lent,
+        first(15 < n.id, 3, first(!serves, 9, first(!part, 16, 0))),
+    )
+}
+
+// A part of the map goes out as it is; where it goes is the caller's.
+pub fn give_part(n: Node, lent: u64, offset: u64, length: u64) -> Turn
+    ensures { λ r. ⌜ r ≡ givePart n lent offset length ⌝ }
+{
+    let why = give_part_refusal(n, lent, offset, length);
     let effect = turns::does(OnMap::Keep, OnStaging::Keep);
     let done = turns::turn(Answer::Done, n, effect);
     turns::settled(why, n, done)

@@ -9,7 +9,9 @@ use borrow.Author.Tests.{ltb-false, not-false}
 use Rattle.laws.specs.Tests.{clash}
 use Rattle.refusals.specs.Limits.{versionLimit, versionTop}
 use Rattle.sets.specs.Sets.{has}
+use Rattle.nodestate.specs.declared.Transfer.{Transfer}
 use Rattle.nodestate.specs.declared.Node.{Node}
+use Rattle.nodestate.specs.States.{inHand, isWhole}
 use Rattle.nodestate.specs.StateRules.{valid}
 use Rattle.nodestate.specs.Table.{Kind, legal}
 use Rattle.nodestate.proofs.Valid.{Valid, valid-facts, valid-of}
@@ -17,6 +19,11 @@ use Rattle.nodestate.proofs.Valid.{Valid, valid-facts, valid-of}
 pub or-false : (a b : Bool) → (a || b) ≡ false → (a ≡ false) × (b ≡ false)
 or-false true b e = clash refl e
 or-false false b e = (refl, e)
+
+-- a map that was taken whole is in hand
+pub whole-in-hand : (t : Transfer) → isWhole t ≡ true → inHand t ≡ true
+whole-in-hand Transfer.Nothing e = clash e refl
+whole-in-hand (Transfer.InHand bytes) e = refl
 
 -- what every accepted event knows: the node's rules, its own id, that the lent maps do not refuse, and that the event may come
 pub record Passed (n : Node) (lent : ℕ) (may : Bool) : Type 0 where

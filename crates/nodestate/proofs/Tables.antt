@@ -3,7 +3,6 @@ use mathlib.Core.Path.{_≡_}
 use mathlib.Core.Bool.{Bool, true, false, not, _&&_, _||_}
 use Rattle.laws.specs.Tests.{and-left, and-right}
 use Rattle.nodestate.specs.declared.State.{State}
-use Rattle.nodestate.specs.declared.Transfer.{Transfer}
 
 -- where a holds, so does b
 abbrev pub gives : Bool → Bool → Bool
@@ -20,14 +19,6 @@ bools-at : (f : Bool → Bool) → bools f ≡ true → (b : Bool) → f b ≡ t
 bools-at f e true = and-left (f true) (f false) e
 bools-at f e false = and-right (f true) (f false) e
 
-abbrev transfers : (Transfer → Bool) → Bool
-transfers f = f Transfer.Nothing && (f Transfer.Ready && f Transfer.Taken)
-
-transfers-at : (f : Transfer → Bool) → transfers f ≡ true → (t : Transfer) → f t ≡ true
-transfers-at f e Transfer.Nothing = and-left (f Transfer.Nothing) _ e
-transfers-at f e Transfer.Ready = and-left (f Transfer.Ready) _ (and-right (f Transfer.Nothing) _ e)
-transfers-at f e Transfer.Taken = and-right (f Transfer.Ready) _ (and-right (f Transfer.Nothing) _ e)
-
 abbrev states : (State → Bool) → Bool
 states f = f State.Empty && (f State.Registered && (f State.Created && (f State.Normal && f State.NoIo)))
 
@@ -38,14 +29,14 @@ states-at f e State.Created = and-left (f State.Created) _ (and-right (f State.R
 states-at f e State.Normal = and-left (f State.Normal) _ (and-right (f State.Created) _ (and-right (f State.Registered) _ (and-right (f State.Empty) _ e)))
 states-at f e State.NoIo = and-right (f State.Normal) _ (and-right (f State.Created) _ (and-right (f State.Registered) _ (and-right (f State.Empty) _ e)))
 
--- a test of state, store, create mark, transfer and whether the own id is in the set
-abbrev pub every : (State → Bool → Bool → Transfer → Bool → Bool) → Bool
-every f = states (λ s. bools (λ store. bools (λ create. transfers (λ t. bools (λ own. f s store create t own)))))
+-- a test of state, store, create mark, whether a transfer is in hand and whether the own id is in the set
+abbrev pub every : (State → Bool → Bool → Bool → Bool → Bool) → Bool
+every f = states (λ s. bools (λ store. bools (λ create. bools (λ hand. bools (λ own. f s store create hand own)))))
 
-pub every-at : (f : State → Bool → Bool → Transfer → Bool → Bool) → every f ≡ true → (s : State) (store create : Bool) (t : Transfer) (own : Bool) → f s store create t own ≡ true
-every-at f e s store create t own =
-    bools-at (λ o. f s store create t o)
-    (transfers-at (λ u. bools (λ o. f s store create u o))
-    (bools-at (λ c. transfers (λ u. bools (λ o. f s store c u o)))
-    (bools-at (λ b. bools (λ c. transfers (λ u. bools (λ o. f s b c u o))))
-    (states-at (λ r. bools (λ b. bools (λ c. transfers (λ u. bools (λ o. f r b c u o))))) e s) store) create) t) own
+pub every-at : (f : State → Bool → Bool → Bool → Bool → Bool) → every f ≡ true → (s : State) (store create hand own : Bool) → f s store create hand own ≡ true
+every-at f e s store create hand own =
+    bools-at (λ o. f s store create hand o)
+    (bools-at (λ u. bools (λ o. f s store create u o))
+    (bools-at (λ c. bools (λ u. bools (λ o. f s store c u o)))
+    (bools-at (λ b. bools (λ c. bools (λ u. bools (λ o. f s b c u o))))
+    (states-at (λ r. bools (λ b. bools (λ c. bools (λ u. bools (λ o. f r b c u o))))) e s) store) create) hand) own

@@ -14,7 +14,7 @@ use Rattle.laws.specs.Bits.{upto}
 use Rattle.refusals.specs.Limits.{chunkLimit, versionTop}
 use Rattle.sets.specs.Sets.{has}
 use Rattle.nodestate.specs.declared.State.{State}
-use Rattle.nodestate.specs.declared.Transfer.{Transfer}
+use Rattle.nodestate.specs.States.{inHand, taken}
 use Rattle.nodestate.specs.declared.Node.{Node}
 use Rattle.nodestate.specs.Change.{keptChunk}
 use Rattle.nodestate.proofs.Tables.{every, every-at}
@@ -22,7 +22,7 @@ use Rattle.nodestate.specs.StateRules.{isKept, placeOk, keptOk, standing
 
 -- how a node stands, by its own fields
 abbrev pub stands : Node → Bool
-stands n = standing (n .state) (n .store) (n .create) (n .transfer) (has (n .members) (n .id))
+stands n = standing (n .state) (n .store) (n .create) (inHand (n .transfer)) (has (n .members) (n .id))
 
 -- every rule, as a fact
 pub record Valid (n : Node) : Type 0 where
@@ -32,6 +32,7 @@ pub record Valid (n : Node) : Type 0 where
   pub ids : n .members < 65536
   pub top : n .version ≤ versionTop
   pub keeps : keptOk n ≡ true
+  pub part : taken (n .transfer) ≤ 8192
 
 pub valid-facts : (n : Node) → valid n ≡ true → Valid n
 unfolding valid
@@ -45,6 +46,7 @@ valid-facts n e =
       ids = omega arith;
       top = leb-true _ _ (all-at (rules n) 3 e);
       keeps = all-at (rules n) 4 e;
+      part = leb-true _ _ (all-at (rules n) 5 e);
     }
 
 pub valid-of : (n : Node) → Valid n → valid n ≡ true
@@ -52,7 +54,7 @@ unfolding valid
 valid-of n v =
     let i : n .members ≤ 65535 = omega (arith, v .ids) in
     and-both (and-both (le-leb _ _ (v .some)) (le-leb _ _ (v .few)))
-    (and-both (v .stand) (and-both (le-leb _ _ i) (and-both (le-leb _ _ (v .top)) (v .keeps))))
+    (and-both (v .stand) (and-both (le-leb _ _ i) (and-both (le-leb _ _ (v .top)) (and-both (v .keeps) (le-leb _ _ (v .part))))))
 
 -- ---- the kept chunks
 
@@ -122,5 +124,5 @@ keptChunk-keeps n c h e l = and-both (few (ltb (n .held) 16) refl) (upto-all 16 
         (λ k. rw k refl)
 
 -- a rule of the standing that holds of every standing, at this node's
-pub at-node : (f : State → Bool → Bool → Transfer → Bool → Bool) → every f ≡ true → (n : Node) → f (n .state) (n .store) (n .create) (n .transfer) (has (n .members) (n .id)) ≡ true
-at-node f e n = every-at f e (n .state) (n .store) (n .create) (n .transfer) (has (n .members) (n .id))
+pub at-node : (f : State → Bool → Bool → Bool → Bool → Bool) → every f ≡ true → (n : Node) → f (n .state) (n .store) (n .create) (inHand (n .transfer)) (has (n .members) (n .id)) ≡ true
+at-node f e n = every-at f e (n .state) (n .store) (n .create) (inHand (n .transfer)) (has (n .members) (n .id))

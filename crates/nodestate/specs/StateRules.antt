@@ -6,12 +6,11 @@ use lib.Dec.{leb, ltb}
 use lib.ListN.{getD}
 use Rattle.laws.specs.Words.{all}
 use Rattle.laws.specs.Bits.{upto}
-use Rattle.refusals.specs.Limits.{chunkLimit, versionTop}
+use Rattle.refusals.specs.Limits.{chunkLimit, mapBytes, versionTop}
 use Rattle.sets.specs.Sets.{has}
 use Rattle.nodestate.specs.declared.State.{State}
-use Rattle.nodestate.specs.declared.Transfer.{Transfer}
 use Rattle.nodestate.specs.declared.Node.{Node}
-use Rattle.nodestate.specs.States.{isEmpty, isRegistered, isNoIo, inHand}
+use Rattle.nodestate.specs.States.{isEmpty, isRegistered, isNoIo, inHand, taken}
 
 -- place i of kept holds one of the kept chunks
 abbrev pub isKept : Node → ℕ → Bool
@@ -34,17 +33,18 @@ storeOk State.Normal store = store
 storeOk State.NoIo store = true
 
 -- own id in its set unless EMPTY; create mark only in REGISTERED; the store; a transfer in hand only in NO_IO with store
-abbrev pub standing : State → Bool → Bool → Transfer → Bool → Bool
-standing s store create t own = (isEmpty s || own) && ((not create || isRegistered s) && (storeOk s store && (not (inHand t) || (isNoIo s && store))))
+abbrev pub standing : State → Bool → Bool → Bool → Bool → Bool
+standing s store create hand own = (isEmpty s || own) && ((not create || isRegistered s) && (storeOk s store && (not hand || (isNoIo s && store))))
 
--- 1 to 4,096 chunks; how the node stands; ids of its set below 16; version at most 2^63 - 17; kept chunks
+-- 1 to 4,096 chunks; how the node stands; ids of its set below 16; version at most 2^63 - 17; kept chunks; at most 8,192 bytes taken
 abbrev pub rules : Node → List Bool
 rules n =
     (leb 1 (n .chunks) && leb (n .chunks) chunkLimit)
-    ∷ standing (n .state) (n .store) (n .create) (n .transfer) (has (n .members) (n .id))
+    ∷ standing (n .state) (n .store) (n .create) (inHand (n .transfer)) (has (n .members) (n .id))
     ∷ leb (n .members) 65535
     ∷ leb (n .version) versionTop
     ∷ keptOk n
+    ∷ leb (taken (n .transfer)) mapBytes
     ∷ []
 
 unfoldable pub valid : Node → Bool

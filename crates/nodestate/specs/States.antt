@@ -1,5 +1,8 @@
 -- Tests on a node's state.
 use mathlib.Core.Bool.{Bool, true, false, _&&_}
+use Prim.Native.Nat.{ℕ}
+use lib.Dec.{leb}
+use Rattle.refusals.specs.Limits.{mapBytes}
 use Rattle.nodestate.specs.declared.State.{State}
 use Rattle.nodestate.specs.declared.Transfer.{Transfer}
 use Rattle.nodestate.specs.declared.Node.{Node}
@@ -54,11 +57,13 @@ isServing n = isJoined (n .state) && n .store
 -- a transfer is in hand
 abbrev pub inHand : Transfer → Bool
 inHand Transfer.Nothing = false
-inHand Transfer.Ready = true
-inHand Transfer.Taken = true
+inHand (Transfer.InHand bytes) = true
 
--- a transfer is in hand, and its map was taken
-abbrev pub isMapTaken : Transfer → Bool
-isMapTaken Transfer.Nothing = false
-isMapTaken Transfer.Ready = false
-isMapTaken Transfer.Taken = true
+-- the bytes of the map that were taken so far
+abbrev pub taken : Transfer → ℕ
+taken Transfer.Nothing = 0
+taken (Transfer.InHand bytes) = bytes
+
+-- the whole map was taken
+abbrev pub isWhole : Transfer → Bool
+isWhole t = leb mapBytes (taken t)

@@ -18,8 +18,8 @@ pub data Kind : Type 0 where
   synced : Kind
   poolInfo : Kind
   mapReady : Kind
-  give : Kind
-  take : Kind
+  givePart : Kind
+  takePart : Kind
   mapDone : Kind
   mapDisable : Kind
   mapGetVer : Kind
@@ -44,8 +44,8 @@ legal write from to = isNormal from && isNormal to
 legal synced from to = isNormal from && isNormal to
 legal poolInfo from to = stays from to
 legal mapReady from to = isJoined from && isNoIo to
-legal give from to = stays from to
-legal take from to = isNoIo from && isNoIo to
+legal givePart from to = stays from to
+legal takePart from to = isNoIo from && isNoIo to
 legal mapDone from to = isNoIo from && (isNormal to || isNoIo to)
 legal mapDisable from to = isNoIo from && isNoIo to
 legal mapGetVer from to = stays from to

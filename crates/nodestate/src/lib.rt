@@ -13,11 +13,10 @@ pub enum State {
     NoIo,
 }
 
-// The map transfer in hand, and how much of it was taken: nothing yet, or all.
+// The map transfer in hand, with the bytes of the map that were taken so far: all 8,192 when it is whole.
 pub enum Transfer {
     Nothing,
-    Ready,
-    Taken,
+    InHand(u64),
 }
 
 // The node's whole state. create: registered with create mode. The last chunk numbers written stand at the end of kept, in order of arrival; held says
@@ -48,12 +47,12 @@ pub enum OnMap {
     Commit(u64),
 }
 
-// What is done to the staging map. Fill: the map copied into it. Or: the map that was lent for taking ORed in.
+// What is done to the staging map. Fill: the map copied into it. Or: the part that was lent for taking ORed in, from an offset on.
 pub enum OnStaging {
     Keep,
     Zero,
     Fill,
-    Or,
+    Or(u64),
 }
 
 pub struct Effect {

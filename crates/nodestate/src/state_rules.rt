@@ -5,7 +5,6 @@ ghost use Rattle.laws.specs.Bits.{upto};
 ghost use Rattle.nodestate.specs.StateRules.{placeOk, keptOk, storeOk, standing, valid};
 use crate::Node;
 use crate::State;
-use crate::Transfer;
 use crate::states;
 
 // Whether the state keeps every rule.
@@ -16,22 +15,24 @@ pub fn valid(n: Node) -> bool
     let t = n.transfer;
     let chunks = (1 <= n.chunks) & (n.chunks <= refusals::CHUNK_LIMIT);
     let own = sets::has(n.members, n.id);
-    let stands = standing(s, n.store, n.create, t, own);
+    let hand = states::in_hand(t);
+    let stands = standing(s, n.store, n.create, hand, own);
     let ids = n.members <= 65535;
     let version = n.version <= refusals::VERSION_TOP;
     let kept = kept_ok(n);
-    chunks & (stands & (ids & (version & kept)))
+    let part = states::taken(t) <= (refusals::MAP_BYTES as u64);
+    chunks & (stands & (ids & (version & (kept & part))))
 }
 
 // Own id in its set unless EMPTY; create mark only in REGISTERED; the store; a transfer in hand only in NO_IO with store.
-fn standing(s: State, store: bool, create: bool, t: Transfer, own: bool) -> bool
-    ensures { λ r. ⌜ r ≡ standing s store create t own ⌝ }
+fn standing(s: State, store: bool, create: bool, hand: bool, own: bool) -> bool
+    ensures { λ r. ⌜ r ≡ standing s store create hand own ⌝ }
 {
     let member = states::is_empty(s) | own;
     let mark = !create | states::is_registered(s);
     let stored = store_ok(s, store);
-    let hand = !states::in_hand(t) | (states::is_no_io(s) & store);
-    member & (mark & (stored & hand))
+    let transfer = !hand | (states::is_no_io(s) & store);
+    member & (mark & (stored & transfer))
 }
 
 // A store in all states but EMPTY, and perhaps NO_IO.

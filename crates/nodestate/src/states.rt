@@ -1,6 +1,6 @@
 // Tests on a node's state.
 ghost use mathlib.Core.Path.{_≡_};
-ghost use Rattle.nodestate.specs.States.{isEmpty, isRegistered, isNormal, isNoIo, isJoined, isServing, inHand, isMapTaken};
+ghost use Rattle.nodestate.specs.States.{isEmpty, isRegistered, isNormal, isNoIo, isJoined, isServing, inHand, taken, isWhole};
 use crate::Node;
 use crate::State;
 use crate::Transfer;
@@ -79,17 +79,23 @@ pub fn in_hand(t: Transfer) -> bool
 {
     match t {
         Transfer::Nothing => false,
-        Transfer::Ready => true,
-        Transfer::Taken => true,
+        Transfer::InHand(bytes) => true,
     }
 }
 
-pub fn is_map_taken(t: Transfer) -> bool
-    ensures { λ r. ⌜ r ≡ isMapTaken t ⌝ }
+// The bytes of the map that were taken so far.
+pub fn taken(t: Transfer) -> u64
+    ensures { λ r. ⌜ r ≡ taken t ⌝ }
 {
     match t {
-        Transfer::Nothing => false,
-        Transfer::Ready => false,
-        Transfer::Taken => true,
+        Transfer::Nothing => 0,
+        Transfer::InHand(bytes) => bytes,
     }
+}
+
+// The whole map was taken.
+pub fn is_whole(t: Transfer) -> bool
+    ensures { λ r. ⌜ r ≡ isWhole t ⌝ }
+{
+    (refusals::MAP_BYTES as u64) <= taken(t)
 }

@@ -43,7 +43,7 @@ pub fn turn(answer: Answer, n: Node, effect: Effect) -> Turn
 }
 
 // Refused with a number: the state and both maps stay.
-fn refused(why: u64, n: Node) -> Turn
+pub fn refused(why: u64, n: Node) -> Turn
     ensures { λ r. ⌜ r ≡ refused why n ⌝ }
 {
     let nothing = does(OnMap::Keep, OnStaging::Keep);

@@ -62,8 +62,8 @@ write-keeps n lent chunk set version h e =
     let p = write-passed n lent chunk set version e in
     let v = p .rules in
     record {
-      rules = valid-of (written n chunk version) (record { some = v .some; few = v .few; stand = given _ _ (at-node (λ s store create t own. gives (standing s store create t own && (isNormal s)) (standing s store create t own)) refl n) (and-both (v .stand) (p .from)); ids = v .ids; top = write-version n lent chunk set version e; keeps = keptChunk-keeps (storedVersion n version) chunk h (v .keeps) (ltb-true _ _ (write-chunk n lent chunk set version e)) });
-      lawful = given _ _ (at-node (λ s store create t own. gives (standing s store create t own && (isNormal s)) (legal Kind.write s (s))) refl n) (and-both (v .stand) (p .from));
+      rules = valid-of (written n chunk version) (record { some = v .some; few = v .few; stand = given _ _ (at-node (λ s store create hand own. gives (standing s store create hand own && (isNormal s)) (standing s store create hand own)) refl n) (and-both (v .stand) (p .from)); ids = v .ids; top = write-version n lent chunk set version e; keeps = keptChunk-keeps (storedVersion n version) chunk h (v .keeps) (ltb-true _ _ (write-chunk n lent chunk set version e)); part = v .part });
+      lawful = given _ _ (at-node (λ s store create hand own. gives (standing s store create hand own && (isNormal s)) (legal Kind.write s (s))) refl n) (and-both (v .stand) (p .from));
       same-id = refl;
       same-chunks = refl;
       size = shifted-size (n .kept) chunk h;
@@ -80,7 +80,7 @@ synced-passed n lent member chunk e =
 pub synced-keeps : (n : Node) (lent : ℕ) (member : ℕ) (chunk : ℕ) → syncedRefusal n lent member chunk ≡ 0 → Keeps Kind.synced n n
 synced-keeps n lent member chunk e =
     let p = synced-passed n lent member chunk e in
-    unchanged Kind.synced n (p .rules) (given _ _ (at-node (λ s store create t own. gives (standing s store create t own && (isNormal s)) (legal Kind.synced s s)) refl n) (and-both (p .rules .stand) (p .from)))
+    unchanged Kind.synced n (p .rules) (given _ _ (at-node (λ s store create hand own. gives (standing s store create hand own && (isNormal s)) (legal Kind.synced s s)) refl n) (and-both (p .rules .stand) (p .from)))
 
 -- ---- POOL_INFO
 
@@ -105,26 +105,26 @@ poolInfo-keeps n lent Op.AddCreate member e =
     let v = p .rules in
     let d = poolInfo-other n lent Op.AddCreate member e in
     record {
-      rules = valid-of (memberEntered n member) (record { some = v .some; few = v .few; stand = rw (has-with-other (n .members) member (n .id) d) (given _ _ (at-node (λ s store create t own. gives (standing s store create t own && (isJoined s)) (standing s store create t own)) refl n) (and-both (v .stand) (p .from))); ids = with-lt (n .members) member (v .ids); top = v .top; keeps = v .keeps });
-      lawful = given _ _ (at-node (λ s store create t own. gives (standing s store create t own && (isJoined s)) (legal Kind.poolInfo s (s))) refl n) (and-both (v .stand) (p .from));
+      rules = valid-of (memberEntered n member) (record { some = v .some; few = v .few; stand = rw (has-with-other (n .members) member (n .id) d) (given _ _ (at-node (λ s store create hand own. gives (standing s store create hand own && (isJoined s)) (standing s store create hand own)) refl n) (and-both (v .stand) (p .from))); ids = with-lt (n .members) member (v .ids); top = v .top; keeps = v .keeps; part = v .part });
+      lawful = given _ _ (at-node (λ s store create hand own. gives (standing s store create hand own && (isJoined s)) (legal Kind.poolInfo s (s))) refl n) (and-both (v .stand) (p .from));
       same-id = refl;
       same-chunks = refl;
       size = refl;
     }
 poolInfo-keeps n lent Op.AddAssemble member e =
     let p = poolInfo-passed n lent Op.AddAssemble member e in
-    unchanged Kind.poolInfo n (p .rules) (given _ _ (at-node (λ s store create t own. gives (standing s store create t own && (isJoined s)) (legal Kind.poolInfo s s)) refl n) (and-both (p .rules .stand) (p .from)))
+    unchanged Kind.poolInfo n (p .rules) (given _ _ (at-node (λ s store create hand own. gives (standing s store create hand own && (isJoined s)) (legal Kind.poolInfo s s)) refl n) (and-both (p .rules .stand) (p .from)))
 poolInfo-keeps n lent Op.RemoveDelete member e =
     let p = poolInfo-passed n lent Op.RemoveDelete member e in
     let v = p .rules in
     let d = poolInfo-other n lent Op.RemoveDelete member e in
     record {
-      rules = valid-of (memberDropped n member) (record { some = v .some; few = v .few; stand = rw (has-without-other (n .members) member (n .id) d) (given _ _ (at-node (λ s store create t own. gives (standing s store create t own && (isJoined s)) (standing s store create t own)) refl n) (and-both (v .stand) (p .from))); ids = without-lt (n .members) member (v .ids); top = v .top; keeps = v .keeps });
-      lawful = given _ _ (at-node (λ s store create t own. gives (standing s store create t own && (isJoined s)) (legal Kind.poolInfo s (s))) refl n) (and-both (v .stand) (p .from));
+      rules = valid-of (memberDropped n member) (record { some = v .some; few = v .few; stand = rw (has-without-other (n .members) member (n .id) d) (given _ _ (at-node (λ s store create hand own. gives (standing s store create hand own && (isJoined s)) (standing s store create hand own)) refl n) (and-both (v .stand) (p .from))); ids = without-lt (n .members) member (v .ids); top = v .top; keeps = v .keeps; part = v .part });
+      lawful = given _ _ (at-node (λ s store create hand own. gives (standing s store create hand own && (isJoined s)) (legal Kind.poolInfo s (s))) refl n) (and-both (v .stand) (p .from));
       same-id = refl;
       same-chunks = refl;
       size = refl;
     }
 poolInfo-keeps n lent Op.RemoveDisassemble member e =
     let p = poolInfo-passed n lent Op.RemoveDisassemble member e in
-    unchanged Kind.poolInfo n (p .rules) (given _ _ (at-node (λ s store create t own. gives (standing s store create t own && (isJoined s)) (legal Kind.poolInfo s s)) refl n) (and-both (p .rules .stand) (p .from)))
+    unchanged Kind.poolInfo n (p .rules) (given _ _ (at-node (λ s store create hand own. gives (standing s store create hand own && (isJoined s)) (legal Kind.poolInfo s s)) refl n) (and-both (p .rules .stand) (p .from)))

@@ -12,6 +12,7 @@ use Rattle.state.specs.Session.{isDelete}
 use Rattle.forms.specs.declared.NodeEvent.{NodeEvent}
 use Rattle.nodestate.specs.declared.Answer.{Answer}
 use Rattle.post.specs.declared.Due.{Due}
+use Rattle.post.specs.declared.Errand.{Errand}
 
 -- The event, where the message goes to this node.
 abbrev pub dueIf : Bool → NodeEvent → Due
@@ -26,29 +27,17 @@ toldTo (Told.Infos set op member) i = dueIf (has set i) (NodeEvent.PoolInfo op m
 toldTo (Told.Disable to) i = dueIf (eqb to i) NodeEvent.MapDisable
 toldTo (Told.Off to) i = dueIf (eqb to i) NodeEvent.Enable0
 
--- To whom the awaited message goes; 16, no node, where nothing is awaited.
-abbrev pub addressee : Message → ℕ
-addressee Message.Nothing = 16
-addressee (Message.GetVersion to) = to
-addressee (Message.Ready to keep) = to
-addressee (Message.Send to receiver) = to
-addressee (Message.Done to enable version set) = to
-addressee (Message.LastIo to chosen) = to
-addressee (Message.Enable to version set) = to
-addressee (Message.Leave to mode) = to
-addressee (Message.Info to op member) = to
-
--- The awaited message as its node's event. MAP_SEND: the node gives its map; taking it is the receiver's event.
-abbrev pub eventOf : Message → NodeEvent
-eventOf Message.Nothing = NodeEvent.Give
-eventOf (Message.GetVersion to) = NodeEvent.MapGetVer
-eventOf (Message.Ready to keep) = NodeEvent.MapReady keep
-eventOf (Message.Send to receiver) = NodeEvent.Give
-eventOf (Message.Done to enable version set) = NodeEvent.MapDone enable version set
-eventOf (Message.LastIo to chosen) = NodeEvent.LastIo chosen
-eventOf (Message.Enable to version set) = NodeEvent.Enable1 version set
-eventOf (Message.Leave to mode) = NodeEvent.Leave (isDelete mode)
-eventOf (Message.Info to op member) = NodeEvent.PoolInfo op member
+-- What the awaited message asks of the nodes. MAP_SEND: the node gives its map part by part, and the receiver takes each.
+abbrev pub errandOf : Message → Errand
+errandOf Message.Nothing = Errand.Nothing
+errandOf (Message.GetVersion to) = Errand.Event to NodeEvent.MapGetVer
+errandOf (Message.Ready to keep) = Errand.Event to (NodeEvent.MapReady keep)
+errandOf (Message.Send to receiver) = Errand.Map to receiver
+errandOf (Message.Done to enable version set) = Errand.Event to (NodeEvent.MapDone enable version set)
+errandOf (Message.LastIo to chosen) = Errand.Event to (NodeEvent.LastIo chosen)
+errandOf (Message.Enable to version set) = Errand.Event to (NodeEvent.Enable1 version set)
+errandOf (Message.Leave to mode) = Errand.Event to (NodeEvent.Leave (isDelete mode))
+errandOf (Message.Info to op member) = Errand.Event to (NodeEvent.PoolInfo op member)
 
 -- A refusal is a failed answer; a version comes with MAP_GET_VER alone.
 abbrev pub replyOf : Answer → Reply

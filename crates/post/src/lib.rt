@@ -1,6 +1,6 @@
 // The client's messages as events of their nodes, and a node's answer as the client's.
 ghost use mathlib.Core.Path.{_≡_};
-ghost use Rattle.post.specs.Post.{dueIf, toldTo, addressee as Post·addressee, eventOf, replyOf};
+ghost use Rattle.post.specs.Post.{dueIf, toldTo, errandOf, replyOf};
 use forms::NodeEvent;
 use nodestate::Answer;
 use state::Brought;
@@ -41,37 +41,29 @@ pub fn told_to(t: Told, i: u64) -> Due
     }
 }
 
-// To whom the awaited message goes.
-pub fn addressee(m: Message) -> u64
-    ensures { λ r. ⌜ r ≡ Post·addressee m ⌝ }
-{
-    match m {
-        Message::Nothing => 16,
-        Message::GetVersion(to) => to,
-        Message::Ready(to, keep) => to,
-        Message::Send(to, receiver) => to,
-        Message::Done(to, enable, version, set) => to,
-        Message::LastIo(to, chosen) => to,
-        Message::Enable(to, version, set) => to,
-        Message::Leave(to, mode) => to,
-        Message::Info(to, op, member) => to,
-    }
+// What the awaited message asks of the nodes. Event: of one node. Map: one node's map, part by part, to another.
+pub enum Errand {
+    Nothing,
+    Event(u64, NodeEvent),
+    Map(u64, u64),
 }
 
-// The awaited message as its node's event.
-pub fn event_of(m: Message) -> NodeEvent
-    ensures { λ r. ⌜ r ≡ eventOf m ⌝ }
+pub fn errand_of(m: Message) -> Errand
+    ensures { λ r. ⌜ r ≡ errandOf m ⌝ }
 {
     match m {
-        Message::Nothing => NodeEvent::Give,
-        Message::GetVersion(to) => NodeEvent::MapGetVer,
-        Message::Ready(to, keep) => NodeEvent::MapReady(keep),
-        Message::Send(to, receiver) => NodeEvent::Give,
-        Message::Done(to, enable, version, set) => NodeEvent::MapDone(enable, version, set),
-        Message::LastIo(to, chosen) => NodeEvent::LastIo(chosen),
-        Message::Enable(to, version, set) => NodeEvent::Enable1(version, set),
-        Message::Leave(to, mode) => NodeEvent::Leave(state::is_delete(mode)),
-        Message::Info(to, op, member) => NodeEvent::PoolInfo(op, member),
+        Message::Nothing => Errand::Nothing,
+        Message::GetVersion(to) => Errand::Event(to, NodeEvent::MapGetVer),
+        Message::Ready(to, keep) => Errand::Event(to, NodeEvent::MapReady(keep)),
+        Message::Send(to, receiver) => Errand::Map(to, receiver),
+        Message::Done(to, enable, version, set) => Errand::Event(
+            to,
+            NodeEvent::MapDone(enable, version, set),
+        ),
+        Message::LastIo(to, chosen) => Errand::Event(to, NodeEvent::LastIo(chosen)),
+        Message::Enable(to, version, set) => Errand::Event(to, NodeEvent::Enable1(version, set)),
+        Message::Leave(to, mode) => Errand::Event(to, NodeEvent::Leave(state::is_delete(mode))),
+        Message::Info(to, op, member) => Errand::Event(to, NodeEvent::PoolInfo(op, member)),
     }
 }
 

@@ -11,7 +11,7 @@ use Rattle.nodestate.specs.declared.Node.{Node}
 use Rattle.forms.specs.declared.Which.{Which}
 use Rattle.say.specs.Say.{paired}
 use Rattle.sayclient.specs.Client.{clientText}
-use Rattle.saynode.specs.NodeLine.{nodeText}
+use Rattle.saynode.specs.NodeLine.{nodeText, lookText}
 use Rattle.sayrow.specs.Row.{rowText}
 use Rattle.saylab.specs.declared.Said.{Said}
 
@@ -29,6 +29,8 @@ lineIn k (Said.Refused why) p n = ended k (paired (bytes "refused ") why)
 lineIn k (Said.Client sent) p n = ended k (clientText p sent)
 lineIn k (Said.Node id) p n = ended k (nodeText n)
 lineIn k (Said.Row w m) p n = k
+lineIn k Said.Look p n = ended k (bytes "look")
+lineIn k (Said.LookNode id) p n = ended k (lookText n)
 
 -- the row of member m in the nth map of xs; nothing where that map is not there
 abbrev pub rowOf : Ink → List ℕ → ℕ → ℕ → Ink

@@ -4,7 +4,7 @@ ghost use Rattle.text.specs.Bytes.{bytes};
 ghost use Rattle.text.specs.Ink.{ink};
 ghost use Rattle.say.specs.Say.{paired};
 ghost use Rattle.sayclient.specs.Client.{clientText};
-ghost use Rattle.saynode.specs.NodeLine.{nodeText};
+ghost use Rattle.saynode.specs.NodeLine.{nodeText, lookText};
 ghost use Rattle.saylab.specs.Lines.{ended, lineIn, rowOf, rowIn};
 use forms::Which;
 use nodestate::Node;
@@ -12,7 +12,7 @@ use state::Pool;
 use state::Sent;
 
 // Nothing: of a line that is passed over. Done: of one that sets the lab up. Client: an accepted event of the client. Node: one of this node. Row: a member's
-// row of a map.
+// row of a map. Look, LookNode: the further fields of the pool, of this node.
 pub enum Said {
     Nothing,
     Unreadable,
@@ -22,6 +22,8 @@ pub enum Said {
     Client(Sent),
     Node(u64),
     Row(Which, u64),
+    Look,
+    LookNode(u64),
 }
 
 // The line: p is the client's state after the command, n the state of the node that it went to. A row is written by put_row.
@@ -37,6 +39,8 @@ pub fn put_line(out: &mut [u8], at: usize, s: Said, p: Pool, n: Node) -> usize
         Said::Client(sent) => client_line(out, at, p, sent),
         Said::Node(id) => node_line(out, at, n),
         Said::Row(w, m) => at,
+        Said::Look => word_line(out, at, b"look"),
+        Said::LookNode(id) => look_line(out, at, n),
     }
 }
 
@@ -65,6 +69,13 @@ fn node_line(out: &mut [u8], at: usize, n: Node) -> usize
     ensures { λ r. ⌜ ink (now (out .exit)) r ≡ ended (ink (now (out .entry)) at) (nodeText n) ⌝ }
 {
     let to = saynode::put_node(out, at, n);
+    text::put(out, to, 10)
+}
+
+fn look_line(out: &mut [u8], at: usize, n: Node) -> usize
+    ensures { λ r. ⌜ ink (now (out .exit)) r ≡ ended (ink (now (out .entry)) at) (lookText n) ⌝ }
+{
+    let to = saynode::put_look(out, at, n);
     text::put(out, to, 10)
 }
 

@@ -11,7 +11,8 @@ use Rattle.text.proofs.Meaning.{joined-length, decimal-length}
 use Rattle.say.specs.Say.{paired}
 use Rattle.nodestate.specs.declared.State.{State}
 use Rattle.nodestate.specs.declared.Node.{Node}
-use Rattle.saynode.specs.NodeLine.{stateText, transferNumber, commas, chunksText, keptText, frontText, nodeText}
+use Rattle.nodestate.specs.States.{taken}
+use Rattle.saynode.specs.NodeLine.{stateText, transferNumber, commas, chunksText, keptText, frontText, nodeText, lookText}
 
 pair-length : (s : List ℕ) (n : ℕ) → length (paired s n) ≤ length s + 20
 pair-length s n = rw (joined-length (s ∷ decimal n ∷ [])) (omega (arith, decimal-length n))
@@ -51,3 +52,7 @@ unfolding nodeText
 node-length n e =
     rw (joined-length (frontText n ∷ paired (bytes " members=") (n .members) ∷ paired (bytes " version=") (n .version) ∷ bytes " kept=" ∷ keptText (n .kept) (n .held) ∷ paired (bytes " transfer=") (transferNumber (n .transfer)) ∷ []))
     (omega (arith, front-length n, pair-length (bytes " members=") (n .members), pair-length (bytes " version=") (n .version), kept-length (n .kept) (n .held) e, pair-length (bytes " transfer=") (transferNumber (n .transfer))))
+
+-- The line of its further fields is at most 29 bytes.
+pub look-length : (n : Node) → length (lookText n) ≤ 29
+look-length n = pair-length (bytes "look got=") (taken (n .transfer))

@@ -1,14 +1,15 @@
--- A node's line after an accepted event.
+-- A node's line after an accepted event, and the line of its further fields.
 use Prim.Native.Nat.{ℕ, _-_}
 use mathlib.Core.List.{List, [], _∷_}
 use lib.ListN.{drop}
-use Rattle.laws.specs.Words.{one}
+use Rattle.laws.specs.Words.{pick, one}
 use Rattle.text.specs.Bytes.{bytes}
 use Rattle.text.specs.Ink.{decimal, joined}
 use Rattle.say.specs.Say.{paired}
 use Rattle.nodestate.specs.declared.State.{State}
 use Rattle.nodestate.specs.declared.Transfer.{Transfer}
 use Rattle.nodestate.specs.declared.Node.{Node}
+use Rattle.nodestate.specs.States.{inHand, taken, isWhole}
 
 abbrev pub stateText : State → List ℕ
 stateText State.Empty = bytes " state=EMPTY"
@@ -17,11 +18,9 @@ stateText State.Created = bytes " state=CREATED"
 stateText State.Normal = bytes " state=NORMAL"
 stateText State.NoIo = bytes " state=NO_IO"
 
--- 0 none in hand, 1 in hand, 2 in hand and a map taken
+-- 0 none in hand, 1 in hand, 2 in hand and the whole map taken
 abbrev pub transferNumber : Transfer → ℕ
-transferNumber Transfer.Nothing = 0
-transferNumber Transfer.Ready = 1
-transferNumber Transfer.Taken = 2
+transferNumber t = pick (isWhole t) 2 (one (inHand t))
 
 -- each number after a comma (44)
 unfoldable pub commas : List ℕ → List ℕ
@@ -57,3 +56,7 @@ nodeText n =
     ∷ keptText (n .kept) (n .held)
     ∷ paired (bytes " transfer=") (transferNumber (n .transfer))
     ∷ [])
+
+-- The further fields: the bytes taken so far, 0 with no transfer in hand.
+abbrev pub lookText : Node → List ℕ
+lookText n = paired (bytes "look got=") (taken (n .transfer))

@@ -1,10 +1,10 @@
-// A node's line after an accepted event.
+// A node's line after an accepted event, and the line of its further fields.
 ghost use mathlib.Core.Path.{_≡_};
 ghost use mathlib.Core.List.{_∷_};
 ghost use Prim.Native.Nat.{_-_};
 ghost use lib.ListN.{drop};
 ghost use Rattle.text.specs.Ink.{ink, emits, decimal as Ink·decimal};
-ghost use Rattle.saynode.specs.NodeLine.{stateText, transferNumber, commas, keptText, frontText, nodeText};
+ghost use Rattle.saynode.specs.NodeLine.{stateText, transferNumber, commas, keptText, frontText, nodeText, lookText};
 use nodestate::Node;
 use nodestate::State;
 use nodestate::Transfer;
@@ -24,11 +24,11 @@ fn put_state(out: &mut [u8], at: usize, s: State) -> usize
 fn transfer_number(t: Transfer) -> u64
     ensures { λ r. ⌜ r ≡ transferNumber t ⌝ }
 {
-    match t {
-        Transfer::Nothing => 0,
-        Transfer::Ready => 1,
-        Transfer::Taken => 2,
-    }
+    numbers::choose(
+        nodestate::states::is_whole(t),
+        2,
+        numbers::one(nodestate::states::in_hand(t)),
+    )
 }
 
 fn put_comma(out: &mut [u8], at: usize, n: u64) -> usize
@@ -94,4 +94,12 @@ pub fn put_node(out: &mut [u8], at: usize, n: Node) -> usize
     let to = text::put_bytes(out, to, b" kept=");
     let to = put_kept(out, to, kept, n.held);
     say::put_pair(out, to, b" transfer=", transfer_number(transfer))
+}
+
+// The line of a node's further fields, without its newline.
+pub fn put_look(out: &mut [u8], at: usize, n: Node) -> usize
+    ensures { λ r. ⌜ ink (now (out .exit)) r ≡ emits (ink (now (out .entry)) at) (lookText n) ⌝ }
+{
+    let transfer = n.transfer;
+    say::put_pair(out, at, b"look got=", nodestate::states::taken(transfer))
 }

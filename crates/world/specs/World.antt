@@ -1,9 +1,11 @@
 -- The client and its nodes together, and one exchange of a recovery run: the message that the client sent and awaits goes to its node, and that node's
 -- answer goes back to the client, under the message's number.
-use mathlib.Core.List.{List}
-use Prim.Native.Nat.{ℕ, zero, suc}
+use mathlib.Core.List.{List, [], _∷_}
+use Prim.Native.Nat.{ℕ, zero, suc, _+_}
 use lib.Dec.{eqb}
 use Rattle.laws.specs.Words.{pick}
+use Rattle.parts.specs.Parts.{partOf}
+use Rattle.state.specs.declared.Job.{Job}
 use Rattle.state.specs.declared.Pool.{Pool}
 use Rattle.state.specs.declared.Message.{Message}
 use Rattle.state.specs.declared.Told.{Told}
@@ -38,22 +40,35 @@ replyOf (says.Answer.Version v) = Reply.Good (Brought.Version v)
 abbrev pub byOne : (ℕ → Station) → ℕ → Did → Delivered
 byOne f k d = record { nodes = upd f k (d .station); reply = replyOf (d .answer) }
 
--- MAP_SEND: the source gives its map and the receiver takes it. A good answer means both; if the source refuses, nothing is taken.
-abbrev pub bySource : Reply → (ℕ → Station) → ℕ → Did → Delivered
-bySource Reply.Failed f to d = record { nodes = f; reply = Reply.Failed }
-bySource (Reply.Good b) f to d = byOne f to d
+-- where a reply is good, what comes next, else this
+abbrev pub ifGood : Reply → Delivered → Delivered → Delivered
+ifGood Reply.Failed next this = this
+ifGood (Reply.Good b) next this = next
 
--- An awaited message delivered. Those of a removal are no part of a run: they reach no node here.
-abbrev pub deliver : Message → (ℕ → Station) → Delivered
-deliver Message.Nothing f = record { nodes = f; reply = Reply.Failed }
-deliver (Message.GetVersion to) f = byOne f to (does (f to) Event.mapGetVer)
-deliver (Message.Ready to keep) f = byOne f to (does (f to) (Event.mapReady keep))
-deliver (Message.Send from to) f = bySource (replyOf (does (f from) Event.give .answer)) f to (does (f to) (Event.take (f from .map)))
-deliver (Message.Done to enable version members) f = byOne f to (does (f to) (Event.mapDone enable version members))
-deliver (Message.LastIo to chosen) f = byOne f to (does (f to) (Event.lastIoToMap chosen))
-deliver (Message.Enable to version members) f = byOne f to (does (f to) (Event.enable1 version members))
-deliver (Message.Leave to mode) f = record { nodes = f; reply = Reply.Failed }
-deliver (Message.Info to op member) f = record { nodes = f; reply = Reply.Failed }
+-- the receiver takes a part of the source's map: offset, length, from whom, to whom
+abbrev pub takesFrom : ℕ → ℕ → ℕ → ℕ → (ℕ → Station) → Did
+takesFrom offset l from to f = does (f to) (Event.takePart offset (partOf offset l (f from .map)))
+
+-- MAP_SEND, part by part by their lengths, from an offset on: the source gives a part of its map, and the receiver takes it. A good answer means that every part was given and
+-- taken; the first refusal ends it, and what was taken before stays taken.
+unfoldable pub send : List ℕ → ℕ → ℕ → ℕ → (ℕ → Station) → Delivered
+send [] offset from to f = record { nodes = f; reply = Reply.Good Brought.Nothing }
+send (l ∷ ls) offset from to f =
+    ifGood (replyOf (does (f from) (Event.givePart offset l) .answer))
+    (ifGood (replyOf (takesFrom offset l from to f .answer)) (send ls (offset + l) from to (upd f to (takesFrom offset l from to f .station))) (byOne f to (takesFrom offset l from to f)))
+    (record { nodes = f; reply = Reply.Failed })
+
+-- An awaited message delivered; the lengths are those of the parts in which a MAP_SEND goes. Messages of a removal are no part of a run: they reach no node here.
+abbrev pub deliver : List ℕ → Message → (ℕ → Station) → Delivered
+deliver lengths Message.Nothing f = record { nodes = f; reply = Reply.Failed }
+deliver lengths (Message.GetVersion to) f = byOne f to (does (f to) Event.mapGetVer)
+deliver lengths (Message.Ready to keep) f = byOne f to (does (f to) (Event.mapReady keep))
+deliver lengths (Message.Send from to) f = send lengths 0 from to f
+deliver lengths (Message.Done to enable version members) f = byOne f to (does (f to) (Event.mapDone enable version members))
+deliver lengths (Message.LastIo to chosen) f = byOne f to (does (f to) (Event.lastIoToMap chosen))
+deliver lengths (Message.Enable to version members) f = byOne f to (does (f to) (Event.enable1 version members))
+deliver lengths (Message.Leave to mode) f = record { nodes = f; reply = Reply.Failed }
+deliver lengths (Message.Info to op member) f = record { nodes = f; reply = Reply.Failed }
 
 -- The one message of a run that is not awaited, MAP_DISABLE, delivered. The others are sent by other events: they reach no node here.
 abbrev pub tell : Told → (ℕ → Station) → ℕ → Station
@@ -66,12 +81,14 @@ tell (Told.Off to) f = f
 
 -- ---- the client hears the answer
 
--- the client's state and map, what its last accepted event handed back, and the node of each id
+-- The client's state and map, what its last accepted event handed back, and the node of each id; and how the transport cuts what it carries: the lengths of the parts of
+-- the MAP_SEND that is delivered when a run has taken so many answers, for each such number its own.
 pub record World : Type 0 where
   pub pool : Pool
   pub map : List ℕ
   pub sent : Sent
   pub nodes : ℕ → Station
+  pub cuts : ℕ → List ℕ
 
 -- what the last accepted event handed back: a refusal hands nothing back
 abbrev pub lastSent : Answer → Sent → Sent
@@ -85,15 +102,21 @@ afterward (Answer.Done s) f = tell (s .told) f
 
 abbrev pub heard : World → (ℕ → Station) → Turn → World
 heard w f t =
-    record { pool = t .pool; map = carried (t .effect) (w .map); sent = lastSent (t .answer) (w .sent); nodes = afterward (t .answer) f }
+    record { pool = t .pool; map = carried (t .effect) (w .map); sent = lastSent (t .answer) (w .sent); nodes = afterward (t .answer) f; cuts = w .cuts }
 
 -- the client's answer event, by the definitions that the contract of its method cites
 abbrev pub hears : World → Delivered → World
 hears w d = heard w (d .nodes) (answerTurn (w .pool) (w .map) (w .sent .number) (d .reply))
 
+-- the answers that the run in hand has taken
+abbrev pub answersTaken : Job → ℕ
+answersTaken Job.Idle = 0
+answersTaken (Job.Running r) = r .taken
+answersTaken (Job.Removing r) = 0
+
 -- one exchange
 unfoldable pub exchange : World → World
-exchange w = hears w (deliver (w .sent .awaited) (w .nodes))
+exchange w = hears w (deliver (w .cuts (answersTaken (w .pool .job))) (w .sent .awaited) (w .nodes))
 
 -- n exchanges, one after the other
 unfoldable pub exchanges : ℕ → World → World

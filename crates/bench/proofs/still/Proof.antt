@@ -22,7 +22,7 @@ returns-2 : tie.Need-returns-2
 returns-2 c = rw (c .before .job .given .1) refl
 
 returns-3 : tie.Need-returns-3
-returns-3 c = search needs
+returns-3 c = rw (c .before .job2 .given .1) refl
 
 pub still-spec : {M : Type 1} → statement M
 still-spec =

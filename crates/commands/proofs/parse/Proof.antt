@@ -7,6 +7,9 @@ use Rattle.commands.proofs.parse.Tie as tie
 form-of-requires : tie.Need-form-of-requires
 form-of-requires c κs = search needs
 
+fields-requires : tie.Need-fields-requires
+fields-requires c κs = search needs
+
 pokes-requires : tie.Need-pokes-requires
 pokes-requires c κs = search needs
 
@@ -33,13 +36,14 @@ client-events-requires c κs = search needs
 
 returns : tie.Need-returns
 unfolding meaning
-returns c = rw (c .client-events .ensures, c .before .whole-events .ensures, c .before .before .transfer-events .ensures, c .before .before .before .service-events .ensures, c .before .before .before .before .store-events .ensures, c .before .before .before .before .before .stores .ensures, c .before .before .before .before .before .before .looks .ensures, c .before .before .before .before .before .before .before .pokes .ensures, c .before .before .before .before .before .before .before .before .form-of .ensures) refl
+returns c = rw (c .client-events .ensures, c .before .whole-events .ensures, c .before .before .transfer-events .ensures, c .before .before .before .service-events .ensures, c .before .before .before .before .store-events .ensures, c .before .before .before .before .before .stores .ensures, c .before .before .before .before .before .before .looks .ensures, c .before .before .before .before .before .before .before .pokes .ensures, c .before .before .before .before .before .before .before .before .fields .ensures, c .before .before .before .before .before .before .before .before .before .form-of .ensures) refl
 
 pub parse-spec : {M : Type 1} → statement M
 parse-spec =
     tie.close
     (tie.spec
     form-of-requires
+    fields-requires
     pokes-requires
     looks-requires
     stores-requires

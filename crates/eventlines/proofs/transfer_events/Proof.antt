@@ -40,9 +40,15 @@ node-requires-6 c κs = search needs
 first-requires-6 : tie.Need-first-requires-6
 first-requires-6 c κs = search needs
 
+node-requires-7 : tie.Need-node-requires-7
+node-requires-7 c κs = search needs
+
+first-requires-7 : tie.Need-first-requires-7
+first-requires-7 c κs = search needs
+
 returns : tie.Need-returns
 unfolding transferEvents
-returns c = rw (c .first6 .ensures, c .before .node6 .ensures, c .before .before .first5 .ensures, c .before .before .before .node5 .ensures, c .before .before .before .before .first4 .ensures, c .before .before .before .before .before .node4 .ensures, c .before .before .before .before .before .before .first3 .ensures, c .before .before .before .before .before .before .before .node3 .ensures, c .before .before .before .before .before .before .before .before .first2 .ensures, c .before .before .before .before .before .before .before .before .before .node2 .ensures, c .before .before .before .before .before .before .before .before .before .before .first .ensures, c .before .before .before .before .before .before .before .before .before .before .before .node .ensures) refl
+returns c = rw (c .first7 .ensures, c .before .node7 .ensures, c .before .before .first6 .ensures, c .before .before .before .node6 .ensures, c .before .before .before .before .first5 .ensures, c .before .before .before .before .before .node5 .ensures, c .before .before .before .before .before .before .first4 .ensures, c .before .before .before .before .before .before .before .node4 .ensures, c .before .before .before .before .before .before .before .before .first3 .ensures, c .before .before .before .before .before .before .before .before .before .node3 .ensures, c .before .before .before .before .before .before .before .before .before .before .first2 .ensures, c .before .before .before .before .before .before .before .before .before .before .before .node2 .ensures, c .before .before .before .before .before .before .before .before .before .before .before .before .first .ensures, c .before .before .before .before .before .before .before .before .before .before .before .before .before .node .ensures) refl
 
 pub transfer-events-spec : {M : Type 1} → statement M
 transfer-events-spec =
@@ -60,4 +66,6 @@ transfer-events-spec =
     first-requires-5
     node-requires-6
     first-requires-6
+    node-requires-7
+    first-requires-7
     returns)

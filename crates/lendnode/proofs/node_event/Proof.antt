@@ -4,8 +4,8 @@ use borrow.Author.Needs.{needs}
 use Rattle.lendnode.proofs.node_event.Statement.{statement}
 use Rattle.lendnode.proofs.node_event.Tie as tie
 
-taken-from-requires : tie.Need-taken-from-requires
-taken-from-requires c κs = search needs
+taking-of-requires : tie.Need-taking-of-requires
+taking-of-requires c κs = search needs
 
 slice-aggregate-fetch : tie.Need-slice-aggregate-fetch
 slice-aggregate-fetch c = search needs
@@ -67,14 +67,14 @@ returns c =
     lent-meets (s .lent) (s .e) (s .maps .now) (s .stagings .now)
     (rw (c .before .before .before .before .before .before .before .before .before .before .before .before .size .ensures) at (c .before .before .before .before .before .before .before .before .before .before .before .find .ensures))
     (rw (c .before .before .before .before .before .before .before .before .before .before .size2 .ensures) at (c .before .before .before .before .before .before .before .before .before .find2 .ensures))
-    (rw (sub-zero, ← c .before .before .before .before .before .before .before .before .before .before .before .before .before .before .before .before .before .before .before .taken-from .ensures) (c .before .before .before .before .before .before .before .before .before .before .before .before .before .before .before .before .fetch .ensures .1))
+    (rw (sub-zero, ← c .before .before .before .before .before .before .before .before .before .before .before .before .before .before .before .before .before .before .before .taking-of .ensures) (c .before .before .before .before .before .before .before .before .before .before .before .before .before .before .before .before .fetch .ensures .1))
     (c .before .before .before .before .call .ensures)
 
 pub node-event-spec : {M : Type 1} → statement M
 node-event-spec =
     tie.close
     (tie.spec
-    taken-from-requires
+    taking-of-requires
     slice-aggregate-fetch
     fetch-requires
     size-requires

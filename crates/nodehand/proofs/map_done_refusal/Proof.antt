@@ -3,8 +3,8 @@ use Rattle.nodehand.specs.Hand.{mapDoneRefusal}
 use Rattle.nodehand.proofs.map_done_refusal.Statement.{statement}
 use Rattle.nodehand.proofs.map_done_refusal.Tie as tie
 
-is-map-taken-requires : tie.Need-is-map-taken-requires
-is-map-taken-requires c κs = search needs
+is-whole-requires : tie.Need-is-whole-requires
+is-whole-requires c κs = search needs
 
 has-requires : tie.Need-has-requires
 has-requires c κs = search needs
@@ -29,4 +29,4 @@ unfolding mapDoneRefusal
 returns c = cc
 
 pub map-done-refusal-spec : {M : Type 1} → statement M
-map-done-refusal-spec = tie.close (tie.spec is-map-taken-requires has-requires first-requires first-requires-2 first-requires-3 first-requires-4 common-requires returns)
+map-done-refusal-spec = tie.close (tie.spec is-whole-requires has-requires first-requires first-requires-2 first-requires-3 first-requires-4 common-requires returns)

@@ -18,8 +18,8 @@ enum-told-3 c = search needs
 copy-requires : tie.Need-copy-requires
 copy-requires c κs = search needs
 
-enum-told-4 : tie.Need-enum-told-4
-enum-told-4 c = search needs
+enum-known-e : tie.Need-enum-known-e
+enum-known-e c = search needs
 
 returns : tie.Need-returns
 unfolding stagingAfter
@@ -41,7 +41,7 @@ returns-3 c = cc
 
 returns-4 : tie.Need-returns-4
 unfolding stagingAfter
-returns-4 c = cc
+returns-4 c = rw (c .before .e .given .1)
 
 pub carry-staging-spec : {M : Type 1} → statement M
 carry-staging-spec =
@@ -52,7 +52,7 @@ carry-staging-spec =
     zero-requires
     enum-told-3
     copy-requires
-    enum-told-4
+    enum-known-e
     returns
     same-length
     returns-2

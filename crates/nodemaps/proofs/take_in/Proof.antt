@@ -12,11 +12,11 @@ enum-told-2 c = search needs
 enum-told-3 : tie.Need-enum-told-3
 enum-told-3 c = search needs
 
-enum-told-4 : tie.Need-enum-told-4
-enum-told-4 c = search needs
+enum-known-e : tie.Need-enum-known-e
+enum-known-e c = search needs
 
-or-in-requires : tie.Need-or-in-requires
-or-in-requires c κs = search needs
+or-part-requires : tie.Need-or-part-requires
+or-part-requires c κs = search needs
 
 returns : tie.Need-returns
 unfolding takenIn
@@ -35,7 +35,7 @@ same-length c = search needs
 
 returns-4 : tie.Need-returns-4
 unfolding takenIn
-returns-4 c = cc
+returns-4 c = rw (c .before .before .before .before .before .e .given .1) (c .before .before .or-part .ensures)
 
 pub take-in-spec : {M : Type 1} → statement M
 take-in-spec =
@@ -44,8 +44,8 @@ take-in-spec =
     enum-told
     enum-told-2
     enum-told-3
-    enum-told-4
-    or-in-requires
+    enum-known-e
+    or-part-requires
     returns
     returns-2
     returns-3

@@ -54,6 +54,21 @@ node-line-requires c κs = search needs
 enum-known-s-4 : tie.Need-enum-known-s-4
 enum-known-s-4 c = search needs
 
+enum-told-5 : tie.Need-enum-told-5
+enum-told-5 c = search needs
+
+slice-aggregate-word-line-4 : tie.Need-slice-aggregate-word-line-4
+slice-aggregate-word-line-4 c = search needs
+
+word-line-requires-4 : tie.Need-word-line-requires-4
+word-line-requires-4 c κs = search needs
+
+enum-known-s-5 : tie.Need-enum-known-s-5
+enum-known-s-5 c = search needs
+
+look-line-requires : tie.Need-look-line-requires
+look-line-requires c κs = search needs
+
 returns : tie.Need-returns
 returns c = rw (c .enum-told .given .1) refl
 
@@ -96,6 +111,18 @@ returns-7 c = rw (c .before .before .before .before .before .s3 .given .1) (c .b
 returns-8 : tie.Need-returns-8
 returns-8 c = rw (c .before .s4 .given .1) refl
 
+same-length-7 : tie.Need-same-length-7
+same-length-7 c = search needs
+
+returns-9 : tie.Need-returns-9
+returns-9 c = rw (c .before .before .before .before .before .enum-told5 .given .1) (c .before .before .word-line4 .ensures)
+
+same-length-8 : tie.Need-same-length-8
+same-length-8 c = search needs
+
+returns-10 : tie.Need-returns-10
+returns-10 c = rw (c .before .before .before .before .before .s5 .given .1) (c .before .before .look-line .ensures)
+
 pub put-line-spec : {M : Type 1} → statement M
 put-line-spec =
     tie.close
@@ -117,6 +144,11 @@ put-line-spec =
     enum-known-s-3
     node-line-requires
     enum-known-s-4
+    enum-told-5
+    slice-aggregate-word-line-4
+    word-line-requires-4
+    enum-known-s-5
+    look-line-requires
     returns
     same-length
     returns-2
@@ -130,4 +162,8 @@ put-line-spec =
     returns-6
     same-length-6
     returns-7
-    returns-8)
+    returns-8
+    same-length-7
+    returns-9
+    same-length-8
+    returns-10)

@@ -11,9 +11,6 @@ is-registered-requires c κs = search needs
 store-ok-requires : tie.Need-store-ok-requires
 store-ok-requires c κs = search needs
 
-in-hand-requires : tie.Need-in-hand-requires
-in-hand-requires c κs = search needs
-
 is-no-io-requires : tie.Need-is-no-io-requires
 is-no-io-requires c κs = search needs
 
@@ -27,6 +24,5 @@ standing-spec =
     is-empty-requires
     is-registered-requires
     store-ok-requires
-    in-hand-requires
     is-no-io-requires
     returns)
