@@ -233,7 +233,7 @@ came-whole : (keep : Bool) (zs ls : List ℕ) (w : Held) (b : Able w) (z : sound
 unfolding v
 came-whole keep zs ls w b z c = came keep zs w b z ls (c .sizes) (omega (arith, c .whole)) ∙ rw (c .whole) refl
 
-whole-staging : (keep : Bool) (zs ls : List ℕ) (w : Held) (b : Able w) (z : sound (w .at .node .chunks) zs ≡ true) → Cuts ls → took keep zs ls w .staging ≡ orIn (ready keep w .staging) zs
+pub whole-staging : (keep : Bool) (zs ls : List ℕ) (w : Held) (b : Able w) (z : sound (w .at .node .chunks) zs ≡ true) → Cuts ls → took keep zs ls w .staging ≡ orIn (ready keep w .staging) zs
 unfolding v
 whole-staging keep zs ls w b z c = ap (λ (u : Held). u .staging) (came-whole keep zs ls w b z c) ∙ parts-whole (ready keep w .staging) zs (staging-v keep zs w b z .len) (whole keep zs w b z .len)
 
@@ -278,7 +278,7 @@ old-marks-gone zs ls enabling version set w b z c a =
     record { size = r .size; those = λ k h. r .those k h ∙ ap (λ (l : List ℕ). getD l k 0) same; others = r .others }
 
 -- a row that is named has the bits of the map that it is from
-same-row : (named : ℕ → Type 0) (from left : List ℕ) → Rows named from left → (m c : ℕ) → named m → dirty left m c ≡ dirty from m c
+pub same-row : (named : ℕ → Type 0) (from left : List ℕ) → Rows named from left → (m c : ℕ) → named m → dirty left m c ≡ dirty from m c
 unfolding byteOf
 same-row named from left s m c h = each-bit left m c (dirty from m c) at (dirty-nowhere from m c)
   where

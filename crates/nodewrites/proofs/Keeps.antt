@@ -2,7 +2,7 @@
 use mathlib.Core.Path.{_≡_, refl, sym}
 use mathlib.Core.Bool.{true, _&&_}
 use mathlib.Core.List.{List, [], _∷_, _++_}
-use Prim.Native.Nat.{ℕ, _+_, _≤_}
+use Prim.Native.Nat.{ℕ, _+_, _≤_, max}
 use native.Mathlib.Omega.{arith}
 use lib.Dec.{eqb, ltb}
 use lib.ListN.{length, drop}
@@ -62,7 +62,7 @@ write-keeps n lent chunk set version h e =
     let p = write-passed n lent chunk set version e in
     let v = p .rules in
     record {
-      rules = valid-of (written n chunk version) (record { some = v .some; few = v .few; stand = given _ _ (at-node (λ s store create hand own. gives (standing s store create hand own && (isNormal s)) (standing s store create hand own)) refl n) (and-both (v .stand) (p .from)); ids = v .ids; top = write-version n lent chunk set version e; keeps = keptChunk-keeps (storedVersion n version) chunk h (v .keeps) (ltb-true _ _ (write-chunk n lent chunk set version e)); part = v .part });
+      rules = valid-of (written n chunk version) (record { some = v .some; few = v .few; stand = given _ _ (at-node (λ s store create hand own. gives (standing s store create hand own && (isNormal s)) (standing s store create hand own)) refl n) (and-both (v .stand) (p .from)); ids = v .ids; top = omega (arith, v .top, write-version n lent chunk set version e); keeps = keptChunk-keeps (storedVersion n (max (n .version) version)) chunk h (v .keeps) (ltb-true _ _ (write-chunk n lent chunk set version e)); part = v .part });
       lawful = given _ _ (at-node (λ s store create hand own. gives (standing s store create hand own && (isNormal s)) (legal Kind.write s (s))) refl n) (and-both (v .stand) (p .from));
       same-id = refl;
       same-chunks = refl;

@@ -1,7 +1,7 @@
 -- Writes and syncs at a node: NORMAL only. `lent` is the number that the lent maps refuse with.
 use mathlib.Core.Bool.{not, _||_}
 use mathlib.Core.List.{List, [], _∷_}
-use Prim.Native.Nat.{ℕ}
+use Prim.Native.Nat.{ℕ, max}
 use lib.Dec.{ltb}
 use Rattle.refusals.specs.Limits.{versionTop}
 use Rattle.refusals.specs.Refusals.{Test, test, refusal}
@@ -14,7 +14,7 @@ use Rattle.nodestate.specs.States.{isNormal}
 use Rattle.nodestate.specs.Change.{storedVersion, keptChunk}
 use Rattle.nodestate.specs.Turns.{commonTests, does, turn, settled}
 
--- ---- write (chunk, set, version): marks the chunk for each of the set, stores the version, keeps the chunk number
+-- ---- write (chunk, set, version): marks the chunk for each of the set, stores the larger of the node's version and the one brought, keeps the chunk number
 
 abbrev pub writeTests : Node → ℕ → ℕ → ℕ → ℕ → List Test
 writeTests n lent chunk set version =
@@ -29,7 +29,7 @@ unfoldable pub writeRefusal : Node → ℕ → ℕ → ℕ → ℕ → ℕ
 writeRefusal n lent chunk set version = refusal (writeTests n lent chunk set version)
 
 unfoldable pub written : Node → ℕ → ℕ → Node
-written n chunk version = keptChunk (storedVersion n version) chunk
+written n chunk version = keptChunk (storedVersion n (max (n .version) version)) chunk
 
 unfoldable pub write : Node → ℕ → ℕ → ℕ → ℕ → Turn
 write n lent chunk set version =

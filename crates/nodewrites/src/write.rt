@@ -1,5 +1,6 @@
 // Write, synced.
 ghost use mathlib.Core.Path.{_≡_};
+ghost use Prim.Native.Nat.{max};
 ghost use Rattle.nodewrites.specs.Write.{writeRefusal, written, write, syncedRefusal, synced};
 use nodestate::Answer;
 use nodestate::Node;
@@ -30,7 +31,7 @@ fn write_refusal(n: Node, lent: u64, chunk: u64, set: u64, version: u64) -> u64
     )
 }
 
-// A write that reached this node: the chunk is marked for those it did not reach, the version stored, the chunk number kept.
+// A write that reached this node: the chunk is marked for those it did not reach, the larger version stored, the chunk number kept.
 pub fn write(n: Node, lent: u64, chunk: u64, set: u64, version: u64) -> Turn
     ensures { λ r. ⌜ r ≡ write n lent chunk set version ⌝ }
 {
@@ -41,11 +42,19 @@ pub fn write(n: Node, lent: u64, chunk: u64, set: u64, version: u64) -> Turn
     turns::settled(why, n, done)
 }
 
+// Writes may arrive in any order, so the version never falls.
 fn written(n: Node, chunk: u64, version: u64) -> Node
     ensures { λ r. ⌜ r ≡ written n chunk version ⌝ }
 {
-    let stored = change::stored_version(n, version);
+    let top = larger(n.version, version);
+    let stored = change::stored_version(n, top);
     change::kept_chunk(stored, chunk)
+}
+
+fn larger(a: u64, b: u64) -> u64
+    ensures { λ r. ⌜ r ≡ max a b ⌝ }
+{
+    if a < b { b } else { a }
 }
 
 fn synced_refusal(n: Node, lent: u64, member: u64, chunk: u64) -> u64

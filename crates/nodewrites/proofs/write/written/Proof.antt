@@ -3,6 +3,9 @@ use Rattle.nodewrites.specs.Write.{written}
 use Rattle.nodewrites.proofs.write.written.Statement.{statement}
 use Rattle.nodewrites.proofs.write.written.Tie as tie
 
+larger-requires : tie.Need-larger-requires
+larger-requires c κs = search needs
+
 stored-version-requires : tie.Need-stored-version-requires
 stored-version-requires c κs = search needs
 
@@ -14,4 +17,4 @@ unfolding written
 returns c = cc
 
 pub written-spec : {M : Type 1} → statement M
-written-spec = tie.close (tie.spec stored-version-requires kept-chunk-requires returns)
+written-spec = tie.close (tie.spec larger-requires stored-version-requires kept-chunk-requires returns)

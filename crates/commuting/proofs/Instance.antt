@@ -1,0 +1,62 @@
+-- The theorems' premises can be met.
+use mathlib.Core.Path.{_≡_, refl, ap, _∙_}
+use mathlib.Core.List.{[], _∷_}
+use Prim.Native.Nat.{ℕ, max}
+use Rattle.refusals.specs.Refusals.{refusal}
+use Rattle.sets.specs.Sets.{has}
+use Rattle.laws.specs.Words.{bit}
+use Rattle.nodestate.specs.StateRules.{keptOk, valid}
+use Rattle.node.specs.Events.{Event, testsAt}
+use Rattle.node.specs.Face.{answers, lentTo}
+use Rattle.node.proofs.Theorems.{accepted-by}
+use Rattle.nodeevents.specs.Said.{Accepts}
+use Rattle.nodeevents.proofs.Demand1.{not-refused}
+use Rattle.commuting.specs.Commuting.{Write, zeros, node1, here, write7, write9, synced7, Instance}
+use Rattle.commuting.proofs.Either.{stores-the-larger, last-one-wins, second}
+use Rattle.commuting.proofs.Arrival.{kept-follow-arrival}
+use Rattle.commuting.proofs.Maps.{zeros-sound}
+
+-- zero maps do not refuse
+not-lent : lentTo node1 zeros zeros ≡ 0
+not-lent = rw (zeros-sound 4096) refl
+
+taken : (e : Event) → refusal (testsAt e node1 0) ≡ 0 → Accepts e here
+taken e z = not-refused (answers e (here .at) zeros zeros .answer) (accepted-by e (here .at) zeros zeros (ap (λ (lent : ℕ). refusal (testsAt e node1 lent)) not-lent ∙ z))
+
+marks : Accepts write7 here
+unfolding valid keptOk has bit
+marks = taken write7 refl
+
+marks-too : Accepts write9 here
+unfolding valid keptOk has bit
+marks-too = taken write9 refl
+
+clears : Accepts synced7 here
+unfolding valid keptOk has bit
+clears = taken synced7 refl
+
+pub instance : Instance
+unfolding valid keptOk has bit
+instance =
+    record {
+      sized = refl;
+      able = record { size = refl; rules = refl; map = zeros-sound 4096; staging = zeros-sound 4096; serves = refl };
+      marks = marks;
+      marks-too = marks-too;
+      clears = clears;
+      version = stores-the-larger 7 1 2 _ (second 9 1 5 7 1 2 here refl marks-too marks) ∙ ap (λ (v : ℕ). larger v) (stores-the-larger 9 1 5 here marks-too);
+      mark-last = last-one-wins 7 1 2 0 here refl marks clears refl .0;
+      clear-last = last-one-wins 7 1 2 0 here refl marks clears refl .1;
+      one-order = kept-follow-arrival (seven ∷ nine ∷ []) here refl (marks, (marks-too, tt));
+      other-order = kept-follow-arrival (nine ∷ seven ∷ []) here refl (marks-too, (marks, tt));
+      eighths = record { sizes = refl; whole = refl };
+    }
+  where
+    seven : Write
+    seven = record { chunk = 7; set = 1; version = 2 }
+
+    nine : Write
+    nine = record { chunk = 9; set = 1; version = 5 }
+
+    larger : ℕ → ℕ
+    larger v = max v 2

@@ -1,0 +1,5 @@
+pub mod Either
+pub mod Writes
+pub mod Maps
+pub mod Arrival
+pub mod Instance
