@@ -10,6 +10,15 @@ import sys
 
 ROOT = os.path.dirname(os.path.dirname(os.path.abspath(__file__)))
 
+# Whole runs of the gate before the one whose log is read: what was in, crates and edits that passed, minutes and seconds, minutes of CPU time (0: not measured).
+EARLIER = [
+    ("the base as first proved", 176, "29:49", 0),
+    ("document 01 to the letter, C-23, C-14; other checks beside it", 215, "44:25", 56),
+]
+
+# Measured apart, by the time of `./lab` in a fresh copy.
+FIRST_ANSWER = "The first answer of `./lab`, from nothing and alone on two cores: 10 minutes and 47 seconds, C-11 and C-24 in; 11 minutes and 36 seconds when vectors and matrix were two programs."
+
 
 def lines(crate, folder, ending):
     total = 0
@@ -37,6 +46,15 @@ def main():
         "",
         "Last line of that run: `%s`, after %s minutes and %s seconds, %d minutes of CPU time. Sum of the times below: %d s of proofs, %d s of must-fail edits."
         % (last, minutes, seconds, round(cpu / 60), sum(int(s) for _, s in proved), sum(int(e[3]) for e in edits)),
+        "",
+        "| whole runs of the gate | passed | minutes | CPU minutes |",
+        "|---|---|---|---|",
+    ]
+    out += ["| %s | %d | %s | %s |" % (what, passed, wall, cpu_then or "") for what, passed, wall, cpu_then in EARLIER]
+    out += [
+        "| this one | %s | %s:%02d | %d |" % (last.split()[0], minutes, int(seconds), round(cpu / 60)),
+        "",
+        FIRST_ANSWER,
         "",
         "| crate | seconds | code | definitions | proofs | edits |",
         "|---|---|---|---|---|---|",
