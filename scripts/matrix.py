@@ -14,21 +14,25 @@ STDOUT = os.path.join(ROOT, "crates", "lab", "stdout")
 PAGE = os.path.join(ROOT, "docs", "MATRIX.md")
 FIRST = "# The matrix: every state with every event.\n"  # where it begins in STDIN
 
-# The acted-on session is 1. Its state: the words, the lab's numbers (state, maintenance, mark, mode, owed), and whether it is a member.
+# The acted-on session is 1. Its state: the words, the lab's numbers (state, maintenance, mark, mode, owed), whether it is a member, and what the pool went through.
 NONE, CREATED, NORMAL, FAILED, RECONNECTING, REMOVING = range(6)
+WRITTEN, ASSEMBLED = "written", "assembled"
 SESSIONS = [
-    ("none, no member", (NONE, 0, 0, 0, 0), False),
-    ("none, a member", (NONE, 0, 0, 0, 0), True),
-    ("CREATED", (CREATED, 0, 0, 0, 0), True),
-    ("NORMAL", (NORMAL, 0, 0, 0, 0), True),
-    ("FAILED", (FAILED, 0, 0, 0, 0), True),
-    ("FAILED, marked", (FAILED, 0, 1, 0, 0), True),
-    ("RECONNECTING", (RECONNECTING, 0, 0, 0, 0), True),
-    ("RECONNECTING, marked", (RECONNECTING, 0, 1, 0, 0), True),
-    ("RECONNECTING in maintenance", (RECONNECTING, 1, 0, 0, 0), True),
-    ("REMOVING (delete), LEAVE owed", (REMOVING, 0, 0, 0, 1), True),
-    ("REMOVING (delete), LEAVE done", (REMOVING, 0, 0, 0, 0), False),
-    ("REMOVING (disassemble), LEAVE owed", (REMOVING, 0, 0, 1, 1), True),
+    ("none, no member", (NONE, 0, 0, 0, 0), False, ()),
+    ("none, a member", (NONE, 0, 0, 0, 0), True, ()),
+    ("CREATED", (CREATED, 0, 0, 0, 0), True, ()),
+    ("CREATED, the pool written", (CREATED, 0, 0, 0, 0), True, (WRITTEN,)),
+    ("CREATED, the pool assembled", (CREATED, 0, 0, 0, 0), True, (ASSEMBLED,)),
+    ("NORMAL", (NORMAL, 0, 0, 0, 0), True, ()),
+    ("FAILED", (FAILED, 0, 0, 0, 0), True, ()),
+    ("FAILED, the pool written and assembled", (FAILED, 0, 0, 0, 0), True, (WRITTEN, ASSEMBLED)),
+    ("FAILED, marked", (FAILED, 0, 1, 0, 0), True, ()),
+    ("RECONNECTING", (RECONNECTING, 0, 0, 0, 0), True, ()),
+    ("RECONNECTING, marked", (RECONNECTING, 0, 1, 0, 0), True, ()),
+    ("RECONNECTING in maintenance", (RECONNECTING, 1, 0, 0, 0), True, ()),
+    ("REMOVING (delete), LEAVE owed", (REMOVING, 0, 0, 0, 1), True, ()),
+    ("REMOVING (delete), LEAVE done", (REMOVING, 0, 0, 0, 0), False, ()),
+    ("REMOVING (disassemble), LEAVE owed", (REMOVING, 0, 0, 1, 1), True, ()),
 ]
 SYNC_STATES = {NONE, CREATED, NORMAL, FAILED, REMOVING}
 
@@ -75,7 +79,7 @@ def client_events(members, normals):
 
 
 def client_setups(sync):
-    for words, own, member in SESSIONS:
+    for words, own, member, past in SESSIONS:
         if sync and (own[0] not in SYNC_STATES or own[2] or (own[0] == NONE and member) or (own[0] == REMOVING and (own[3], own[4]) != (0, 1))):
             continue
         for beside, others, job in SYNC_BESIDE if sync else BESIDE:
@@ -91,6 +95,7 @@ def client_setups(sync):
                 if s[0] != NONE:
                     lines.append("poke session %d %s" % (i, " ".join(map(str, s))))
             lines += ["poke members %d" % members, "poke count %d" % (0 if sync else bin(normals).count("1"))]
+            lines += ["poke %s 1" % w for w in past]
             lines.append("byte 0 %d %d" % (512 + CHUNK // 8, 1 << CHUNK % 8))
             after = normals & ~4 if job and job[0].startswith("remove") else normals
             yield words, beside, lines + job, client_events(members, after)
@@ -179,7 +184,7 @@ def blocks():
     for sync in (0, 1):
         for words, beside, lines, events in client_setups(sync):
             for name, line in events:
-                yield ("client", sync, beside), words, name, lines, line, []
+                yield ("client", sync, beside), words, name, lines, line, ["look"]
     for words, lines, events in node_setups():
         for name, line in events:
             yield ("node",), words, name, lines, "node 1 " + line, LOOKS
@@ -201,8 +206,8 @@ def history():
     return before() + FIRST + "\n".join(out) + "\n"
 
 
-def cell(line):
-    """An answer, short."""
+def cell(line, past=""):
+    """An answer, short, with what the pool went through before its messages."""
     if line.startswith("refused "):
         return line[8:]
     head, *messages = line.split(" | ")
@@ -220,7 +225,17 @@ def cell(line):
         for k in ("taken", "acked", "list"):
             if k in fields:
                 words.append("%s=%s" % (k, fields[k]))
-    return " ".join(words) + "".join("; " + m for m in messages)
+    return " ".join(words) + past + "".join("; " + m for m in messages)
+
+
+def past_of(answer, look, lines):
+    """What the pool went through, after the event; nothing for a refusal, which leaves it as it was set up."""
+    past = [w for w in (WRITTEN, ASSEMBLED) if "%s=1" % w in look.split()]
+    if not answer.startswith("refused "):
+        return "".join(" " + w for w in past)
+    if past != [w for w in (WRITTEN, ASSEMBLED) if "poke %s 1" % w in lines]:
+        sys.exit("matrix: a refusal changed what the pool went through")
+    return ""
 
 
 def chunks(line):
@@ -261,8 +276,6 @@ def fate(answers, was, known):
 
 def left_of(answer, looked):
     """The cells that say what became of map and staging; none for a refusal, which leaves both as they were."""
-    if not looked:
-        return []
     half = len(ROWS)
     both = [fate(looked[:half], MAP, {"staging's": [STAGING]}), fate(looked[half:], STAGING, {"the map's": [MAP], "ORed": [STAGING, TAKEN]})]
     if answer.startswith("refused "):
@@ -280,7 +293,11 @@ def page():
     for table, words, name, lines, _, looks in blocks():
         at += len(lines)
         looked = answers[at + 1 : at + 1 + len(looks)]
-        tables.setdefault(table, {}).setdefault(words, []).append([name, cell(answers[at])] + left_of(answers[at], looked))
+        if table[0] == "client":
+            cells = [cell(answers[at], past_of(answers[at], looked[0], lines))]
+        else:
+            cells = [cell(answers[at])] + left_of(answers[at], looked)
+        tables.setdefault(table, {}).setdefault(words, []).append([name] + cells)
         at += 1 + len(looks)
     if answers[at:] != [""]:
         sys.exit("matrix: the output does not fit the history")
@@ -290,7 +307,8 @@ def page():
         "Made by `scripts/matrix.py` from what the program `lab` answers to the last history of `crates/lab/stdin`, which the gate runs; the gate also compares this page with it.",
         "",
         "A number alone is the refusal. Else the answer: for the client the session letters (session 0 first; the acted-on session is 1), `v` the pool version,",
-        "`n` the NORMAL count, the sets that are not empty, the job, what the answer counts, and after each `;` a message; for the node its state and fields.",
+        "`n` the NORMAL count, the sets that are not empty, the job, what the answer counts, `written` and `assembled` where they stand, and after each `;` a message;",
+        "for the node its state and fields.",
         "The numbers and words are those of the lab (docs/HISTORIES.md).",
         "",
         "For the node (1, with the members 0, 1 and 2) also what became of its map and its staging. Looked at are row 0 (a member, the chosen of LAST_IO_TO_MAP), 1 (its own),",

@@ -19,7 +19,7 @@ LAYERS = {
     "ground": "numbers refusals sets chunks maps parts rows versions",
     "client": "state roster changes run recovery rules exits joins enables links writes removal answers client",
     "node": "nodestate noderegister nodejoins nodeenables nodewrites nodeserve nodehand nodemaps node",
-    "theorems": "order events bounds table nodeevents commuting world honest demand3",
+    "theorems": "order events creation bounds table nodeevents commuting world honest demand3",
     "lab": "text names lines forms eventlines commands say sayclient saynode sayrow saylab post lending anyclient anynode lendclient lendnode bench delivery reading arranging lab",
     "backup": "descriptors statuswriter statusreader statuslaws statustool status statusread statusrefused",
     "compare": "dumps differences saydifferences comparing compare comparesame comparelong",

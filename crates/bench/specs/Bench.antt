@@ -7,6 +7,7 @@ use lib.ListN.{getD, set, replicate}
 use Rattle.laws.specs.Words.{pick}
 use Rattle.refusals.specs.Limits.{mapBytes}
 use Rattle.parts.specs.Parts.{partBytes}
+use Rattle.state.specs.declared.Past.{Past}
 use Rattle.state.specs.declared.Roster.{Roster}
 use Rattle.state.specs.declared.Session.{Session}
 use Rattle.state.specs.declared.Job.{Job}
@@ -116,7 +117,7 @@ withRoster l ro =
 -- a roster with these numbers, its sessions as they were
 abbrev pub numbers : Roster → ℕ → ℕ → ℕ → Roster
 numbers ro count version members =
-    record { sessions = ro .sessions; count = count; version = version; members = members; sync = ro .sync }
+    record { sessions = ro .sessions; count = count; version = version; members = members; sync = ro .sync; past = ro .past }
 
 abbrev pub pokeVersion : Lab → ℕ → Lab
 pokeVersion l v = withRoster l (numbers (rosterOf l) (rosterOf l .count) v (rosterOf l .members))
@@ -126,6 +127,26 @@ pokeCount l v = withRoster l (numbers (rosterOf l) v (rosterOf l .version) (rost
 
 abbrev pub pokeMembers : Lab → ℕ → Lab
 pokeMembers l v = withRoster l (numbers (rosterOf l) (rosterOf l .count) (rosterOf l .version) v)
+
+-- another past
+abbrev pub pokePast : Lab → Past → Lab
+pokePast l past =
+    withRoster
+    l
+    (record {
+      sessions = rosterOf l .sessions;
+      count = rosterOf l .count;
+      version = rosterOf l .version;
+      members = rosterOf l .members;
+      sync = rosterOf l .sync;
+      past = past;
+    })
+
+abbrev pub pokeWritten : Lab → Bool → Lab
+pokeWritten l v = pokePast l (record { written = v; assembled = rosterOf l .past .assembled })
+
+abbrev pub pokeAssembled : Lab → Bool → Lab
+pokeAssembled l v = pokePast l (record { written = rosterOf l .past .written; assembled = v })
 
 abbrev pub pokeChunks : Lab → ℕ → Lab
 pokeChunks l v =
@@ -207,6 +228,8 @@ arranged l (Command.PokeMembers v) = pokeMembers l v
 arranged l (Command.PokeSession id s) = pokeSession l id s
 arranged l (Command.PokeNode n state store create members version transfer) = pokeNode l n state store create members version transfer
 arranged l (Command.PokeGot n got) = pokeGot l n got
+arranged l (Command.PokeWritten v) = pokeWritten l v
+arranged l (Command.PokeAssembled v) = pokeAssembled l v
 arranged l Command.Passed = l
 arranged l Command.Unreadable = l
 arranged l (Command.Client e) = l

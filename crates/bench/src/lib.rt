@@ -2,7 +2,7 @@
 // program: the client's 8,192 bytes, and 16 times 8,192 for the nodes' maps and for their staging maps.
 ghost use mathlib.Core.Path.{_≡_};
 ghost use lib.ListN.{set};
-ghost use Rattle.bench.specs.Bench.{freshBelow, freshLab, withAuto, withCut, withLent, awaiting, stillAwaiting, afterEvent, arranged, lentBy, withRoster, rosterOf, pokeVersion, pokeCount, pokeMembers, pokeChunks, pokeSession, nodeStateOf, transferOf, pokeNode, gotTo, pokedGot, pokeGot};
+ghost use Rattle.bench.specs.Bench.{freshBelow, freshLab, withAuto, withCut, withLent, awaiting, stillAwaiting, afterEvent, arranged, lentBy, withRoster, rosterOf, pokeVersion, pokeCount, pokeMembers, pokeChunks, pokeWritten, pokeAssembled, pokeSession, nodeStateOf, transferOf, pokeNode, gotTo, pokedGot, pokeGot};
 use client::Client;
 use forms::Command;
 use forms::Which;
@@ -12,6 +12,7 @@ use nodestate::Node;
 use nodestate::Transfer;
 use state::Job;
 use state::Message;
+use state::Past;
 use state::Pool;
 use state::Roster;
 use state::Session;
@@ -120,6 +121,8 @@ pub fn arrange(l: Lab, c: Command) -> Lab
         Command::PokeSession(id, s) => poke_session(l, id, s),
         Command::PokeNode(n, s, st, cr, m, v, t) => poke_node(l, n, s, st, cr, m, v, t),
         Command::PokeGot(n, got) => poke_got(l, n, got),
+        Command::PokeWritten(v) => poke_written(l, v),
+        Command::PokeAssembled(v) => poke_assembled(l, v),
         Command::Passed => l,
         Command::Unreadable => l,
         Command::Client(e) => l,
@@ -238,6 +241,32 @@ fn poke_members(l: Lab, v: u64) -> Lab
 {
     let mut ro = roster_of(l);
     ro.members = v;
+    with_roster(l, ro)
+}
+
+fn poke_written(l: Lab, v: bool) -> Lab
+    ensures { λ r. ⌜ r ≡ pokeWritten l v ⌝ }
+{
+    let mut ro = roster_of(l);
+    let past = ro.past;
+    let next = Past {
+        written: v,
+        assembled: past.assembled,
+    };
+    ro.past = next;
+    with_roster(l, ro)
+}
+
+fn poke_assembled(l: Lab, v: bool) -> Lab
+    ensures { λ r. ⌜ r ≡ pokeAssembled l v ⌝ }
+{
+    let mut ro = roster_of(l);
+    let past = ro.past;
+    let next = Past {
+        written: past.written,
+        assembled: v,
+    };
+    ro.past = next;
     with_roster(l, ro)
 }
 

@@ -1,5 +1,5 @@
 -- The named changes of the sixteen sessions and of the numbers that follow them. Every definition has a meaning at any id.
-use mathlib.Core.Bool.{Bool, true, false}
+use mathlib.Core.Bool.{Bool, true, false, not}
 use mathlib.Core.List.{map}
 use Prim.Native.Nat.{ℕ, _+_, _-_, max}
 use lib.Dec.{eqb, ltb}
@@ -9,7 +9,9 @@ use Rattle.sets.specs.Sets.{with, without}
 use Rattle.state.specs.declared.Mode.{Mode}
 use Rattle.state.specs.declared.State.{State}
 use Rattle.state.specs.declared.Session.{Session}
+use Rattle.state.specs.declared.Past.{Past}
 use Rattle.state.specs.declared.Roster.{Roster}
+use Rattle.state.specs.Past.{pastKept, pastTakenOver, pastWritten}
 use Rattle.state.specs.Session.{isNormal, free, newSession, moved, flagged, marked}
 use Rattle.changes.specs.declared.Cause.{Cause}
 use Rattle.changes.specs.declared.Way.{Way}
@@ -30,6 +32,7 @@ numbered ro n v =
       version = v;
       members = ro .members;
       sync = ro .sync;
+      past = ro .past;
     }
 
 -- ---- marks
@@ -46,6 +49,7 @@ allUnmarked ro =
       version = ro .version;
       members = ro .members;
       sync = ro .sync;
+      past = ro .past;
     }
 
 -- ---- the named changes
@@ -125,16 +129,37 @@ withMembers ro members =
       version = ro .version;
       members = members;
       sync = ro .sync;
+      past = ro .past;
+    }
+
+-- this past
+abbrev pub withPast : Roster → Past → Roster
+withPast ro past =
+    record {
+      sessions = ro .sessions;
+      count = ro .count;
+      version = ro .version;
+      members = ro .members;
+      sync = ro .sync;
+      past = past;
     }
 
 -- a member entered, a member dropped
 abbrev pub memberEntered : Roster → ℕ → Roster
 memberEntered ro id = withMembers ro (with (ro .members) id)
 
+-- the last one dropped clears the past
 abbrev pub memberDropped : Roster → ℕ → Roster
-memberDropped ro id = withMembers ro (without (ro .members) id)
+memberDropped ro id =
+    withPast (withMembers ro (without (ro .members) id)) (pastKept (ro .past) (not (eqb (without (ro .members) id) 0)))
 
--- a node's member set taken over, where the membership is empty; the larger version
+-- a node's member set taken over, where the membership is empty: the pool was assembled; the larger version
 abbrev pub takenOver : Roster → ℕ → ℕ → Roster
 takenOver ro members version =
-    withMembers (numbered ro (ro .count) (max (ro .version) version)) (pick (eqb (ro .members) 0) members (ro .members))
+    withPast
+    (withMembers (numbered ro (ro .count) (max (ro .version) version)) (pick (eqb (ro .members) 0) members (ro .members)))
+    (pastTakenOver (ro .past) (eqb (ro .members) 0))
+
+-- a write ended, acknowledged or not
+abbrev pub written : Roster → Bool → Roster
+written ro acknowledged = withPast ro (pastWritten (ro .past) acknowledged)

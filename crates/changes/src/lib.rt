@@ -2,7 +2,7 @@
 ghost use mathlib.Core.Path.{_≡_};
 ghost use mathlib.Core.List.{map};
 ghost use Prim.Native.Nat.{max};
-ghost use Rattle.changes.specs.Changes.{more, unmarked, allUnmarked, entered, isFailing, arrived, left, failed, went, owes, removing, enrolled, freed, flaggedAt, memberEntered, memberDropped, takenOver};
+ghost use Rattle.changes.specs.Changes.{more, unmarked, allUnmarked, entered, isFailing, arrived, left, failed, went, owes, removing, enrolled, freed, flaggedAt, memberEntered, memberDropped, takenOver, written};
 use state::Mode;
 use state::Roster;
 use state::Session;
@@ -182,11 +182,15 @@ pub fn enter_member(mut ro: Roster, id: u64) -> Roster
     ro
 }
 
-// A member is dropped.
+// A member is dropped; the last one clears the past.
 pub fn drop_member(mut ro: Roster, id: u64) -> Roster
     ensures { λ r. ⌜ r ≡ memberDropped ro id ⌝ }
 {
-    ro.members = sets::without(ro.members, id);
+    let left = sets::without(ro.members, id);
+    let past = ro.past;
+    let kept = past.kept(left != 0);
+    ro.members = left;
+    ro.past = kept;
     ro
 }
 
@@ -194,8 +198,22 @@ pub fn drop_member(mut ro: Roster, id: u64) -> Roster
 pub fn take_over(mut ro: Roster, members: u64, version: u64) -> Roster
     ensures { λ r. ⌜ r ≡ takenOver ro members version ⌝ }
 {
-    ro.members = numbers::choose(ro.members == 0, members, ro.members);
+    let empty = ro.members == 0;
+    let past = ro.past;
+    let taken = past.taken_over(empty);
+    ro.past = taken;
+    ro.members = numbers::choose(empty, members, ro.members);
     ro.version = larger(ro.version, version);
+    ro
+}
+
+// A write ended, acknowledged or not.
+pub fn write(mut ro: Roster, acknowledged: bool) -> Roster
+    ensures { λ r. ⌜ r ≡ written ro acknowledged ⌝ }
+{
+    let past = ro.past;
+    let later = past.written(acknowledged);
+    ro.past = later;
     ro
 }
 

@@ -14,6 +14,7 @@ use Rattle.state.specs.declared.Job.{Job}
 use Rattle.state.specs.declared.Pool.{Pool}
 use Rattle.state.specs.declared.Effect.{Effect}
 use Rattle.state.specs.declared.Turn.{Turn}
+use Rattle.state.specs.Past.{noPast}
 use Rattle.state.specs.Session.{free}
 use Rattle.removal.specs.Remove.{remove}
 use Rattle.writes.specs.Writes.{writeEnded, synced}
@@ -27,7 +28,7 @@ fresh sync chunks =
     record {
       pool =
           record {
-            roster = record { sessions = replicate 16 free; count = 0; version = 1; members = 0; sync = sync };
+            roster = record { sessions = replicate 16 free; count = 0; version = 1; members = 0; sync = sync; past = noPast };
             job = Job.Idle;
             number = 0;
             chunks = chunks;

@@ -11,6 +11,7 @@ use state::Answer;
 use state::Effect;
 use state::Job;
 use state::Mode;
+use state::Past;
 use state::Pool;
 use state::Reply;
 use state::Roster;
@@ -61,6 +62,7 @@ impl Client {
             version: 1,
             members: 0,
             sync: sync,
+            past: Past::none(),
         };
         let pool = Pool {
             roster: roster,

@@ -7,7 +7,7 @@ use lib.Dec.{ltb, eqb}
 use Rattle.laws.specs.Words.{pick}
 use Rattle.lines.specs.Lines.{lineOf}
 use Rattle.lines.specs.declared.Line.{Line}
-use Rattle.names.specs.Names.{POKE, CLIENT, ROW, STAGING, BYTE, STAGING-BYTE, LEND, LEND-STAGING, POKE-NODE, SESSION, VERSION, COUNT, CHUNKS, MEMBERS, CUT, POKE-GOT, LOOK}
+use Rattle.names.specs.Names.{POKE, CLIENT, ROW, STAGING, BYTE, STAGING-BYTE, LEND, LEND-STAGING, POKE-NODE, SESSION, VERSION, COUNT, CHUNKS, MEMBERS, CUT, POKE-GOT, LOOK, WRITTEN, ASSEMBLED}
 use Rattle.forms.specs.declared.Form.{Form}
 use Rattle.forms.specs.declared.Which.{Which}
 use Rattle.forms.specs.declared.Command.{Command}
@@ -45,14 +45,16 @@ pokes f rest =
     (pick (plain f POKE-NODE 8 && (ltb (f .x1) 16 && (ltb (f .x2) 5 && (ltb (f .x3) 2 && (ltb (f .x4) 2 && (ltb (f .x5) 65536 && ltb (f .x7) 3)))))) (Command.PokeNode (f .x1) (f .x2) (eqb (f .x3) 1) (eqb (f .x4) 1) (f .x5) (f .x6) (f .x7))
     rest)
 
--- The further fields of the pool and of a node, how far a node's transfer is, and how long the parts of a map are.
+-- The further fields of the pool and of a node: what they are, put into them; and how long the parts of a map are.
 unfoldable pub fields : Form → Command → Command
 fields f rest =
     pick (plain f LOOK 1) Command.Look
     (pick (plain f LOOK 2 && ltb (f .x1) 16) (Command.LookNode (f .x1))
     (pick (plain f POKE-GOT 3 && (ltb (f .x1) 16 && ltb (f .x2) 65536)) (Command.PokeGot (f .x1) (f .x2))
+    (pick (pair f POKE WRITTEN 3 && ltb (f .x2) 2) (Command.PokeWritten (eqb (f .x2) 1))
+    (pick (pair f POKE ASSEMBLED 3 && ltb (f .x2) 2) (Command.PokeAssembled (eqb (f .x2) 1))
     (pick (plain f CUT 2 && (ltb 0 (f .x1) && ltb (f .x1) 1025)) (Command.Cut (f .x1))
-    rest)))
+    rest)))))
 
 -- What a line of words says. Each form stands once, and no two have the same words, so the order is free.
 unfoldable pub meaning : Line → Command

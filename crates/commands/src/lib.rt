@@ -76,7 +76,7 @@ fn pokes(f: Form, rest: Command) -> Command
     first(is, Command::PokeSession(x2, s), r)
 }
 
-// The further fields of the pool and of a node, how far a node's transfer is, and how long the parts of a map are.
+// The further fields of the pool and of a node: what they are, put into them; and how long the parts of a map are.
 fn fields(f: Form, rest: Command) -> Command
     ensures { λ r. ⌜ r ≡ Commands·fields f rest ⌝ }
 {
@@ -84,6 +84,10 @@ fn fields(f: Form, rest: Command) -> Command
     let x2 = f.x2;
     let is = plain(f, names::CUT, 2) & ((0 < x1) & (x1 < 1025));
     let r = first(is, Command::Cut(x1), rest);
+    let is = pair(f, names::POKE, names::ASSEMBLED, 3) & (x2 < 2);
+    let r = first(is, Command::PokeAssembled(x2 == 1), r);
+    let is = pair(f, names::POKE, names::WRITTEN, 3) & (x2 < 2);
+    let r = first(is, Command::PokeWritten(x2 == 1), r);
     let is = plain(f, names::POKE_GOT, 3) & ((x1 < 16) & (x2 < 65536));
     let r = first(is, Command::PokeGot(x1, x2), r);
     let is = plain(f, names::LOOK, 2) & (x1 < 16);

@@ -12,6 +12,7 @@ use Rattle.refusals.specs.Limits.{versionLimit}
 use Rattle.state.specs.declared.State.{State}
 use Rattle.state.specs.declared.Session.{Session}
 use Rattle.state.specs.declared.Pool.{Pool}
+use Rattle.state.specs.Past.{inService}
 use Rattle.state.specs.Session.{isFree, isCreated, isNormal, isReconnecting, moved, flagged}
 use Rattle.changes.specs.declared.Way.{Way}
 use Rattle.roster.specs.Roster.{sessionAt}
@@ -54,7 +55,8 @@ enable-passed p id e =
     let d = passed (not (isIdle (p .job))) 6 _ (λ h. omega arith) (c .1) in
     let f = passed (isFree (sessionAt (p .roster) id .state)) 7 _ (λ h. omega arith) (d .1) in
     let g = passed (not (enables (sessionAt (p .roster) id))) 9 _ (λ h. omega arith) (f .1) in
-    let k = passed (isCreated (sessionAt (p .roster) id .state) && ltb versionLimit (p .roster .version)) 14 _ (λ h. omega arith) (g .1) in
+    let l = passed (isCreated (sessionAt (p .roster) id .state) && inService (p .roster .past)) 17 _ (λ h. omega arith) (g .1) in
+    let k = passed (isCreated (sessionAt (p .roster) id .state) && ltb versionLimit (p .roster .version)) 14 _ (λ h. omega arith) (l .1) in
     record {
       below = omega (arith, ltb-false 15 id (b .0));
       plain = c .0;

@@ -11,6 +11,7 @@ use Rattle.state.specs.declared.Pool.{Pool}
 use Rattle.state.specs.declared.Told.{Told}
 use Rattle.state.specs.declared.Outcome.{Outcome}
 use Rattle.state.specs.declared.Turn.{Turn}
+use Rattle.state.specs.Past.{inService}
 use Rattle.state.specs.Session.{isFree, isCreated, isNormal, isReconnecting}
 use Rattle.changes.specs.declared.Way.{Way}
 use Rattle.roster.specs.Roster.{sessionAt}
@@ -34,6 +35,7 @@ enableTests p id =
     ∷ test 6 (not (isIdle (p .job)))
     ∷ test 7 (isFree (sessionAt (p .roster) id .state))
     ∷ test 9 (not (enables (sessionAt (p .roster) id)))
+    ∷ test 17 (isCreated (sessionAt (p .roster) id .state) && inService (p .roster .past))
     ∷ test 14 (isCreated (sessionAt (p .roster) id .state) && ltb versionLimit (p .roster .version))
     ∷ []
 

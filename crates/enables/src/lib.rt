@@ -27,8 +27,11 @@ fn enable_refusal(p: Pool, id: u64) -> u64
     let idle = rules::jobs::is_idle(j);
     let free = state::is_free(st);
     let may = may_enable(s);
-    let high = state::is_created(st) & (refusals::VERSION_LIMIT < ro.version);
-    let rest = first(free, 7, first(!may, 9, first(high, 14, 0)));
+    let created = state::is_created(st);
+    let past = ro.past;
+    let late = created & past.in_service();
+    let high = created & (refusals::VERSION_LIMIT < ro.version);
+    let rest = first(free, 7, first(!may, 9, first(late, 17, first(high, 14, 0))));
     first(
         !ok,
         1,

@@ -6,6 +6,7 @@ use lib.ListN.{replicate}
 use Rattle.laws.specs.Words.{bit}
 use Rattle.refusals.specs.Limits.{chunkLimit}
 use Rattle.sets.specs.Sets.{has, size}
+use Rattle.state.specs.Past.{noPast}
 use Rattle.state.specs.Session.{free}
 use Rattle.state.specs.declared.Roster.{Roster}
 use Rattle.roster.specs.Roster.{idsOf}
@@ -17,7 +18,7 @@ use Rattle.client.specs.Client.{fresh}
 -- ---- a fresh client keeps the rules
 
 abbrev freshRoster : Bool → Roster
-freshRoster sync = record { sessions = replicate 16 free; count = 0; version = 1; members = 0; sync = sync }
+freshRoster sync = record { sessions = replicate 16 free; count = 0; version = 1; members = 0; sync = sync; past = noPast }
 
 fresh-ok : (sync : Bool) → rosterOk (freshRoster sync) ≡ true
 unfolding rosterOk idsOf size has bit

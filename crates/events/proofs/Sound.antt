@@ -33,8 +33,8 @@ use Rattle.links.specs.Links.{downRefusal, dropped, downDone, linkDown, checkRe
 use Rattle.removal.specs.Removal as removal
 use Rattle.removal.specs.Remove.{removeRefusal, remove}
 use Rattle.removal.specs.declared.Gone.{Gone}
-use Rattle.writes.proofs.Kept.{synced-same}
-use Rattle.writes.specs.Writes.{missed, writeRefusal, writeEnded, marks, writeDone, loses}
+use Rattle.writes.proofs.Kept.{wroteIn, synced-same}
+use Rattle.writes.specs.Writes.{writeRefusal, writeEnded, marks, writeDone, loses}
 use Rattle.answers.specs.Answers.{answerRefusal, enteredBy, answered, answer, movedOn}
 use Rattle.client.specs.Client.{carried, soundFor, removeTurn, writeTurn, answerTurn, syncedTurn, cleanTo}
 use Rattle.client.specs.declared.Client.{Client}
@@ -140,8 +140,8 @@ write-count xs chunk reached c =
     turned (Same (c .pool)) (writeRefusal (c .pool) (soundFor (c .pool) xs) chunk reached) _ (c .pool) refl
     (λ e. pools (Same (c .pool)) (eqb reached 0) _ _ (λ z. here) (λ z. here))
   where
-    here : Same (c .pool) (haltedIf (loses (c .pool .job) (c .pool .roster) reached) (withRoster (c .pool) (missed (c .pool .roster) reached)))
-    here = halts (Same (c .pool)) (loses (c .pool .job) (c .pool .roster) reached) (withRoster (c .pool) (missed (c .pool .roster) reached)) refl refl
+    here : Same (c .pool) (haltedIf (loses (c .pool .job) (c .pool .roster) reached) (withRoster (c .pool) (wroteIn (c .pool) reached)))
+    here = halts (Same (c .pool)) (loses (c .pool .job) (c .pool .roster) reached) (withRoster (c .pool) (wroteIn (c .pool) reached)) refl refl
 
 pub synced-count : (xs : List ℕ) (member chunk : ℕ) (c : Client) → next (Event.synced xs member chunk) c .pool .chunks ≡ c .pool .chunks
 unfolding joinCreate createDone joinAssemble assembleDone enable enableDone maintenance maintenanceDone linkDown downDone storeCheck checkDone tryRun remove removeTurn writeEnded writeDone marks writeTurn syncedTurn answer answerTurn

@@ -32,7 +32,8 @@ use Rattle.links.specs.Links.{downRefusal, dropped, downDone, linkDown, checkRe
 use Rattle.removal.specs.Removal as removal
 use Rattle.removal.specs.Remove.{removeRefusal, remove}
 use Rattle.removal.specs.declared.Gone.{Gone}
-use Rattle.writes.specs.Writes.{missed, writeRefusal, writeEnded, marks, writeDone, syncRefusal, syncDone, synced, loses}
+use Rattle.writes.proofs.Kept.{wroteIn}
+use Rattle.writes.specs.Writes.{writeRefusal, writeEnded, marks, writeDone, syncRefusal, syncDone, synced, loses}
 use Rattle.client.specs.Client.{soundFor, removeTurn, writeTurn, syncedTurn, cleanTo}
 use Rattle.client.specs.declared.Client.{Client}
 use Rattle.events.specs.Events.{Event, turnOf, isAccepted, testsOf, outOf, isAnswer}
@@ -183,7 +184,7 @@ write-trial xs chunk reached c n =
     (λ e. let i : isRunning (c .pool .job) ≡ false = none-applies (testsOf (Event.write xs chunk reached) c) e 6 refl in
     no-run (c .pool) _
     (marks-quiet (c .pool) _ chunk reached
-    (halts Quiet (loses (c .pool .job) (c .pool .roster) reached) (withRoster (c .pool) (missed (c .pool .roster) reached)) refl i)))
+    (halts Quiet (loses (c .pool .job) (c .pool .roster) reached) (withRoster (c .pool) (wroteIn (c .pool) reached)) refl i)))
 
 pub synced-trial : (xs : List ℕ) (member chunk : ℕ) (c : Client) → isAnswer (Event.synced xs member chunk) ≡ false → isAccepted (outOf (Event.synced xs member chunk) c .answer) ≡ true → Tries (c .pool) (turnOf (Event.synced xs member chunk) c)
 unfolding joinCreate createRefusal createDone joinAssemble assembleRefusal assembleDone enable enableRefusal enableDone maintenance maintenanceRefusal maintenanceDone linkDown downDone storeCheck checkRefusal checkDone tryRun tryRefusal remove removeTurn writeEnded writeRefusal writeDone writeTurn synced syncRefusal syncDone syncedTurn

@@ -40,7 +40,7 @@ use Rattle.links.specs.Links.{downRefusal, dropped, downDone, linkDown, checkRe
 use Rattle.removal.proofs.Steps.{departed-goes, started-goes, told-goes, paid-long, removing-long, remove-passed, paid-numbers, removing-numbers}
 use Rattle.removal.specs.Removal as removal
 use Rattle.removal.specs.Remove.{removeRefusal, remove}
-use Rattle.writes.proofs.Kept.{misses, write-passed, write-roster, missed-does, synced-same, Missed}
+use Rattle.writes.proofs.Kept.{wroteIn, misses, write-passed, write-roster, missed-does, synced-same, Missed}
 use Rattle.writes.specs.Writes.{missed, writeRefusal, writeEnded, writeDone}
 use Rattle.answers.proofs.Kept.{run-roster}
 use Rattle.answers.specs.Answers.{answerRefusal, enteredBy, answered, answer, reported}
@@ -203,7 +203,7 @@ down-risen c id v h q same =
         none-risen c q (version _ (other-dropped (c .pool .roster) id (rw n (and-false (not (isSync c)))) .versioned))
         (λ j. elim (ℕ-discrete j id) [ yes e ↦ rw (e, n) refl | no d ↦ other j d ])
 
-write-risen : (c : Client) (reached : ℕ) → Valid (c .pool) → isSync c ≡ false → (q : Pool) → q .roster ≡ missed (c .pool .roster) reached → Risen c q
+write-risen : (c : Client) (reached : ℕ) → Valid (c .pool) → isSync c ≡ false → (q : Pool) → q .roster ≡ wroteIn (c .pool) reached → Risen c q
 write-risen c reached v plain q same =
     ap (λ (ro : Roster). ro .version) same ∙ (d .version ∙ rw (plain, countTo-same (fell c (record { pool = q })) (λ j. misses reached j (c .pool .roster)) 16 falls) refl)
   where

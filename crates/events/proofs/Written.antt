@@ -31,7 +31,7 @@ use Rattle.rules.specs.Rules.{jobOk, stageOk}
 use Rattle.keeps.specs.Ids.{ids-has}
 use Rattle.keeps.specs.Pools.{Valid, removal-facts}
 use Rattle.keeps.specs.Records.{normal-below}
-use Rattle.writes.proofs.Kept.{write-passed, write-roster, missed-does, Writes, reached-normal, marks-pool}
+use Rattle.writes.proofs.Kept.{wroteIn, write-passed, write-roster, missed-does, Writes, reached-normal, marks-pool}
 use Rattle.writes.specs.Writes.{missed, writeRefusal, writeEnded, marks, writeDone, loses}
 use Rattle.client.specs.Client.{carried, soundFor, writeTurn}
 use Rattle.client.specs.declared.Client.{Client}
@@ -64,8 +64,8 @@ unfolding writeDone
 wrote c chunk reached v w =
     record {
       fails = λ id n. ap (λ (ro : Roster). sessionAt ro id .state) (write-roster (c .pool) chunk reached) ∙ by-cases (has reached id) (spared id n) (failed id n);
-      halts = marks-pool (λ q. q .job ≡ pick (missesPeer (jobOf c) c reached) Job.Idle (jobOf c)) (c .pool) (haltedIf (loses (c .pool .job) (c .pool .roster) reached) (withRoster (c .pool) (missed (c .pool .roster) reached))) chunk reached
-          (halted-job (loses (c .pool .job) (c .pool .roster) reached) (withRoster (c .pool) (missed (c .pool .roster) reached)) ∙ ap (λ (b : Bool). pick b Job.Idle (jobOf c)) (lost-is (c .pool .job) c reached v (v .job)));
+      halts = marks-pool (λ q. q .job ≡ pick (missesPeer (jobOf c) c reached) Job.Idle (jobOf c)) (c .pool) (haltedIf (loses (c .pool .job) (c .pool .roster) reached) (withRoster (c .pool) (wroteIn (c .pool) reached))) chunk reached
+          (halted-job (loses (c .pool .job) (c .pool .roster) reached) (withRoster (c .pool) (wroteIn (c .pool) reached)) ∙ ap (λ (b : Bool). pick b Job.Idle (jobOf c)) (lost-is (c .pool .job) c reached v (v .job)));
     }
   where
     spared : (id : ℕ) → isNormal (stateOf c id) ≡ true → has reached id ≡ true → sessionAt (missed (c .pool .roster) reached) id .state ≡ pick (has reached id) State.Normal State.Failed

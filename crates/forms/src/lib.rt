@@ -78,6 +78,8 @@ pub enum Command {
     PokeCount(u64),
     PokeChunks(u64),
     PokeMembers(u64),
+    PokeWritten(bool),
+    PokeAssembled(bool),
     PokeSession(u64, Session),
     PokeNode(u64, u64, bool, bool, u64, u64, u64),
     PokeGot(u64, u64),

@@ -22,6 +22,7 @@ use Rattle.state.specs.declared.Job.{Job}
 use Rattle.state.specs.declared.Pool.{Pool}
 use Rattle.state.specs.declared.Told.{Told}
 use Rattle.state.specs.declared.Outcome.{Outcome}
+use Rattle.state.specs.Past.{noPast}
 use Rattle.state.specs.Session.{free, newSession}
 use Rattle.state.specs.Session as session
 use Rattle.roster.specs.declared.Kind.{Kind}
@@ -52,7 +53,7 @@ use Rattle.honest.proofs.Cases.{case-1, case-2, case-3}
 unfoldable pub pool : Session → Session → Session → ℕ → Pool
 pool a b c count =
     record {
-      roster = record { sessions = a ∷ (b ∷ (c ∷ replicate 13 free)); count = count; version = 4; members = 7; sync = false };
+      roster = record { sessions = a ∷ (b ∷ (c ∷ replicate 13 free)); count = count; version = 4; members = 7; sync = false; past = noPast };
       job = Job.Idle;
       number = 0;
       chunks = 12;

@@ -12,11 +12,13 @@ use Rattle.sets.specs.Sets.{has, with, size}
 use Rattle.sets.proofs.Laws.{has-none, has-with-same, has-with-other, with-lt, size-le}
 use native.Mathlib.Decide.{ℕ-discrete}
 use Rattle.state.specs.declared.State.{State}
+use Rattle.state.specs.declared.Past.{Past}
 use Rattle.state.specs.declared.Roster.{Roster}
+use Rattle.state.specs.Past.{pastTakenOver}
 use Rattle.state.specs.Session.{isFree, isNormal, isFailed, isReconnecting, isRemoving, newSession}
 use Rattle.roster.specs.declared.Kind.{Kind}
 use Rattle.roster.specs.Roster.{sessionAt, odd, idsOf}
-use Rattle.changes.specs.Changes.{numbered, enrolled, withMembers, memberEntered, takenOver}
+use Rattle.changes.specs.Changes.{numbered, enrolled, withMembers, withPast, memberEntered, takenOver}
 use Rattle.keeps.specs.Rosters.{Ok, oddBy, plain-even, quiet-keeps, sync-keeps, count-is}
 
 -- ---- a membership that holds every member it held
@@ -89,6 +91,30 @@ version-keeps ro version v low high =
       even = v .even;
     }
 
+-- ---- the past, which no rule speaks of
+
+normals-past : (ro : Roster) (past : Past) → idsOf Kind.Normals (withPast ro past) ≡ idsOf Kind.Normals ro
+unfolding idsOf
+normals-past ro past = refl
+
+marked-past : (ro : Roster) (past : Past) → idsOf Kind.Marked (withPast ro past) ≡ idsOf Kind.Marked ro
+unfolding idsOf
+marked-past ro past = refl
+
+pub past-keeps : (ro : Roster) (past : Past) → Ok ro → Ok (withPast ro past)
+past-keeps ro past v =
+    record {
+      long = v .long;
+      count = v .count ∙ ap (λ (n : ℕ). pick (ro .sync) 0 (size n)) (sym (normals-past ro past));
+      one-mark = rw (marked-past ro past) (v .one-mark);
+      no-mark = rw (marked-past ro past, normals-past ro past) (v .no-mark);
+      low = v .low;
+      high = v .high;
+      small = v .small;
+      none = v .none;
+      even = v .even;
+    }
+
 -- ---- a node's member set and version taken over
 
 taken-more : (members set : ℕ) (j : ℕ) → j < 16 → has members j ≡ true → has (pick (eqb members 0) set members) j ≡ true
@@ -99,11 +125,12 @@ taken-more members set j hj e =
 
 pub taken-keeps : (ro : Roster) (set version : ℕ) → Ok ro → ro .sync ≡ false → set < 65536 → version ≤ versionLimit → Ok (takenOver ro set version)
 taken-keeps ro set version v sync small low =
-    members-keep (numbered ro (ro .count) (max (ro .version) version)) (pick (eqb (ro .members) 0) set (ro .members))
+    past-keeps (withMembers (numbered ro (ro .count) (max (ro .version) version)) (pick (eqb (ro .members) 0) set (ro .members))) (pastTakenOver (ro .past) (eqb (ro .members) 0))
+    (members-keep (numbered ro (ro .count) (max (ro .version) version)) (pick (eqb (ro .members) 0) set (ro .members))
     (version-keeps ro (max (ro .version) version) v (omega (arith, v .low)) (omega (arith, v .high, low, count-is ro v sync, size-le (idsOf Kind.Normals ro))))
     sync
     (at (eqb (ro .members) 0))
-    (taken-more (ro .members) set)
+    (taken-more (ro .members) set))
   where
     at : (b : Bool) → pick b set (ro .members) < 65536
     at true = small

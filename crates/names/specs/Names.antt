@@ -149,6 +149,12 @@ POKE-GOT = 47
 abbrev pub LOOK : ℕ
 LOOK = 48
 
+abbrev pub WRITTEN : ℕ
+WRITTEN = 49
+
+abbrev pub ASSEMBLED : ℕ
+ASSEMBLED = 50
+
 -- the code of what is no word
 abbrev pub UNKNOWN : ℕ
 UNKNOWN = 255
@@ -229,6 +235,12 @@ namesF w rest =
     (word w "look" LOOK
     rest)))))))
 
+unfoldable pub namesG : List ℕ → ℕ → ℕ
+namesG w rest =
+    word w "written" WRITTEN
+    (word w "assembled" ASSEMBLED
+    rest)
+
 -- The code of a word, UNKNOWN for any other bytes.
 unfoldable pub nameOf : List ℕ → ℕ
-nameOf w = namesA w (namesB w (namesC w (namesD w (namesE w (namesF w UNKNOWN)))))
+nameOf w = namesA w (namesB w (namesC w (namesD w (namesE w (namesF w (namesG w UNKNOWN))))))

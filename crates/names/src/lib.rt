@@ -2,7 +2,7 @@
 ghost use mathlib.Core.Path.{_≡_};
 ghost use Rattle.laws.specs.Words.{pick};
 ghost use Rattle.text.specs.Bytes.{eqBytes};
-ghost use Rattle.names.specs.Names.{namesA, namesB, namesC, namesD, namesE, namesF, nameOf};
+ghost use Rattle.names.specs.Names.{namesA, namesB, namesC, namesD, namesE, namesF, namesG, nameOf};
 use text::same;
 
 pub const POOL: u64 = 1;
@@ -100,6 +100,10 @@ pub const CUT: u64 = 46;
 pub const POKE_GOT: u64 = 47;
 
 pub const LOOK: u64 = 48;
+
+pub const WRITTEN: u64 = 49;
+
+pub const ASSEMBLED: u64 = 50;
 
 // The code of what is no word.
 pub const UNKNOWN: u64 = 255;
@@ -337,12 +341,26 @@ fn names_f(s: &[u8], rest: u64) -> u64
     )
 }
 
+fn names_g(s: &[u8], rest: u64) -> u64
+    ensures { λ r. ⌜ r ≡ namesG (now (s .entry)) rest ⌝ }
+{
+    word(
+        s,
+        b"written",
+        WRITTEN,
+        word(s, b"assembled", ASSEMBLED, rest),
+    )
+}
+
 // The code of a word, UNKNOWN for any other bytes.
 pub fn name(s: &[u8]) -> u64
     ensures { λ r. ⌜ r ≡ nameOf (now (s .entry)) ⌝ }
 {
     names_a(
         s,
-        names_b(s, names_c(s, names_d(s, names_e(s, names_f(s, UNKNOWN))))),
+        names_b(
+            s,
+            names_c(s, names_d(s, names_e(s, names_f(s, names_g(s, UNKNOWN))))),
+        ),
     )
 }

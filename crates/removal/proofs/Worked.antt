@@ -18,6 +18,7 @@ use Rattle.state.specs.declared.Reply.{Reply}
 use Rattle.state.specs.declared.Answer.{Answer}
 use Rattle.state.specs.declared.Effect.{Effect}
 use Rattle.state.specs.declared.Turn.{Turn}
+use Rattle.state.specs.Past.{noPast}
 use Rattle.state.specs.Session.{newSession}
 use Rattle.laws.specs.Words.{bit}
 use Rattle.sets.specs.Sets.{has, with, without, size, lowest}
@@ -41,6 +42,7 @@ three =
             version = 1;
             members = 7;
             sync = false;
+            past = noPast;
           };
       job = Job.Idle;
       number = 4294967295;
@@ -57,6 +59,7 @@ lone =
             version = 1;
             members = 1;
             sync = false;
+            past = noPast;
           };
       job = Job.Idle;
       number = 0;
@@ -73,6 +76,7 @@ synced =
             version = 1;
             members = 0;
             sync = true;
+            past = noPast;
           };
       job = Job.Idle;
       number = 0;

@@ -26,6 +26,7 @@ stored ro id s =
       version = ro .version;
       members = ro .members;
       sync = ro .sync;
+      past = ro .past;
     }
 
 -- ---- sets of ids

@@ -1,4 +1,4 @@
--- How long the client's line can be.
+-- How long the client's lines can be.
 use Prim.Native.Nat.{ℕ, zero, suc, _+_, _*_, _≤_}
 use mathlib.Core.Path.{_≡_}
 use mathlib.Core.Bool.{Bool, true, false}
@@ -22,7 +22,7 @@ use Rattle.state.specs.declared.Sent.{Sent}
 use Rattle.state.specs.Session.{isNothing}
 use Rattle.roster.specs.declared.Kind.{Kind}
 use Rattle.roster.specs.Roster.{idsOf}
-use Rattle.sayclient.specs.Client.{letter, phaseText, jobText, outcomeText, rosterText, flagsText, clientText}
+use Rattle.sayclient.specs.Client.{letter, phaseText, jobText, outcomeText, rosterText, flagsText, clientText, lookText}
 
 pair-length : (s : List ℕ) (n : ℕ) → length (paired s n) ≤ length s + 20
 pair-length s n = rw (joined-length (s ∷ decimal n ∷ [])) (omega (arith, decimal-length n))
@@ -124,3 +124,10 @@ unfolding clientText
 client-length p s e =
     rw (joined-length (rosterText (p .roster) ∷ flagsText (p .roster) ∷ jobText (p .job) ∷ outcomeText (s .outcome) ∷ toldText (s .told) ∷ awaitedText (s .awaited) (s .number) ∷ []))
     (omega (arith, roster-length (p .roster) e, flags-length (p .roster), job-length (p .job), outcome-length (s .outcome), told-length (s .told), awaited-length (s .awaited) (s .number)))
+
+-- The line of the pool's further fields is at most 64 bytes.
+pub look-length : (p : Pool) → length (lookText p) ≤ 64
+unfolding lookText
+look-length p =
+    rw (joined-length (paired (bytes "look written=") (one (p .roster .past .written)) ∷ paired (bytes " assembled=") (one (p .roster .past .assembled)) ∷ []))
+    (omega (arith, pair-length (bytes "look written=") (one (p .roster .past .written)), pair-length (bytes " assembled=") (one (p .roster .past .assembled))))

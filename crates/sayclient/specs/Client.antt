@@ -1,4 +1,4 @@
--- The client's line after an accepted event.
+-- The client's line after an accepted event, and the line of the pool's further fields.
 use Prim.Native.Nat.{ℕ}
 use mathlib.Core.List.{List, [], _∷_, map}
 use Rattle.laws.specs.Words.{one}
@@ -73,3 +73,11 @@ clientText p s =
     joined
     (rosterText (p .roster) ∷ flagsText (p .roster) ∷ jobText (p .job)
     ∷ outcomeText (s .outcome) ∷ toldText (s .told) ∷ awaitedText (s .awaited) (s .number) ∷ [])
+
+-- The further fields: what the pool went through.
+unfoldable pub lookText : Pool → List ℕ
+lookText p =
+    joined
+    (paired (bytes "look written=") (one (p .roster .past .written))
+    ∷ paired (bytes " assembled=") (one (p .roster .past .assembled))
+    ∷ [])

@@ -1,8 +1,8 @@
-// The client's line after an accepted event.
+// The client's line after an accepted event, and the line of the pool's further fields.
 ghost use mathlib.Core.Path.{_≡_};
 ghost use mathlib.Core.List.{map};
 ghost use Rattle.text.specs.Ink.{ink, emits};
-ghost use Rattle.sayclient.specs.Client.{letter, phaseText, jobText, outcomeText, rosterText, flagsText, clientText};
+ghost use Rattle.sayclient.specs.Client.{letter, phaseText, jobText, outcomeText, rosterText, flagsText, clientText, lookText};
 use roster::Kind;
 use state::Job;
 use state::Outcome;
@@ -122,4 +122,14 @@ pub fn put_client(out: &mut [u8], at: usize, p: Pool, sent: Sent) -> usize
     let to = put_outcome(out, to, outcome);
     let to = say::put_told(out, to, told);
     say::put_awaited(out, to, awaited, sent.number as u64)
+}
+
+// The line of the pool's further fields, without its newline.
+pub fn put_look(out: &mut [u8], at: usize, p: Pool) -> usize
+    ensures { λ r. ⌜ ink (now (out .exit)) r ≡ emits (ink (now (out .entry)) at) (lookText p) ⌝ }
+{
+    let ro = p.roster;
+    let past = ro.past;
+    let to = say::put_pair(out, at, b"look written=", numbers::one(past.written));
+    say::put_pair(out, to, b" assembled=", numbers::one(past.assembled))
 }

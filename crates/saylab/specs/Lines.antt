@@ -10,7 +10,7 @@ use Rattle.state.specs.declared.Pool.{Pool}
 use Rattle.nodestate.specs.declared.Node.{Node}
 use Rattle.forms.specs.declared.Which.{Which}
 use Rattle.say.specs.Say.{paired}
-use Rattle.sayclient.specs.Client.{clientText}
+use Rattle.sayclient.specs.Client.{clientText, lookText as Client·lookText}
 use Rattle.saynode.specs.NodeLine.{nodeText, lookText}
 use Rattle.sayrow.specs.Row.{rowText}
 use Rattle.saylab.specs.declared.Said.{Said}
@@ -29,7 +29,7 @@ lineIn k (Said.Refused why) p n = ended k (paired (bytes "refused ") why)
 lineIn k (Said.Client sent) p n = ended k (clientText p sent)
 lineIn k (Said.Node id) p n = ended k (nodeText n)
 lineIn k (Said.Row w m) p n = k
-lineIn k Said.Look p n = ended k (bytes "look")
+lineIn k Said.Look p n = ended k (Client·lookText p)
 lineIn k (Said.LookNode id) p n = ended k (lookText n)
 
 -- the row of member m in the nth map of xs; nothing where that map is not there

@@ -3,7 +3,7 @@ ghost use mathlib.Core.Path.{_≡_};
 ghost use Rattle.text.specs.Bytes.{bytes};
 ghost use Rattle.text.specs.Ink.{ink};
 ghost use Rattle.say.specs.Say.{paired};
-ghost use Rattle.sayclient.specs.Client.{clientText};
+ghost use Rattle.sayclient.specs.Client.{clientText, lookText as Client·lookText};
 ghost use Rattle.saynode.specs.NodeLine.{nodeText, lookText};
 ghost use Rattle.saylab.specs.Lines.{ended, lineIn, rowOf, rowIn};
 use forms::Which;
@@ -39,7 +39,7 @@ pub fn put_line(out: &mut [u8], at: usize, s: Said, p: Pool, n: Node) -> usize
         Said::Client(sent) => client_line(out, at, p, sent),
         Said::Node(id) => node_line(out, at, n),
         Said::Row(w, m) => at,
-        Said::Look => word_line(out, at, b"look"),
+        Said::Look => pool_line(out, at, p),
         Said::LookNode(id) => look_line(out, at, n),
     }
 }
@@ -62,6 +62,13 @@ fn client_line(out: &mut [u8], at: usize, p: Pool, sent: Sent) -> usize
     ensures { λ r. ⌜ ink (now (out .exit)) r ≡ ended (ink (now (out .entry)) at) (clientText p sent) ⌝ }
 {
     let to = sayclient::put_client(out, at, p, sent);
+    text::put(out, to, 10)
+}
+
+fn pool_line(out: &mut [u8], at: usize, p: Pool) -> usize
+    ensures { λ r. ⌜ ink (now (out .exit)) r ≡ ended (ink (now (out .entry)) at) (Client·lookText p) ⌝ }
+{
+    let to = sayclient::put_look(out, at, p);
     text::put(out, to, 10)
 }
 

@@ -1,6 +1,7 @@
 // The compute client's types, and the tests on one session record. A value that no event can make is made impossible by its type where that is cheap;
 // what is left is tested by the state rules.
 ghost use mathlib.Core.Path.{_≡_};
+ghost use Rattle.state.specs.Past.{noPast, inService, pastWritten, pastTakenOver, pastKept};
 ghost use Rattle.state.specs.Session.{isFree, isCreated, isNormal, isFailed, isReconnecting, isRemoving, isDelete, isDeleting, isOwed, isTold, candidate, newSession, moved, flagged, marked, isNothing};
 
 // Delete takes the member out for good; disassemble leaves it a member.
@@ -25,6 +26,12 @@ pub struct Session {
     pub mark: bool,
 }
 
+// What the pool went through since its membership was last emptied by a delete. written: a write was acknowledged. assembled: a node's member set was taken over.
+pub struct Past {
+    pub written: bool,
+    pub assembled: bool,
+}
+
 // The sixteen sessions, with the numbers that follow them. count is the NORMAL count.
 pub struct Roster {
     pub sessions: [Session; 16],
@@ -32,6 +39,7 @@ pub struct Roster {
     pub version: u64,
     pub members: u64,
     pub sync: bool,
+    pub past: Past,
 }
 
 // The three messages of a spread to one receiver.
@@ -361,6 +369,51 @@ impl Session {
             state: st,
             maintenance: self.maintenance,
             mark: on,
+        }
+    }
+}
+
+impl Past {
+    pub fn none() -> Past
+        ensures { λ r. ⌜ r ≡ noPast ⌝ }
+    {
+        Past {
+            written: false,
+            assembled: false,
+        }
+    }
+
+    // Whether the pool is in service: what a CREATED session missed is no longer known.
+    pub fn in_service(self) -> bool
+        ensures { λ r. ⌜ r ≡ inService self ⌝ }
+    {
+        self.written | self.assembled
+    }
+
+    pub fn written(self, acknowledged: bool) -> Past
+        ensures { λ r. ⌜ r ≡ pastWritten self acknowledged ⌝ }
+    {
+        Past {
+            written: self.written | acknowledged,
+            assembled: self.assembled,
+        }
+    }
+
+    pub fn taken_over(self, empty: bool) -> Past
+        ensures { λ r. ⌜ r ≡ pastTakenOver self empty ⌝ }
+    {
+        Past {
+            written: self.written,
+            assembled: self.assembled | empty,
+        }
+    }
+
+    pub fn kept(self, some: bool) -> Past
+        ensures { λ r. ⌜ r ≡ pastKept self some ⌝ }
+    {
+        Past {
+            written: self.written & some,
+            assembled: self.assembled & some,
         }
     }
 }

@@ -23,7 +23,7 @@ use Rattle.state.specs.Session.{isNormal, isRemoving, moved, marked}
 use Rattle.roster.specs.declared.Kind.{Kind}
 use Rattle.changes.specs.declared.Cause.{Cause}
 use Rattle.roster.specs.Roster.{sessionAt, idsOf}
-use Rattle.changes.specs.Changes.{more, failed}
+use Rattle.changes.specs.Changes.{more, failed, written}
 use Rattle.recovery.specs.Recovery.{withRoster}
 use Rattle.exits.specs.Exit.{haltedIf}
 use Rattle.exits.proofs.Laws.{pools, turned, halts}
@@ -33,6 +33,7 @@ use Rattle.keeps.specs.Ids.{Long, ids-none}
 use Rattle.keeps.specs.Rosters.{Ok}
 use Rattle.keeps.specs.Pools.{Valid, removal-stays}
 use Rattle.keeps.specs.Links.{normal-live, counted, failed-keeps}
+use Rattle.keeps.specs.Joins.{past-keeps}
 use Rattle.keeps.specs.Records.{Numbers, isLast, failed-at, failed-other, normal-failed, raised}
 use Rattle.writes.specs.Writes.{reachBars, writeRefusal, missStep, missed, loses, marks, writeDone, writeEnded, syncRefusal, syncDone, synced}
 
@@ -182,7 +183,7 @@ removing-stays ro reached j m e = rw (m .spares j (rw (removing-not (sessionAt r
 
 -- ---- write ended
 
-job-stays : (j : Job) (ro : Roster) (reached : ℕ) → Long ro → Missed reached ro 16 (missed ro reached) → isRunning j ≡ false → jobOk j ro ≡ true → jobOk j (missed ro reached) ≡ true
+job-stays : (j : Job) (ro : Roster) (reached : ℕ) → Long ro → Missed reached ro 16 (missed ro reached) → isRunning j ≡ false → jobOk j ro ≡ true → jobOk j (written (missed ro reached) (not (eqb reached 0))) ≡ true
 job-stays Job.Idle ro reached l d r e = refl
 job-stays (Job.Running x) ro reached l d r e = clash refl r
 job-stays (Job.Removing m) ro reached l d r e = removal-stays ro (missed ro reached) m l (removing-stays ro reached (m .id) d) e
@@ -228,22 +229,25 @@ reached-normal ro reached l e j h =
     both true false f z = clash refl z
     both false b f z = clash f refl
 
+-- the sessions that a write leaves
+abbrev pub wroteIn : Pool → ℕ → Roster
+wroteIn p reached = written (missed (p .roster) reached) (not (eqb reached 0))
+
 pub write-keeps : (p : Pool) (sound : Bool) (chunk reached : ℕ) → Valid p → Valid (writeEnded p sound chunk reached .pool)
 unfolding writeEnded writeDone
 write-keeps p sound chunk reached v =
     turned Valid (writeRefusal p sound chunk reached) (writeDone p chunk reached) p v
     (λ e. let w = write-passed p sound chunk reached e in
     let d = missed-does (p .roster) reached (v .ok) (w .plain) in
-    marks-pool Valid p (haltedIf (loses (p .job) (p .roster) reached) (withRoster p (missed (p .roster) reached))) chunk reached
-    (halted-valid (loses (p .job) (p .roster) reached) (withRoster p (missed (p .roster) reached))
-    (record { some = v .some; most = v .most; ok = d .ok; job = job-stays (p .job) (p .roster) reached (v .ok .long) d (w .free) (v .job) })))
+    marks-pool Valid p (haltedIf (loses (p .job) (p .roster) reached) (withRoster p (wroteIn p reached))) chunk reached
+    (halted-valid (loses (p .job) (p .roster) reached) (withRoster p (wroteIn p reached))
+    (record { some = v .some; most = v .most; ok = past-keeps (missed (p .roster) reached) (wroteIn p reached .past) (d .ok); job = job-stays (p .job) (p .roster) reached (v .ok .long) d (w .free) (v .job) })))
 
--- the sessions that it leaves
-pub write-roster : (p : Pool) (chunk reached : ℕ) → writeDone p chunk reached .pool .roster ≡ missed (p .roster) reached
+pub write-roster : (p : Pool) (chunk reached : ℕ) → writeDone p chunk reached .pool .roster ≡ wroteIn p reached
 unfolding writeDone
 write-roster p chunk reached =
-    marks-pool (λ q. q .roster ≡ missed (p .roster) reached) p (haltedIf (loses (p .job) (p .roster) reached) (withRoster p (missed (p .roster) reached))) chunk reached
-    (halts (λ q. q .roster ≡ missed (p .roster) reached) (loses (p .job) (p .roster) reached) (withRoster p (missed (p .roster) reached)) refl refl)
+    marks-pool (λ q. q .roster ≡ wroteIn p reached) p (haltedIf (loses (p .job) (p .roster) reached) (withRoster p (wroteIn p reached))) chunk reached
+    (halts (λ q. q .roster ≡ wroteIn p reached) (loses (p .job) (p .roster) reached) (withRoster p (wroteIn p reached)) refl refl)
 
 -- ---- synced changes nothing at the client
 

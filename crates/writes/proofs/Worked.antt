@@ -16,6 +16,7 @@ use Rattle.state.specs.declared.Told.{Told}
 use Rattle.state.specs.declared.Outcome.{Outcome}
 use Rattle.state.specs.declared.Answer.{Answer}
 use Rattle.state.specs.declared.Effect.{Effect}
+use Rattle.state.specs.Past.{noPast}
 use Rattle.state.specs.Session.{newSession}
 use Rattle.roster.specs.declared.Kind.{Kind}
 use Rattle.roster.specs.Roster.{idsOf}
@@ -34,6 +35,7 @@ pool others members =
             version = 3;
             members = members;
             sync = false;
+            past = noPast;
           };
       job = Job.Idle;
       number = 4;

@@ -19,7 +19,7 @@ use Rattle.state.specs.Session.{isFree, isNormal}
 use Rattle.roster.specs.declared.Kind.{Kind}
 use Rattle.changes.specs.declared.Cause.{Cause}
 use Rattle.roster.specs.Roster.{sessionAt, idsOf}
-use Rattle.changes.specs.Changes.{failed}
+use Rattle.changes.specs.Changes.{failed, written}
 use Rattle.recovery.specs.Recovery.{withRoster}
 use Rattle.exits.specs.Exit.{refused, accepted, haltedIf}
 use Rattle.rules.specs.Rules.{validPool}
@@ -70,8 +70,9 @@ marks before after chunk reached =
     Message.Nothing
     (Effect.Mark (idsOf Kind.Listed (after .roster)) chunk))
 
+-- That a write was acknowledged is remembered.
 unfoldable pub writeDone : Pool → ℕ → ℕ → Turn
-writeDone p chunk reached = marks p (haltedIf (loses (p .job) (p .roster) reached) (withRoster p (missed (p .roster) reached))) chunk reached
+writeDone p chunk reached = marks p (haltedIf (loses (p .job) (p .roster) reached) (withRoster p (written (missed (p .roster) reached) (not (eqb reached 0))))) chunk reached
 
 unfoldable pub writeEnded : Pool → Bool → ℕ → ℕ → Turn
 writeEnded p sound chunk reached =

@@ -110,7 +110,8 @@ fn write_done(p: Pool, chunk: u64, reached: u64) -> Turn
     let ro = p.roster;
     let j = p.job;
     let lost = is_lost(j, ro, reached);
-    let next = miss(ro, reached);
+    let missed = miss(ro, reached);
+    let next = changes::write(missed, reached != 0);
     let after = exits::halt_if(lost, recovery::with_roster(p, next));
     mark(p, after, chunk, reached)
 }

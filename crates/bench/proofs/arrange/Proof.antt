@@ -69,35 +69,47 @@ enum-known-c-11 c = search needs
 poke-got-requires : tie.Need-poke-got-requires
 poke-got-requires c κs = search needs
 
+enum-known-c-12 : tie.Need-enum-known-c-12
+enum-known-c-12 c = search needs
+
+poke-written-requires : tie.Need-poke-written-requires
+poke-written-requires c κs = search needs
+
+enum-known-c-13 : tie.Need-enum-known-c-13
+enum-known-c-13 c = search needs
+
+poke-assembled-requires : tie.Need-poke-assembled-requires
+poke-assembled-requires c κs = search needs
+
 enum-told : tie.Need-enum-told
 enum-told c = search needs
 
 enum-told-2 : tie.Need-enum-told-2
 enum-told-2 c = search needs
 
-enum-known-c-12 : tie.Need-enum-known-c-12
-enum-known-c-12 c = search needs
-
-enum-known-c-13 : tie.Need-enum-known-c-13
-enum-known-c-13 c = search needs
-
 enum-known-c-14 : tie.Need-enum-known-c-14
 enum-known-c-14 c = search needs
-
-enum-told-3 : tie.Need-enum-told-3
-enum-told-3 c = search needs
 
 enum-known-c-15 : tie.Need-enum-known-c-15
 enum-known-c-15 c = search needs
 
-enum-told-4 : tie.Need-enum-told-4
-enum-told-4 c = search needs
-
 enum-known-c-16 : tie.Need-enum-known-c-16
 enum-known-c-16 c = search needs
 
+enum-told-3 : tie.Need-enum-told-3
+enum-told-3 c = search needs
+
 enum-known-c-17 : tie.Need-enum-known-c-17
 enum-known-c-17 c = search needs
+
+enum-told-4 : tie.Need-enum-told-4
+enum-told-4 c = search needs
+
+enum-known-c-18 : tie.Need-enum-known-c-18
+enum-known-c-18 c = search needs
+
+enum-known-c-19 : tie.Need-enum-known-c-19
+enum-known-c-19 c = search needs
 
 returns : tie.Need-returns
 returns c = rw (c .before .before .c .given .1) (c .fresh .ensures)
@@ -133,34 +145,40 @@ returns-11 : tie.Need-returns-11
 returns-11 c = rw (c .before .before .c11 .given .1) (c .poke-got .ensures)
 
 returns-12 : tie.Need-returns-12
-returns-12 c = rw (c .enum-told .given .1) refl
+returns-12 c = rw (c .before .before .c12 .given .1) (c .poke-written .ensures)
 
 returns-13 : tie.Need-returns-13
-returns-13 c = rw (c .enum-told2 .given .1) refl
+returns-13 c = rw (c .before .before .c13 .given .1) (c .poke-assembled .ensures)
 
 returns-14 : tie.Need-returns-14
-returns-14 c = rw (c .before .c12 .given .1) refl
+returns-14 c = rw (c .enum-told .given .1) refl
 
 returns-15 : tie.Need-returns-15
-returns-15 c = rw (c .before .c13 .given .1) refl
+returns-15 c = rw (c .enum-told2 .given .1) refl
 
 returns-16 : tie.Need-returns-16
 returns-16 c = rw (c .before .c14 .given .1) refl
 
 returns-17 : tie.Need-returns-17
-returns-17 c = rw (c .enum-told3 .given .1) refl
+returns-17 c = rw (c .before .c15 .given .1) refl
 
 returns-18 : tie.Need-returns-18
-returns-18 c = rw (c .before .c15 .given .1) refl
+returns-18 c = rw (c .before .c16 .given .1) refl
 
 returns-19 : tie.Need-returns-19
-returns-19 c = rw (c .enum-told4 .given .1) refl
+returns-19 c = rw (c .enum-told3 .given .1) refl
 
 returns-20 : tie.Need-returns-20
-returns-20 c = rw (c .before .c16 .given .1) refl
+returns-20 c = rw (c .before .c17 .given .1) refl
 
 returns-21 : tie.Need-returns-21
-returns-21 c = rw (c .before .c17 .given .1) refl
+returns-21 c = rw (c .enum-told4 .given .1) refl
+
+returns-22 : tie.Need-returns-22
+returns-22 c = rw (c .before .c18 .given .1) refl
+
+returns-23 : tie.Need-returns-23
+returns-23 c = rw (c .before .c19 .given .1) refl
 
 pub arrange-spec : {M : Type 1} → statement M
 arrange-spec =
@@ -188,16 +206,20 @@ arrange-spec =
     poke-node-requires
     enum-known-c-11
     poke-got-requires
+    enum-known-c-12
+    poke-written-requires
+    enum-known-c-13
+    poke-assembled-requires
     enum-told
     enum-told-2
-    enum-known-c-12
-    enum-known-c-13
     enum-known-c-14
-    enum-told-3
     enum-known-c-15
-    enum-told-4
     enum-known-c-16
+    enum-told-3
     enum-known-c-17
+    enum-told-4
+    enum-known-c-18
+    enum-known-c-19
     returns
     returns-2
     returns-3
@@ -218,4 +240,6 @@ arrange-spec =
     returns-18
     returns-19
     returns-20
-    returns-21)
+    returns-21
+    returns-22
+    returns-23)

@@ -2,6 +2,9 @@ use borrow.Author.Needs.{needs}
 use Rattle.changes.proofs.take_over.Statement.{statement}
 use Rattle.changes.proofs.take_over.Tie as tie
 
+taken-over-requires : tie.Need-taken-over-requires
+taken-over-requires c κs = search needs
+
 choose-requires : tie.Need-choose-requires
 choose-requires c κs = search needs
 
@@ -12,4 +15,4 @@ returns : tie.Need-returns
 returns c = cc
 
 pub take-over-spec : {M : Type 1} → statement M
-take-over-spec = tie.close (tie.spec choose-requires larger-requires returns)
+take-over-spec = tie.close (tie.spec taken-over-requires choose-requires larger-requires returns)

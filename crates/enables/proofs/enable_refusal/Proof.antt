@@ -21,6 +21,9 @@ may-enable-requires c κs = search needs
 is-created-requires : tie.Need-is-created-requires
 is-created-requires c κs = search needs
 
+in-service-requires : tie.Need-in-service-requires
+in-service-requires c κs = search needs
+
 first-requires : tie.Need-first-requires
 first-requires c κs = search needs
 
@@ -42,9 +45,12 @@ first-requires-6 c κs = search needs
 first-requires-7 : tie.Need-first-requires-7
 first-requires-7 c κs = search needs
 
+first-requires-8 : tie.Need-first-requires-8
+first-requires-8 c κs = search needs
+
 returns : tie.Need-returns
 unfolding enableRefusal
-returns c = simp (c .first7 .ensures, c .before .first6 .ensures, c .before .before .first5 .ensures, c .before .before .before .first4 .ensures, c .before .before .before .before .first3 .ensures, c .before .before .before .before .before .first2 .ensures, c .before .before .before .before .before .before .first .ensures, c .before .before .before .before .before .before .before .before .is-created .ensures, c .before .before .before .before .before .before .before .before .before .may-enable .ensures, c .before .before .before .before .before .before .before .before .before .before .is-free .ensures, c .before .before .before .before .before .before .before .before .before .before .before .is-idle .ensures, c .before .before .before .before .before .before .before .before .before .before .before .before .session .ensures, c .before .before .before .before .before .before .before .before .before .before .before .before .before .before .valid .ensures)
+returns c = simp (c .first8 .ensures, c .before .first7 .ensures, c .before .before .first6 .ensures, c .before .before .before .first5 .ensures, c .before .before .before .before .first4 .ensures, c .before .before .before .before .before .first3 .ensures, c .before .before .before .before .before .before .first2 .ensures, c .before .before .before .before .before .before .before .first .ensures, c .before .before .before .before .before .before .before .before .before .in-service .ensures, c .before .before .before .before .before .before .before .before .before .before .before .is-created .ensures, c .before .before .before .before .before .before .before .before .before .before .before .before .may-enable .ensures, c .before .before .before .before .before .before .before .before .before .before .before .before .before .is-free .ensures, c .before .before .before .before .before .before .before .before .before .before .before .before .before .before .is-idle .ensures, c .before .before .before .before .before .before .before .before .before .before .before .before .before .before .before .session .ensures, c .before .before .before .before .before .before .before .before .before .before .before .before .before .before .before .before .before .valid .ensures)
 
 pub enable-refusal-spec : {M : Type 1} → statement M
 enable-refusal-spec =
@@ -56,6 +62,7 @@ enable-refusal-spec =
     is-free-requires
     may-enable-requires
     is-created-requires
+    in-service-requires
     first-requires
     first-requires-2
     first-requires-3
@@ -63,4 +70,5 @@ enable-refusal-spec =
     first-requires-5
     first-requires-6
     first-requires-7
+    first-requires-8
     returns)

@@ -3,6 +3,9 @@ use borrow.Author.Needs.{needs}
 use Rattle.names.proofs.name.Statement.{statement}
 use Rattle.names.proofs.name.Tie as tie
 
+names-g-requires : tie.Need-names-g-requires
+names-g-requires c κs = search needs
+
 names-f-requires : tie.Need-names-f-requires
 names-f-requires c κs = search needs
 
@@ -29,6 +32,7 @@ pub name-spec : {M : Type 1} → statement M
 name-spec =
     tie.close
     (tie.spec
+    names-g-requires
     names-f-requires
     names-e-requires
     names-d-requires

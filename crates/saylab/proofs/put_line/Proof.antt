@@ -57,11 +57,8 @@ enum-known-s-4 c = search needs
 enum-told-5 : tie.Need-enum-told-5
 enum-told-5 c = search needs
 
-slice-aggregate-word-line-4 : tie.Need-slice-aggregate-word-line-4
-slice-aggregate-word-line-4 c = search needs
-
-word-line-requires-4 : tie.Need-word-line-requires-4
-word-line-requires-4 c κs = search needs
+pool-line-requires : tie.Need-pool-line-requires
+pool-line-requires c κs = search needs
 
 enum-known-s-5 : tie.Need-enum-known-s-5
 enum-known-s-5 c = search needs
@@ -115,7 +112,7 @@ same-length-7 : tie.Need-same-length-7
 same-length-7 c = search needs
 
 returns-9 : tie.Need-returns-9
-returns-9 c = rw (c .before .before .before .before .before .enum-told5 .given .1) (c .before .before .word-line4 .ensures)
+returns-9 c = rw (c .before .before .before .before .enum-told5 .given .1) (c .before .before .pool-line .ensures)
 
 same-length-8 : tie.Need-same-length-8
 same-length-8 c = search needs
@@ -145,8 +142,7 @@ put-line-spec =
     node-line-requires
     enum-known-s-4
     enum-told-5
-    slice-aggregate-word-line-4
-    word-line-requires-4
+    pool-line-requires
     enum-known-s-5
     look-line-requires
     returns

@@ -9,6 +9,9 @@ is-lost-requires c κs = search needs
 miss-requires : tie.Need-miss-requires
 miss-requires c κs = search needs
 
+write-requires : tie.Need-write-requires
+write-requires c κs = search needs
+
 with-roster-requires : tie.Need-with-roster-requires
 with-roster-requires c κs = search needs
 
@@ -20,7 +23,7 @@ mark-requires c κs = search needs
 
 returns : tie.Need-returns
 unfolding writeDone
-returns c = simp (c .mark .ensures, c .before .halt-if .ensures, c .before .before .with-roster .ensures, c .before .before .before .miss .ensures, c .before .before .before .before .is-lost .ensures)
+returns c = simp (c .mark .ensures, c .before .halt-if .ensures, c .before .before .with-roster .ensures, c .before .before .before .write .ensures, c .before .before .before .before .miss .ensures, c .before .before .before .before .before .is-lost .ensures)
 
 pub write-done-spec : {M : Type 1} → statement M
 write-done-spec =
@@ -28,6 +31,7 @@ write-done-spec =
     (tie.spec
     is-lost-requires
     miss-requires
+    write-requires
     with-roster-requires
     halt-if-requires
     mark-requires

@@ -5,8 +5,11 @@ use Rattle.client.proofs.Client.fresh.Tie as tie
 new-requires : tie.Need-new-requires
 new-requires c κs = search needs
 
+none-requires : tie.Need-none-requires
+none-requires c κs = search needs
+
 returns : tie.Need-returns
-returns c = rw (c .new .ensures)
+returns c = rw (c .none .ensures, c .before .new .ensures)
 
 pub fresh-spec : {M : Type 1} → statement M
-fresh-spec = tie.close (tie.spec new-requires returns)
+fresh-spec = tie.close (tie.spec new-requires none-requires returns)

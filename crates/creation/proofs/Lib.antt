@@ -1,0 +1,3 @@
+pub mod Past
+pub mod Creation
+pub mod Worked

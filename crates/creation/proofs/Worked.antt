@@ -1,0 +1,81 @@
+-- The customer's story, and what clears the past: worked histories.
+use mathlib.Core.Path.{_≡_, refl}
+use mathlib.Core.Bool.{Bool, true, false, _&&_}
+use mathlib.Core.List.{List, [], _∷_, _++_}
+use Prim.Native.Nat.{ℕ}
+use lib.ListN.{replicate}
+use Rattle.laws.specs.Words.{bit}
+use Rattle.sets.specs.Sets.{has, with, without, size, lowest}
+use Rattle.maps.specs.Map.{sound, cleanFrom, spare, room}
+use Rattle.state.specs.declared.Mode.{Mode}
+use Rattle.state.specs.declared.Brought.{Brought}
+use Rattle.state.specs.declared.Reply.{Reply}
+use Rattle.state.specs.declared.Answer.{Answer}
+use Rattle.roster.specs.declared.Kind.{Kind}
+use Rattle.roster.specs.Roster.{idsOf}
+use Rattle.changes.specs.Changes.{entered, left, failed, went, removing}
+use Rattle.run.specs.Run as run
+use Rattle.run.specs.Still.{possible}
+use Rattle.recovery.specs.Cases as cases
+use Rattle.recovery.specs.Recovery.{posted, tried}
+use Rattle.rules.specs.Rules.{rosterOk, allAsked, oneAsked, runOk, validPool}
+use Rattle.joins.specs.Joins.{joinTold, createRefusal, created, createDone, joinCreate, setBars, assembleRefusal, assembled, assembleDone, joinAssemble}
+use Rattle.enables.specs.Enables.{enables, enableRefusal, enableDone, enable}
+use Rattle.links.specs.Links.{drops, downRefusal, dropped, downDone, linkDown, checks, checkRefusal, checkDone, storeCheck}
+use Rattle.writes.specs.Writes.{reachBars, writeRefusal, missStep, missed, marks, writeDone, writeEnded}
+use Rattle.removal.specs.Removal.{due, freedFrom, onward, departed, started}
+use Rattle.removal.specs.Remove.{removeRefusal, remove}
+use Rattle.answers.specs.Answers.{answerRefusal, movedOn, answer}
+use Rattle.client.specs.declared.Client.{Client}
+use Rattle.client.specs.Client.{fresh, removeTurn, writeTurn, answerTurn}
+use Rattle.events.specs.Events.{Event, outOf, next, isAccepted}
+
+abbrev after : List Event → Client → Client
+after [] c = c
+after (e ∷ es) c = after es (next e c)
+
+abbrev accepted : List Event → Client → Bool
+accepted [] c = true
+accepted (e ∷ es) c = isAccepted (outOf e c .answer) && accepted es (next e c)
+
+abbrev zeros : List ℕ
+zeros = replicate 8192 0
+
+abbrev pool : Client
+pool = fresh false 4096
+
+abbrev good : ℕ → Event
+good number = Event.answer zeros number (Reply.Good Brought.Nothing)
+
+abbrev normals : List Event → ℕ
+normals es = idsOf Kind.Normals (after es pool .pool .roster)
+
+-- legs A (0) and B (1) are created, A is enabled and takes a write
+abbrev wrote : List Event
+wrote = Event.joinCreate 0 ∷ Event.joinCreate 1 ∷ Event.enable 0 ∷ Event.write zeros 7 1 ∷ []
+
+-- B gets in by a store check and a run
+abbrev recovered : List Event
+recovered = wrote ++ (Event.storeCheck 1 ∷ good 1 ∷ good 2 ∷ good 3 ∷ [])
+
+-- A assembled pool whose last session was disassembled; then a leg is created.
+abbrev disassembled : List Event
+disassembled = Event.joinAssemble 2 4 9 ∷ Event.linkDown 2 ∷ Event.remove zeros 2 Mode.Disassemble ∷ Event.joinCreate 0 ∷ []
+
+-- The last member is deleted after a write; then a leg is created and enabled.
+abbrev deleted : List Event
+deleted = Event.joinCreate 0 ∷ Event.enable 0 ∷ Event.write zeros 7 1 ∷ Event.remove zeros 0 Mode.Delete ∷ good 1 ∷ Event.joinCreate 0 ∷ Event.enable 0 ∷ []
+
+-- The customer's enable of B is refused, so B can't vouch for itself when A fails; by a run it becomes NORMAL. Disassembling the last session clears nothing, deleting the last
+-- member clears.
+worked :
+    (accepted wrote pool ≡ true)
+    × (outOf (Event.enable 1) (after wrote pool) .answer ≡ Answer.Refused 17)
+    × (accepted recovered pool ≡ true)
+    × (normals recovered ≡ 3)
+    × (accepted disassembled pool ≡ true)
+    × (outOf (Event.enable 0) (after disassembled pool) .answer ≡ Answer.Refused 17)
+    × (accepted deleted pool ≡ true)
+    × (normals deleted ≡ 1)
+unfolding bit has with without size lowest sound cleanFrom spare room idsOf entered left failed went removing run.receiver run.failedAnswer run.good run.awaitedIn possible cases.caseOf cases.begun posted tried rosterOk allAsked oneAsked runOk validPool joinTold createRefusal created createDone joinCreate setBars assembleRefusal assembled assembleDone joinAssemble enables enableRefusal enableDone enable drops downRefusal dropped downDone linkDown checks checkRefusal checkDone storeCheck reachBars writeRefusal missStep missed marks writeDone writeEnded due freedFrom onward departed started removeRefusal remove answerRefusal movedOn answer removeTurn writeTurn answerTurn
+worked = (refl, refl, refl, refl, refl, refl, refl, refl)

@@ -1,0 +1,71 @@
+-- The creation hole: a pool in service, and that no enable makes a CREATED session of it NORMAL.
+use mathlib.Core.Path.{_≡_}
+use mathlib.Core.Bool.{Bool, true, false, not, _&&_}
+use Prim.Native.Nat.{ℕ}
+use lib.Dec.{eqb}
+use Rattle.state.specs.declared.Job.{Job}
+use Rattle.state.specs.declared.Outcome.{Outcome}
+use Rattle.state.specs.declared.Answer.{Answer}
+use Rattle.state.specs.Session.{isCreated}
+use Rattle.client.specs.declared.Client.{Client}
+use Rattle.events.specs.Events.{Event, Part, outOf, next, stateOf, isSync, jobOf, partOf, isAccepted}
+use Rattle.events.specs.Demand2.{Reached}
+use Rattle.events.specs.Said.{membersOf, takesOut}
+
+-- ---- words
+
+-- the answer acknowledges a write
+abbrev pub isAcknowledged : Outcome → Bool
+isAcknowledged Outcome.Plain = false
+isAcknowledged (Outcome.Taken n) = false
+isAcknowledged (Outcome.Written acknowledged list) = acknowledged
+
+abbrev pub acknowledges : Answer → Bool
+acknowledges (Answer.Refused n) = false
+acknowledges (Answer.Done s) = isAcknowledged (s .outcome)
+
+-- a node's member set is taken over: a join assemble is accepted, and the membership was empty
+abbrev pub takesOver : Event → Client → Bool
+takesOver (Event.joinCreate id) c = false
+takesOver (Event.joinAssemble id set version) c = isAccepted (outOf (Event.joinAssemble id set version) c .answer) && eqb (membersOf c) 0
+takesOver (Event.enable id) c = false
+takesOver (Event.maintenance id) c = false
+takesOver (Event.linkDown id) c = false
+takesOver (Event.storeCheck id) c = false
+takesOver Event.tryRun c = false
+takesOver (Event.remove xs id mode) c = false
+takesOver (Event.write xs chunk reached) c = false
+takesOver (Event.synced xs member chunk) c = false
+takesOver (Event.answer xs number a) c = false
+
+-- a delete takes out a member's entry, be it there or not; a sync pool has none
+abbrev pub takesOne : Part → Client → Bool
+takesOne Part.none c = false
+takesOne (Part.remove id mode) c = takesOut (Part.remove id mode) c id
+takesOne (Part.answer m a) c = takesOut (Part.answer m a) c (m .id)
+
+-- a delete emptied the membership
+abbrev pub empties : Event → Client → Bool
+empties e c = isAccepted (outOf e c .answer) && (takesOne (partOf e c) c && (not (isSync c) && eqb (membersOf (next e c)) 0))
+
+-- A pool in service: reached from a fresh one, a write was acknowledged in it or a set taken over, and no delete emptied the membership since.
+pub data InService : Client → Type 0 where
+  wrote : (c : Client) (e : Event) → Reached c → acknowledges (outOf e c .answer) ≡ true → InService (next e c)
+  tookOver : (c : Client) (e : Event) → Reached c → takesOver e c ≡ true → InService (next e c)
+  stays : (c : Client) (e : Event) → InService c → empties e c ≡ false → InService (next e c)
+
+-- ---- the theorems
+
+-- There no enable is accepted of a CREATED session: it does not become NORMAL, and nothing changes. Refused: a write that does not set the flag, one that a disassemble or a
+-- join clears; an enable that looks at one of the two alone.
+abbrev pub NoneEnabled : Type 0
+NoneEnabled = (c : Client) → InService c → (id : ℕ) → isCreated (stateOf c id) ≡ true → (isAccepted (outOf (Event.enable id) c .answer) ≡ false) × (next (Event.enable id) c ≡ c)
+
+-- The number is 17, unless 5 or 6 comes before it: in a pool that is not sync, with no job in hand.
+abbrev pub Seventeen : Type 0
+Seventeen = (c : Client) → InService c → isSync c ≡ false → jobOf c ≡ Job.Idle → (id : ℕ) → isCreated (stateOf c id) ≡ true → outOf (Event.enable id) c .answer ≡ Answer.Refused 17
+
+-- And it is given to nobody else: in a pool that is not in service, or at the end of maintenance, never. Refused: a flag that outlasts the last member; 17 given to a session in
+-- maintenance.
+abbrev pub OnlyThere : Type 0
+OnlyThere = (c : Client) → Reached c → (id : ℕ) → outOf (Event.enable id) c .answer ≡ Answer.Refused 17 → InService c × (isCreated (stateOf c id) ≡ true)

@@ -1,0 +1,31 @@
+use Rattle.names.specs.Names.{namesG}
+use mathlib.Core.Path.{refl}
+use borrow.Author.Needs.{needs}
+use Rattle.names.proofs.names_g.Statement.{statement}
+use Rattle.names.proofs.names_g.Tie as tie
+
+slice-aggregate-word : tie.Need-slice-aggregate-word
+slice-aggregate-word c = search needs
+
+slice-aggregate-word-2 : tie.Need-slice-aggregate-word-2
+slice-aggregate-word-2 c = search needs
+
+word-requires : tie.Need-word-requires
+word-requires c κs = search needs
+
+word-requires-2 : tie.Need-word-requires-2
+word-requires-2 c κs = search needs
+
+returns : tie.Need-returns
+unfolding namesG
+returns c = rw (c .word2 .ensures, c .before .word .ensures) refl
+
+pub names-g-spec : {M : Type 1} → statement M
+names-g-spec =
+    tie.close
+    (tie.spec
+    slice-aggregate-word
+    slice-aggregate-word-2
+    word-requires
+    word-requires-2
+    returns)
