@@ -31,12 +31,15 @@ use Rattle.run.specs.Run.{hand, rest, counted, ahead, toSpread, wentOn, becameN
 use Rattle.run.specs.Still.{possible}
 use Rattle.run.proofs.Bound.{counted-most, Some, FitAt, FitNext, stillIn, Carries, Lowers, taken-well, some-left, lowers}
 use Rattle.rules.specs.Rules.{allAsked, oneAsked, asked, sourceOk, handOk, jobOk}
+use Rattle.rules.specs.Jobs.{isRunning}
 use Rattle.recovery.specs.Recovery.{withRoster, posted, goneOn}
 use Rattle.exits.specs.Exit.{refused}
 use Rattle.keeps.specs.Ids.{Long, below}
 use Rattle.keeps.specs.Rosters.{Ok}
 use Rattle.keeps.specs.Pools.{Valid, removal-facts}
-use Rattle.keeps.specs.Runs.{AllCandidates, RunOk, run-facts, run-of, candidate-member, candidate-normal, entered-same, entered-other, entered-members, entered-version, entered-sync, candidate-enters, Asking, asking-facts, Sound, Within, spread-sound, gather-sound, last-sound, base-sound, versions-sound}
+use Rattle.keeps.specs.Runs.{AllCandidates, RunOk, run-facts, run-of, run-room, candidate-member, candidate-normal, entered-same, entered-other, entered-members, entered-version, entered-sync, candidate-enters, Asking, asking-facts, Sound, Within, spread-sound, gather-sound, last-sound, base-sound, versions-sound}
+use Rattle.keeps.specs.Tried.{ended-keeps}
+use Rattle.keeps.specs.Records.{raisedIf}
 use Rattle.removal.proofs.Kept.{answers-keep}
 use Rattle.answers.specs.Answers.{answerRefusal, enteredBy, movedOn, reported, answered, answer}
 
@@ -199,7 +202,7 @@ fit-hand (Phase.Spread t) members r f = (f .0, not-empty (r .left) (f .1))
 next-valid : (n : Next) (p : Pool) (taken before : ℕ) → 1 ≤ p .chunks → p .chunks ≤ chunkLimit → Ok (p .roster) → p .roster .sync ≡ false → p .roster .version ≤ versionLimit
     → FitNext (p .roster .members) n → Sound (p .roster) n → Carries (counted taken) n → stillIn (p .roster .members) n < before → taken + before ≤ answerLimit → Valid (goneOn n p .pool)
 unfolding posted
-next-valid Next.Over p taken before a b k e l f s c w m = record { some = a; most = b; ok = k; job = refl }
+next-valid Next.Over p taken before a b k e l f s c w m = ended-keeps p a b k (run-room (p .roster) k e l)
 next-valid (Next.On r) p taken before a b k e l f s c w m =
     record {
       some = a;
@@ -259,13 +262,13 @@ answer-keeps p sound number a v = at (eqb (answerRefusal p sound number) 0)
 
 -- ---- what an answer leaves of the sessions
 
-gone-roster : (n : Next) (p : Pool) → goneOn n p .pool .roster ≡ p .roster
+gone-roster : (n : Next) (p : Pool) → goneOn n p .pool .roster ≡ raisedIf (not (isRunning (goneOn n p .pool .job))) (p .roster)
 unfolding posted
 gone-roster Next.Over p = refl
 gone-roster (Next.On r) p = refl
 
--- the sessions after an answer in a run: those before, but for the one that became NORMAL
-pub run-roster : (p : Pool) (m : Move) → reported p m .pool .roster ≡ enteredBy (m .normal) (p .roster)
+-- the sessions after an answer in a run: those before, but for the one that became NORMAL; the version is raised if the run is over
+pub run-roster : (p : Pool) (m : Move) → reported p m .pool .roster ≡ raisedIf (not (isRunning (reported p m .pool .job))) (enteredBy (m .normal) (p .roster))
 unfolding movedOn
 run-roster p m = gone-roster (m .next) (withRoster p (enteredBy (m .normal) (p .roster)))
 

@@ -94,10 +94,10 @@ pub record InHand (c : Client) (r : Run) : Type 0 where
   pub valid : Valid (c .pool)
   pub job : c .pool .job ≡ Job.Running r
 
-facts : (c : Client) (r : Run) → InHand c r → RunOk (c .pool .roster) r
+pub facts : (c : Client) (r : Run) → InHand c r → RunOk (c .pool .roster) r
 facts c r h = run-facts (c .pool .roster) r (h .valid .ok .long) (subst (λ (j : Job). jobOk j (c .pool .roster) ≡ true) (h .job) (h .valid .job))
 
-abbrev takesIn : Client → Run → Reply → Move
+abbrev pub takesIn : Client → Run → Reply → Move
 takesIn c r a = run.takes (c .pool .roster .members) (c .pool .roster .version) r a
 
 fewer : (c : Client) (r : Run) (a : Reply) → InHand c r → Lowers (taken-well (c .pool .roster .version) r a) (possible (c .pool .roster .members) r) (c .pool .roster .members) r (takesIn c r a)
@@ -172,7 +172,7 @@ pub took-turn : (c : Client) (r : Run) (xs : List ℕ) (number : ℕ) (a : Reply
     → turnOf (Event.answer xs number a) c ≡ answers.reported (c .pool) (takesIn c r a)
 took-turn c r xs number a e z = answer-turn c xs number a z ∙ ap (λ (j : Job). answers.answered j (c .pool) a) e
 
-took-lasts : (c : Client) (r : Run) (xs : List ℕ) (number : ℕ) (a : Reply) → c .pool .job ≡ Job.Running r → eqb (whyNot (Event.answer xs number a) c) 0 ≡ true
+pub took-lasts : (c : Client) (r : Run) (xs : List ℕ) (number : ℕ) (a : Reply) → c .pool .job ≡ Job.Running r → eqb (whyNot (Event.answer xs number a) c) 0 ≡ true
     → lastsPast (Event.answer xs number a) c ≡ isRunning (answers.reported (c .pool) (takesIn c r a) .pool .job)
 took-lasts c r xs number a e z = rw (took-turn c r xs number a e z) (and-true (isRunning (answers.reported (c .pool) (takesIn c r a) .pool .job)))
 
@@ -220,7 +220,7 @@ pub cut-turn : (c : Client) (r : Run) (id : ℕ) → c .pool .job ≡ Job.Runnin
 cut-turn c r id e z = down-turn c id z ∙ ap (λ (j : Job). downAt j (c .pool) id) e
 
 -- and no event that follows comes to it
-cut-lasts : (c : Client) (r : Run) (id : ℕ) → c .pool .job ≡ Job.Running r → eqb (whyNot (Event.linkDown id) c) 0 ≡ true → lastsPast (Event.linkDown id) c ≡ false
+pub cut-lasts : (c : Client) (r : Run) (id : ℕ) → c .pool .job ≡ Job.Running r → eqb (whyNot (Event.linkDown id) c) 0 ≡ true → lastsPast (Event.linkDown id) c ≡ false
 cut-lasts c r id e z = rw (cut-turn c r id e z) (and-false (isRunning (downAt (Job.Running r) (c .pool) id .pool .job)))
 
 -- its result counts the answers taken
@@ -230,7 +230,7 @@ cut p r id left = record { few = omega arith; count = omega arith; stands = λ u
 -- ---- any event
 
 -- one that is refused
-refused-lasts : (e : Event) (c : Client) (r : Run) → c .pool .job ≡ Job.Running r → eqb (whyNot e c) 0 ≡ false → lastsPast e c ≡ true
+pub refused-lasts : (e : Event) (c : Client) (r : Run) → c .pool .job ≡ Job.Running r → eqb (whyNot e c) 0 ≡ false → lastsPast e c ≡ true
 refused-lasts e c r q z = rw (refused-turn e c z, q) refl
 
 refused-passes : (es : List Event) → Ahead es → (e : Event) (c : Client) (r : Run) → InHand c r → eqb (whyNot e c) 0 ≡ false → Course (during (e ∷ es) c) c (r .taken) (possible (c .pool .roster .members) r)

@@ -101,7 +101,7 @@ barred c r q e a d = at (demand-1 e c)
     at (Verdict.refused n p h) = (ap isAccepted p, h .client)
     at (Verdict.done s p h) = clash (law e c .six r q a d) (h 6 refl)
 
-begin-hand : (c : Client) (e : Event) (r : Run) → Begins c e r → InHand (next e c) r
+pub begin-hand : (c : Client) (e : Event) (r : Run) → Begins c e r → InHand (next e c) r
 begin-hand c e r b = record { valid = reached-valid (next e c) (Reached.then c e (b .reached)); job = b .run }
 
 begin-most : (c : Client) (e : Event) (r : Run) → Begins c e r → (possible (next e c .pool .roster .members) r ≡ most (next e c .pool .roster)) × (r .taken ≡ 0)

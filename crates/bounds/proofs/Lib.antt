@@ -3,3 +3,4 @@ pub mod Course
 pub mod Demand3
 pub mod Since
 pub mod Instance
+pub mod Version

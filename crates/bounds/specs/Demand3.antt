@@ -11,6 +11,7 @@ use Rattle.state.specs.declared.Roster.{Roster}
 use Rattle.state.specs.declared.Run.{Run}
 use Rattle.state.specs.declared.Job.{Job}
 use Rattle.state.specs.declared.Pool.{Pool}
+use Rattle.state.specs.declared.Message.{Message}
 use Rattle.state.specs.declared.Outcome.{Outcome}
 use Rattle.state.specs.declared.Sent.{Sent}
 use Rattle.state.specs.declared.Answer.{Answer}
@@ -150,6 +151,44 @@ pub record Bounded (es : List Event) (c : Client) (m : ℕ) : Type 0 where
 abbrev pub AtMost : Type 0
 AtMost = (c : Client) (e : Event) (r : Run) → Begins c e r → (es : List Event) → Bounded (during es (next e c)) (next e c) (most (next e c .pool .roster))
 
+-- ---- one version
+
+-- the awaited message that an event sends
+abbrev pub awaitedBy : Answer → Message
+awaitedBy (Answer.Refused why) = Message.Nothing
+awaitedBy (Answer.Done s) = s .awaited
+
+-- the version that a message carries, if it carries one, is v
+abbrev pub Bears : ℕ → Message → Type 0
+Bears v Message.Nothing = Unit {0}
+Bears v (Message.GetVersion to) = Unit {0}
+Bears v (Message.Ready to keep) = Unit {0}
+Bears v (Message.Send to receiver) = Unit {0}
+Bears v (Message.Done to enable version members) = version ≡ v
+Bears v (Message.LastIo to chosen) = Unit {0}
+Bears v (Message.Enable to version members) = version ≡ v
+Bears v (Message.Leave to mode) = Unit {0}
+Bears v (Message.Info to op member) = Unit {0}
+
+-- An event while a run lasts that began with the version v. While the run lasts the pool has that version, and every awaited message that is sent carries it; the answer that
+-- is the last leaves one more. A link down that ends the run may begin another, with a version of its own.
+pub record Versioned (v : ℕ) (e : Event) (c : Client) : Type 0 where
+  pub lasting : lastsPast e c ≡ true → next e c .pool .roster .version ≡ v
+  pub over : lastsPast e c ≡ false → cutsOff e c ≡ false → next e c .pool .roster .version ≡ v + 1
+  pub carried : cutsOff e c ≡ false → Bears v (awaitedBy (outOf e c .answer))
+
+abbrev pub AllVersioned : ℕ → List Event → Client → Type 0
+AllVersioned v [] c = Unit {0}
+AllVersioned v (e ∷ es) c = Versioned v e c × AllVersioned v es (next e c)
+
+-- All messages of a run carry the version that it began with, and an answer that is its last leaves one more, whatever comes while it lasts.
+abbrev pub OneVersion : Type 0
+OneVersion = (c : Client) (e : Event) (r : Run) → Begins c e r
+    → Bears (next e c .pool .roster .version) (awaitedBy (outOf e c .answer))
+    × ((es : List Event) → AllVersioned (next e c .pool .roster .version) (during es (next e c)) (next e c))
+
+-- ---- no answer is lost
+
 -- While a run is in hand at a reached client, an answer under the awaited number with a sound map is never refused, whatever it says.
 abbrev pub NoneLost : Type 0
 NoneLost = (c : Client) → Reached c → (r : Run) → c .pool .job ≡ Job.Running r → (xs : List ℕ) → soundFor (c .pool) xs ≡ true → (a : Reply)
@@ -167,7 +206,7 @@ Enough = (c : Client) (e : Event) (r : Run) → Begins c e r → (xs : List ℕ)
 
 -- ---- a link down
 
--- the pool whose run a link down ended: its session dropped, no job in hand
+-- the pool whose run a link down ended: its session dropped, no job in hand, the version raised by the end
 abbrev pub cutPool : ℕ → Client → Pool
 cutPool id c = runEnded (withRoster (c .pool) (dropped (c .pool .roster) id))
 

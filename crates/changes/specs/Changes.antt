@@ -35,6 +35,10 @@ numbered ro n v =
       past = ro .past;
     }
 
+-- The version raised: the view of the pool changes.
+abbrev pub raised : Roster → Roster
+raised ro = numbered ro (ro .count) (more (ro .version))
+
 -- ---- marks
 
 abbrev pub unmarked : Session → Session
@@ -61,25 +65,19 @@ entered ro id =
     (stored ro id (moved (sessionAt ro id) State.Normal))
     (numbered (stored (allUnmarked ro) id (moved (sessionAt ro id) State.Normal)) (more (ro .count)) (ro .version))
 
--- the way out of NORMAL goes to FAILED
-abbrev pub isFailing : Way → Bool
-isFailing (Way.Failed cause) = true
-isFailing Way.Maintenance = false
-isFailing (Way.Removing mode owed) = false
-
 -- The record after leaving NORMAL: `last` says that nobody else is NORMAL. Removal marks nobody.
 abbrev pub arrived : Session → Way → Bool → Session
 arrived s (Way.Failed cause) last = marked (moved s State.Failed) last
 arrived s Way.Maintenance last = marked (flagged (moved s State.Reconnecting) true) last
 arrived s (Way.Removing mode owed) last = moved s (State.Removing mode owed)
 
--- A session leaves NORMAL: one less in the count; for FAILED the version rises; if the count comes to 0 on a way to FAILED or maintenance, it is marked.
+-- A session leaves NORMAL: one less in the count; the version rises; if the count comes to 0 on a way to FAILED or maintenance, it is marked.
 -- A sync pool has no count, version change or mark.
 unfoldable pub left : Roster → ℕ → Way → Roster
 left ro id w =
     pick (ro .sync)
     (stored ro id (arrived (sessionAt ro id) w false))
-    (numbered (stored ro id (arrived (sessionAt ro id) w (eqb (ro .count - 1) 0))) (ro .count - 1) (pick (isFailing w) (more (ro .version)) (ro .version)))
+    (raised (numbered (stored ro id (arrived (sessionAt ro id) w (eqb (ro .count - 1) 0))) (ro .count - 1) (ro .version)))
 
 -- A session enters FAILED, told by what. Nothing keeps the cause yet: it waits for a rule that does.
 unfoldable pub failed : Roster → ℕ → Cause → Roster

@@ -2,7 +2,7 @@
 ghost use mathlib.Core.Path.{_≡_};
 ghost use mathlib.Core.List.{map};
 ghost use Prim.Native.Nat.{max};
-ghost use Rattle.changes.specs.Changes.{more, unmarked, allUnmarked, entered, isFailing, arrived, left, failed, went, owes, removing, enrolled, freed, flaggedAt, memberEntered, memberDropped, takenOver, written};
+ghost use Rattle.changes.specs.Changes.{more, unmarked, allUnmarked, raised, entered, arrived, left, failed, went, owes, removing, enrolled, freed, flaggedAt, memberEntered, memberDropped, takenOver, written};
 use state::Mode;
 use state::Roster;
 use state::Session;
@@ -25,6 +25,14 @@ fn more(n: u64) -> u64
     ensures { λ r. ⌜ r ≡ more n ⌝ }
 {
     if n < refusals::VERSION_TOP { n + 1 } else { n }
+}
+
+// The version is raised: the view of the pool changes.
+pub fn raise(mut ro: Roster) -> Roster
+    ensures { λ r. ⌜ r ≡ raised ro ⌝ }
+{
+    ro.version = more(ro.version);
+    ro
 }
 
 fn unmark(ss: [Session; 16]) -> [Session; 16]
@@ -64,16 +72,6 @@ pub fn enter(ro: Roster, id: u64) -> Roster
     next
 }
 
-fn is_failing(w: Way) -> bool
-    ensures { λ r. ⌜ r ≡ isFailing w ⌝ }
-{
-    match w {
-        Way::Failed(cause) => true,
-        Way::Maintenance => false,
-        Way::Removing(mode, owed) => false,
-    }
-}
-
 fn arrive(s: Session, w: Way, last: bool) -> Session
     ensures { λ r. ⌜ r ≡ arrived s w last ⌝ }
 {
@@ -94,12 +92,10 @@ pub fn leave(ro: Roster, id: u64, w: Way) -> Roster
         return roster::store(ro, id, there);
     }
     let count = numbers::minus(ro.count, 1);
-    let version = ro.version;
     let there = arrive(s, w, count == 0);
     let mut next = roster::store(ro, id, there);
     next.count = count;
-    next.version = numbers::choose(is_failing(w), more(version), version);
-    next
+    raise(next)
 }
 
 // A session enters FAILED.

@@ -1,21 +1,28 @@
 -- What holds of every event, drawn from its law.
-use mathlib.Core.Path.{_≡_, ap, _∙_, sym, subst}
+use mathlib.Core.Path.{_≡_, refl, ap, _∙_, sym, subst}
 use mathlib.Core.Logic.{_≢_}
 use mathlib.Core.Bool.{true, false, not}
 use Prim.Native.Nat.{ℕ, _≤_}
 use native.Mathlib.Omega.{arith}
-use Rattle.laws.specs.Tests.{by-cases}
+use lib.Dec.{eqb}
+use borrow.Author.Tests.{eqb-true}
+use Rattle.laws.specs.Tests.{clash, by-cases, and-false}
+use Rattle.order.proofs.Order.{none-applies}
 use Rattle.sets.specs.Sets.{has}
 use Rattle.state.specs.Session.{isFree}
+use Rattle.state.specs.declared.Job.{Job}
+use Rattle.state.specs.declared.Turn.{Turn}
+use Rattle.rules.specs.Jobs.{isRunning}
 use Rattle.keeps.specs.Pools.{Valid}
 use Rattle.client.specs.declared.Client.{Client}
 use Rattle.events.specs.Demand2.{Kept, soundLent}
-use Rattle.events.specs.Events.{Event, turnOf, isAccepted, lentTo, mapLeft, outOf, next, stateOf, isSync, concerns, partOf, touches, raises}
-use Rattle.events.specs.Said.{membersOf, versionOf, frees, takesOut}
+use Rattle.events.specs.Events.{Event, turnOf, isAccepted, lentTo, mapLeft, outOf, next, stateOf, isSync, jobOf, concerns, partOf, touches, raises, isAnswer, isDown, testsOf}
+use Rattle.events.specs.Said.{membersOf, versionOf, endsRun, frees, takesOut}
 use Rattle.events.proofs.Fates.{isPart, Fate}
 use Rattle.events.proofs.Law.{law}
+use Rattle.events.proofs.Shape.{whyNot}
 use Rattle.events.proofs.Removals.{part-none, unfreed}
-use Rattle.events.proofs.Versions.{unfelled, Risen, none-risen}
+use Rattle.events.proofs.Versions.{unleft, RisenBy, none-risen}
 
 pub event-keeps : (e : Event) (c : Client) → Valid (c .pool) → Valid (next e c .pool)
 event-keeps e c = law e c .rules
@@ -38,11 +45,40 @@ event-fate e c j v = by-cases (concerns e c j) (law e c .fate j v) (λ n. Fate.k
 pub event-kind : (e : Event) (c : Client) → Valid (c .pool) → isSync (next e c) ≡ isSync c
 event-kind e c v = by-cases (raises e) (λ f. law e c .loud v f .0) (λ f. law e c .level v f .kind)
 
-pub event-rises : (e : Event) (c : Client) → Valid (c .pool) → ((id set version : ℕ) → e ≢ Event.joinAssemble id set version) → Risen c (next e c .pool)
+-- an event that may not raise the version is barred in a run
+quiet-barred : (e : Event) → raises e ≡ false → (isAnswer e ≡ false) × (isDown e ≡ false)
+quiet-barred (Event.joinCreate id) f = (refl, refl)
+quiet-barred (Event.joinAssemble id set version) f = (refl, refl)
+quiet-barred (Event.enable id) f = (refl, refl)
+quiet-barred (Event.maintenance id) f = (refl, refl)
+quiet-barred (Event.linkDown id) f = clash refl f
+quiet-barred (Event.storeCheck id) f = (refl, refl)
+quiet-barred Event.tryRun f = (refl, refl)
+quiet-barred (Event.remove xs id mode) f = (refl, refl)
+quiet-barred (Event.write xs chunk reached) f = (refl, refl)
+quiet-barred (Event.synced xs member chunk) f = (refl, refl)
+quiet-barred (Event.answer xs number a) f = clash refl f
+
+-- only an answer and a link down end a run: it bars all other events
+barred-lasts : (e : Event) (c : Client) → isAnswer e ≡ false → isDown e ≡ false → endsRun e c ≡ false
+barred-lasts e c a d = at (jobOf c) refl
+  where
+    at : (j : Job) → jobOf c ≡ j → endsRun e c ≡ false
+    at Job.Idle q = rw q refl
+    at (Job.Removing m) q = rw q refl
+    at (Job.Running r) q =
+        let w : eqb (whyNot e c) 0 ≡ false = by-cases (eqb (whyNot e c) 0)
+        (λ z. clash (law e c .six r q a d) (none-applies (testsOf e c) (eqb-true (whyNot e c) 0 z) 6 refl))
+        (λ z. z) in
+        let t : next e c .pool .job ≡ Job.Running r = ap (λ (u : Turn). u .pool .job) (law e c .same) ∙ rw w q in
+        rw (d, t) (and-false (isRunning (jobOf c)))
+
+pub event-rises : (e : Event) (c : Client) → Valid (c .pool) → ((id set version : ℕ) → e ≢ Event.joinAssemble id set version) → RisenBy c (next e c .pool) (endsRun e c)
 event-rises e c v n =
     by-cases (raises e)
     (λ f. law e c .loud v f .2 n)
-    (λ f. none-risen c (next e c .pool) (law e c .level v f .version) (λ j. unfelled c e (next e c) j f (event-fate e c j v)))
+    (λ f. let q = quiet-barred e f in
+    rw (barred-lasts e c (q .0) (q .1)) (none-risen c (next e c .pool) (law e c .level v f .version) (λ j. unleft c e (next e c) j f (event-fate e c j v))))
 
 pub event-never-falls : (e : Event) (c : Client) → Valid (c .pool) → versionOf c ≤ versionOf (next e c)
 event-never-falls e c v = by-cases (raises e) (λ f. law e c .loud v f .1) (λ f. omega (arith, law e c .level v f .version))

@@ -32,11 +32,12 @@ use Rattle.run.specs.Run.{hand, failedAt, failedAnswer, versionBrought, goodAt,
 use Rattle.run.specs.declared.Who.{Who}
 use Rattle.recovery.specs.Recovery.{withRoster}
 use Rattle.exits.proofs.Laws.{turned}
+use Rattle.rules.specs.Jobs.{isRunning}
 use Rattle.rules.specs.Rules.{jobOk}
 use Rattle.keeps.specs.Changes.{moved-plain, removing-at}
 use Rattle.keeps.specs.Links.{counted}
 use Rattle.keeps.specs.Pools.{Valid, removal-facts}
-use Rattle.keeps.specs.Records.{isLast, bare, entered-at, left-at, left-other, left-numbers, normal-below}
+use Rattle.keeps.specs.Records.{isLast, bare, entered-at, left-at, left-other, left-numbers, normal-below, raisedIf}
 use Rattle.keeps.specs.Runs.{RunOk, run-facts}
 use Rattle.keeps.specs.Tried.{tried-roster}
 use Rattle.joins.proofs.Kept.{create-passed, created-at, assemble-passed, assembled-at}
@@ -75,7 +76,7 @@ pub data Fate (c : Client) (e : Event) (c′ : Client) (id : ℕ) : Type 0 where
   kept : Kept c c′ id → Fate c e c′ id
   begins : e ≡ Event.joinCreate id → stateOf c id ≡ State.Free → recordOf c′ id ≡ newSession (pick (isSync c) State.Normal State.Created) → Fate c e c′ id
   joins : (set version : ℕ) → e ≡ Event.joinAssemble id set version → isSync c ≡ false → stateOf c id ≡ State.Free → recordOf c′ id ≡ newSession State.Reconnecting → Fate c e c′ id
-  goes : (to : State) → legal (isSync c) (stateOf c id) to ≡ true → (isNormal (stateOf c id) ≡ true → isRemoving to ≡ true) → (isNormal to ≡ true → isSync c ≡ false → Becomes c id e)
+  goes : (to : State) → legal (isSync c) (stateOf c id) to ≡ true → (isNormal (stateOf c id) ≡ true → (isRemoving to ≡ true) × (raises e ≡ true)) → (isNormal to ≡ true → isSync c ≡ false → Becomes c id e)
       → recordOf c′ id ≡ moved (recordOf c id) to → Fate c e c′ id
   fails : (last : Bool) → raises e ≡ true → isNormal (stateOf c id) ≡ true → (isSync c ≡ false → countOf c′ ≡ 0 → last ≡ noneAbove c id)
       → recordOf c′ id ≡ marked (moved (recordOf c id) State.Failed) last → Fate c e c′ id
@@ -170,9 +171,9 @@ to-failed sync State.Failed x e f = clash e refl
 to-failed sync State.Reconnecting x e f = refl
 to-failed sync (State.Removing m owed) x e f = clash refl f
 
-down-does : (c : Client) (id : ℕ) → Valid (c .pool) → Drops (c .pool) id → (q : Pool) → Valid q → q .roster ≡ dropped (c .pool .roster) id → Has c (Event.linkDown id) id q
+down-does : (c : Client) (id : ℕ) → Valid (c .pool) → Drops (c .pool) id → (q : Pool) (ended : Bool) → Valid q → q .roster ≡ raisedIf ended (dropped (c .pool .roster) id) → Has c (Event.linkDown id) id q
 unfolding drops
-down-does c id v h q w same =
+down-does c id v h q ended w same =
     by-cases (isRemoving (stateOf c id))
     (λ b. Fate.kept (Kept.equal (rw b at r)))
     (λ b. by-cases (isNormal (stateOf c id))
@@ -193,7 +194,7 @@ pub down-fate : (c : Client) (id : ℕ) → Valid (c .pool) → Valid (next (Eve
 unfolding linkDown downDone
 down-fate c id v =
     turned (λ q. Valid q → Has c (Event.linkDown id) id q) (downRefusal (c .pool) id) _ (c .pool) (λ w. stays c (Event.linkDown id) id)
-    (λ e w. down-does c id v (down-passed (c .pool) id e) _ w (down-roster (c .pool .job) (c .pool) id))
+    (λ e w. down-does c id v (down-passed (c .pool) id e) _ (isRunning (c .pool .job)) w (down-roster (c .pool .job) (c .pool) id))
 
 abbrev back : Bool → State
 back sync = pick sync State.Normal State.Reconnecting
@@ -253,7 +254,7 @@ remove-does c xs id mode v h q true r =
 remove-does c xs id mode v h q false r =
     by-cases (isRemoving (stateOf c id))
     (λ m. Fate.kept (Kept.equal (r ∙ again c id (State.Removing mode (owes (stateOf c id))) v (h .below) m refl (same-mode (stateOf c id) mode m (h .mode-same)))))
-    (λ m. Fate.goes (State.Removing mode (owes (stateOf c id))) (to-removing (isSync c) (stateOf c id) mode (owes (stateOf c id)) (h .some) m) (λ n. refl) (λ n s. clash n refl) r)
+    (λ m. Fate.goes (State.Removing mode (owes (stateOf c id))) (to-removing (isSync c) (stateOf c id) mode (owes (stateOf c id)) (h .some) m) (λ n. (refl, refl)) (λ n s. clash n refl) r)
 
 pub remove-fate : (c : Client) (xs : List ℕ) (id : ℕ) (mode : Mode) → Valid (c .pool) → Fate c (Event.remove xs id mode) (next (Event.remove xs id mode) c) id
 unfolding remove removeTurn
@@ -328,8 +329,9 @@ run-fate c xs number b id r job v f o = at (good (membersOf c) (versionOf c) r b
         let can = run-able (c .pool) r (Reply.Good b) v f id (e ∙ ap Who.One (sym same)) in
         let is = reconnecting-is (stateOf c id) (and-left (isReconnecting (stateOf c id)) (not (recordOf c id .maintenance)) can) in
         Fate.goes State.Normal (rw (is, f .plain) refl) (λ n. clash n (rw is refl)) (λ n s. Becomes.answered xs number b r job (good-enables (membersOf c) (versionOf c) r b id o))
-        (ap (λ (ro : Roster). sessionAt ro id) (run-roster (c .pool) (good (membersOf c) (versionOf c) r b) ∙ ap (λ (w : Who). enteredBy w (c .pool .roster)) (e ∙ ap Who.One (sym same)))
-        ∙ entered-at (c .pool .roster) id (v .ok .long) (candidate-below (c .pool .roster) id (v .ok .long) can))
+        (ap (λ (ro : Roster). sessionAt ro id) (run-roster (c .pool) (good (membersOf c) (versionOf c) r b))
+        ∙ (ap (λ (w : Who). sessionAt (enteredBy w (c .pool .roster)) id) (e ∙ ap Who.One (sym same))
+        ∙ entered-at (c .pool .roster) id (v .ok .long) (candidate-below (c .pool .roster) id (v .ok .long) can)))
 
 -- the state of a REMOVING session whose LEAVE_POOL was answered well
 paid-state : (st : State) → isRemoving st ≡ true → (P : State → Type 0) → ((m : Mode) → st ≡ State.Removing m true → P (State.Removing m false)) → (State.Removing (removal.modeOf st) false ≡ st → P st) → P (State.Removing (removal.modeOf st) false)

@@ -2,10 +2,11 @@
 use mathlib.Core.Path.{_≡_, refl}
 use mathlib.Core.Bool.{Bool, true, false, _&&_}
 use mathlib.Core.List.{List, [], _∷_, _++_}
-use Prim.Native.Nat.{ℕ}
+use Prim.Native.Nat.{ℕ, zero, suc, _+_, _-_, _^_}
 use lib.ListN.{replicate}
 use Rattle.laws.specs.Words.{bit}
 use Rattle.laws.specs.Tests.{and-left, and-right}
+use Rattle.refusals.specs.Limits.{versionLimit, versionTop}
 use Rattle.sets.specs.Sets.{has, with, without, size, lowest}
 use Rattle.maps.specs.Map.{sound, cleanFrom, spare, room}
 use Rattle.state.specs.declared.Mode.{Mode}
@@ -30,7 +31,7 @@ use Rattle.client.specs.declared.Client.{Client}
 use Rattle.client.specs.Client.{fresh, removeTurn, writeTurn, answerTurn}
 use Rattle.events.specs.Events.{Event, outOf, next, isAccepted}
 use Rattle.events.specs.Demand2.{Reached}
-use Rattle.events.specs.Said.{Accepts, membersOf, versionOf}
+use Rattle.events.specs.Said.{Accepts, countOf, membersOf, versionOf}
 
 -- ---- histories
 
@@ -79,6 +80,17 @@ leaves = three ++ (Event.remove zeros 1 Mode.Delete ∷ good 1 ∷ Event.linkDow
 abbrev alone : List Event
 alone = Event.joinAssemble 2 4 9 ∷ Event.linkDown 2 ∷ Event.remove zeros 2 Mode.Disassemble ∷ []
 
+-- f of each id below n, ascending
+abbrev each : (ℕ → Event) → ℕ → List Event
+each f zero = []
+each f (suc n) = each f n ++ (f n ∷ [])
+
+-- The tight place: 15 has been a member, fifteen others are NORMAL, and 15 comes back with the highest version that a run may begin with. The run ends with sixteen NORMAL.
+abbrev tight : List Event
+tight =
+    Event.joinCreate 15 ∷ Event.remove zeros 15 Mode.Disassemble ∷ good 1
+    ∷ (each Event.joinCreate 15 ++ (each Event.enable 15 ++ (Event.joinAssemble 15 65535 versionLimit ∷ good 2 ∷ good 3 ∷ good 4 ∷ [])))
+
 -- What they leave: the version, and who is NORMAL, marked, flagged or present.
 abbrev Left : Type 0
 Left = ℕ × ℕ × ℕ × ℕ × ℕ
@@ -97,10 +109,14 @@ worked :
     × (accepted mends pool ≡ true)
     × (accepted leaves pool ≡ true)
     × (accepted alone pool ≡ true)
-    × (left-by fails ≡ (4, 2, 0, 0, 7))
-    × (left-by mends ≡ (4, 0, 4, 0, 7))
-    × (left-by leaves ≡ (2, 4, 0, 0, 5))
+    × (left-by fails ≡ (5, 2, 0, 0, 7))
+    × (left-by mends ≡ (6, 0, 4, 0, 7))
+    × (left-by leaves ≡ (3, 4, 0, 0, 5))
     × (membersOf (after leaves pool) ≡ 5)
-    × (left-by alone ≡ (9, 0, 0, 0, 0))
+    × (left-by alone ≡ (10, 0, 0, 0, 0))
+    × (accepted tight pool ≡ true)
+    × (left-by tight ≡ (2 ^ 63 - 33, 65535, 0, 0, 65535))
+    × (versionOf (after tight pool) + countOf (after tight pool) ≡ versionTop)
+    × (validPool (after tight pool .pool) ≡ true)
 unfolding bit has with without size lowest sound cleanFrom spare room idsOf entered left failed went removing run.receiver run.failedAnswer run.good run.awaitedIn possible cases.caseOf cases.begun posted tried rosterOk allAsked oneAsked runOk validPool joinTold createRefusal created createDone joinCreate setBars assembleRefusal assembled assembleDone joinAssemble enables enableRefusal enableDone enable maintenanceRefusal maintenanceDone maintenance drops downRefusal dropped downDone linkDown checks checkRefusal checkDone storeCheck reachBars writeRefusal missStep missed marks writeDone writeEnded due freedFrom onward departed started removeRefusal remove answerRefusal movedOn answer removeTurn writeTurn answerTurn
-worked = (refl, refl, refl, refl, refl, refl, refl, refl, refl)
+worked = (refl, refl, refl, refl, refl, refl, refl, refl, refl, refl, refl, refl, refl)

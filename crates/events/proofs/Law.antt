@@ -1,8 +1,7 @@
 -- The law of every event: one record an event. What holds of all of them is drawn from it in Every.
 use mathlib.Core.Path.{_≡_, refl, ap}
-use mathlib.Core.Logic.{_≢_}
 use mathlib.Core.Bool.{true, false, not}
-use Prim.Native.Nat.{ℕ, _≤_}
+use Prim.Native.Nat.{ℕ}
 use lib.Dec.{eqb}
 use borrow.Author.Tests.{eqb-true, not-false}
 use Rattle.laws.specs.Tests.{clash, and-left, either}
@@ -37,8 +36,8 @@ use Rattle.answers.specs.Answers.{answerRefusal, answered, answer, awaits}
 use Rattle.client.specs.Client.{carried, soundFor, removeTurn, writeTurn, answerTurn, syncedTurn, cleanTo}
 use Rattle.client.specs.declared.Client.{Client}
 use Rattle.events.specs.Demand2.{Kept, soundLent}
-use Rattle.events.specs.Events.{Event, turnOf, isAccepted, Lent, lentTo, mapLeft, testsOf, outOf, next, stateOf, isSync, concerns, partOf, touches, raises, isAnswer, isDown}
-use Rattle.events.specs.Said.{membersOf, versionOf, frees, takesOut}
+use Rattle.events.specs.Events.{Event, turnOf, isAccepted, Lent, lentTo, mapLeft, testsOf, outOf, next, stateOf, concerns, partOf, touches, raises, isAnswer, isDown}
+use Rattle.events.specs.Said.{membersOf, frees, takesOut}
 use Rattle.events.proofs.Fates.{isPart, Fate, create-fate, assemble-fate, enable-fate, maintenance-fate, down-fate, check-fate, remove-fate, write-fate, answer-fate}
 use Rattle.events.proofs.Others.{create-others, assemble-others, enable-others, maintenance-others, down-others, check-others, try-others, remove-others, write-others, synced-others, answer-others}
 use Rattle.events.proofs.Removals.{remove-frees, answer-frees, create-stays, assemble-stays, enable-stays, maintenance-stays, down-stays, check-stays, try-stays, write-stays, synced-stays, answer-stays, remove-takes-out, answer-takes-out}
@@ -46,7 +45,7 @@ use Rattle.events.proofs.Shape.{whyNot, down-done, answer-done, off}
 use Rattle.events.proofs.Sound.{create-count, assemble-count, enable-count, maintenance-count, down-count, check-count, try-count, remove-count, write-count, synced-count, answer-count, removal-inside, answer-inside, write-inside, left-sound}
 use Rattle.events.proofs.Touches.{create-touches, assemble-touches, enable-touches, maintenance-touches, down-touches, check-touches, try-touches, remove-touches, write-touches, synced-touches, answer-touches}
 use Rattle.events.proofs.Tries.{Tries, create-trial, assemble-trial, enable-trial, maintenance-trial, down-trial, check-trial, try-trial, remove-trial, write-trial, synced-trial}
-use Rattle.events.proofs.Versions.{Level, remove-level, create-level, enable-level, maintenance-level, check-level, try-level, synced-level, answer-level, assemble-loud, down-loud, write-loud, Risen}
+use Rattle.events.proofs.Versions.{Level, create-level, enable-level, check-level, try-level, synced-level, Loud, loud-of, assemble-loud, maintenance-rises, down-rises, remove-rises, write-rises, answer-rises}
 
 -- does, same, plain: an event is what it does where nothing refuses it, else it is refused by the first that applies. one, six: what its first and sixth test say. rules: the
 -- state rules. count: the chunk count. touch, same-map, left: the lent map. others, fate: the sessions that it is not about, and those that it is. level, loud: the version.
@@ -65,8 +64,7 @@ pub record Law (e : Event) (c : Client) : Type 0 where
   pub others : (j : ℕ) → Valid (c .pool) → concerns e c j ≡ false → Kept c (next e c) j
   pub fate : (j : ℕ) → Valid (c .pool) → concerns e c j ≡ true → Fate c e (next e c) j
   pub level : Valid (c .pool) → raises e ≡ false → Level c (next e c .pool)
-  pub loud : Valid (c .pool) → raises e ≡ true
-      → (isSync (next e c) ≡ isSync c) × (versionOf c ≤ versionOf (next e c)) × (((id set version : ℕ) → e ≢ Event.joinAssemble id set version) → Risen c (next e c .pool))
+  pub loud : Valid (c .pool) → raises e ≡ true → Loud e c
   pub freeing : Valid (c .pool) → isAccepted (outOf e c .answer) ≡ true → isPart (partOf e c) ≡ true → (id : ℕ) → isFree (stateOf c id) ≡ false → isFree (stateOf (next e c) id) ≡ frees (partOf e c) c id
   pub stays : Valid (c .pool) → isPart (partOf e c) ≡ false → (id : ℕ) → has (membersOf c) id ≡ true → has (membersOf (next e c)) id ≡ true
   pub taking : Valid (c .pool) → isAccepted (outOf e c .answer) ≡ true → isPart (partOf e c) ≡ true → (id : ℕ) → has (membersOf c) id ≡ true → has (membersOf (next e c)) id ≡ not (takesOut (partOf e c) c id)
@@ -110,7 +108,7 @@ law (Event.joinAssemble id set version) c =
       others = assemble-others id set version c;
       fate = λ j v n. rw (eqb-true j id n) (assemble-fate c id set version v);
       level = λ v f. clash refl f;
-      loud = assemble-loud id set version c;
+      loud = λ v f. assemble-loud id set version c v;
       freeing = λ v d p id was. clash p refl;
       stays = assemble-stays id set version c;
       taking = λ v d p id was. clash p refl;
@@ -151,8 +149,8 @@ law (Event.maintenance id) c =
       left = λ v s. refl;
       others = maintenance-others id c;
       fate = λ j v n. rw (eqb-true j id n) (maintenance-fate c id v (maintenance-keeps (c .pool) id v));
-      level = maintenance-level id c;
-      loud = λ v f. clash f refl;
+      level = λ v f. clash refl f;
+      loud = λ v f. loud-of (Event.maintenance id) c (maintenance-rises id c v);
       freeing = λ v d p id was. clash p refl;
       stays = maintenance-stays id c;
       taking = λ v d p id was. clash p refl;
@@ -173,7 +171,7 @@ law (Event.linkDown id) c =
       others = down-others id c;
       fate = λ j v n. rw (eqb-true j id n) (down-fate c id v (down-keeps (c .pool) id v));
       level = λ v f. clash refl f;
-      loud = down-loud id c;
+      loud = λ v f. loud-of (Event.linkDown id) c (down-rises id c v);
       freeing = λ v d p id was. clash p refl;
       stays = down-stays id c;
       taking = λ v d p id was. clash p refl;
@@ -235,8 +233,8 @@ law (Event.remove xs id mode) c =
       left = λ v s. left-sound (c .pool .chunks) (removeTurn (c .pool) xs id mode .effect) xs (removal-inside (c .pool .chunks) id (isDelete mode) (next (Event.remove xs id mode) c .pool .roster) (removeTurn (c .pool) xs id mode .effect) (remove-touches xs id mode c v)) s;
       others = remove-others xs id mode c;
       fate = λ j v n. rw (eqb-true j id n) (remove-fate c xs id mode v);
-      level = λ v f. remove-level c xs id mode v;
-      loud = λ v f. clash f refl;
+      level = λ v f. clash refl f;
+      loud = λ v f. loud-of (Event.remove xs id mode) c (remove-rises xs id mode c v);
       freeing = remove-frees xs id mode c;
       stays = λ v p id was. clash refl p;
       taking = remove-takes-out xs id mode c;
@@ -257,7 +255,7 @@ law (Event.write xs chunk reached) c =
       others = write-others xs chunk reached c;
       fate = write-fate c xs chunk reached;
       level = λ v f. clash refl f;
-      loud = write-loud xs chunk reached c;
+      loud = λ v f. loud-of (Event.write xs chunk reached) c (write-rises xs chunk reached c v);
       freeing = λ v d p id was. clash p refl;
       stays = write-stays xs chunk reached c;
       taking = λ v d p id was. clash p refl;
@@ -298,8 +296,8 @@ law (Event.answer xs number a) c =
       left = λ v s. left-sound (c .pool .chunks) (answerTurn (c .pool) xs number a .effect) xs (answer-inside (c .pool .job) (c .pool .chunks) c (next (Event.answer xs number a) c .pool .roster) (answerTurn (c .pool) xs number a .effect) (answer-touches xs number a c v)) s;
       others = answer-others xs number a c;
       fate = answer-fate c xs number a;
-      level = answer-level xs number a c;
-      loud = λ v f. clash f refl;
+      level = λ v f. clash refl f;
+      loud = λ v f. loud-of (Event.answer xs number a) c (answer-rises xs number a c v);
       freeing = answer-frees xs number a c;
       stays = answer-stays xs number a c;
       taking = answer-takes-out xs number a c;

@@ -110,7 +110,7 @@ module _ (c : Client) (e : Event) (c′ : Client) (id : ℕ) (v : Valid (c .pool
   mark-appears z (Fate.joins set version x p st r) = mark-is c′ id _ (lastNormal c id) r (rw st refl)
   mark-appears z (Fate.goes to l n b r) =
       mark-is c′ id _ (lastNormal c id) r
-      (rw (none-marked c v plain z id) (by-cases (isNormal (stateOf c id)) (λ k. rw (unborne to (n k)) refl) (λ k. rw k (sym (and-false (bears to))))))
+      (rw (none-marked c v plain z id) (by-cases (isNormal (stateOf c id)) (λ k. rw (unborne to (n k .0)) refl) (λ k. rw k (sym (and-false (bears to))))))
   mark-appears z (Fate.fails last x n b r) = mark-is c′ id _ (lastNormal c id) r (b plain over ∙ rw n refl)
   mark-appears z (Fate.maintained last x p n b r) = mark-is c′ id _ (lastNormal c id) r (b over ∙ rw n refl)
   mark-appears z (Fate.unflagged x is r) =

@@ -1,7 +1,7 @@
 -- The sessions that an event is not about keep their records, save that a mark goes when a session enters NORMAL.
 use mathlib.Core.Path.{_≡_, refl, ap, _∙_, sym}
 use mathlib.Core.Logic.{_≢_}
-use mathlib.Core.Bool.{true, false}
+use mathlib.Core.Bool.{Bool, true, false, not}
 use mathlib.Core.List.{List}
 use Prim.Native.Nat.{ℕ, _<_}
 use borrow.Author.Tests.{eqb-false, eq-eqb}
@@ -22,10 +22,11 @@ use Rattle.run.specs.Run.{takes}
 use Rattle.run.specs.declared.Who.{Who}
 use Rattle.recovery.specs.Recovery.{withRoster}
 use Rattle.exits.proofs.Laws.{turned}
+use Rattle.rules.specs.Jobs.{isRunning}
 use Rattle.rules.specs.Rules.{jobOk}
 use Rattle.keeps.specs.Ids.{Long}
 use Rattle.keeps.specs.Pools.{Valid, removal-facts}
-use Rattle.keeps.specs.Records.{entered-at, left-other}
+use Rattle.keeps.specs.Records.{entered-at, left-other, raisedIf}
 use Rattle.keeps.specs.Runs.{run-facts, candidate-normal, entered-other}
 use Rattle.keeps.specs.Tried.{tried-roster}
 use Rattle.joins.proofs.Kept.{created-other, assembled-other}
@@ -68,10 +69,10 @@ enable-kept c id j v h ne =
 other-one : (w : Who) (j id : ℕ) → isOne w j ≡ false → w ≡ Who.One id → j ≢ id
 other-one w j id n e z = clash (eq-eqb j id z) (sym (ap (λ (w : Who). isOne w j) e) ∙ n)
 
-run-kept : (c : Client) (j : ℕ) → Valid (c .pool) → c .pool .roster .sync ≡ false → (q : Pool) (w : Who) → isOne w j ≡ false
-    → ((id : ℕ) → w ≡ Who.One id → candidate (sessionAt (c .pool .roster) id) ≡ true) → q .roster ≡ enteredBy w (c .pool .roster) → Keeps c j q
-run-kept c j v plain q Who.Nobody n able e = Kept.equal (ap (λ (ro : Roster). sessionAt ro j) e)
-run-kept c j v plain q (Who.One id) n able e =
+run-kept : (c : Client) (j : ℕ) → Valid (c .pool) → c .pool .roster .sync ≡ false → (q : Pool) (over : Bool) (w : Who) → isOne w j ≡ false
+    → ((id : ℕ) → w ≡ Who.One id → candidate (sessionAt (c .pool .roster) id) ≡ true) → q .roster ≡ raisedIf over (enteredBy w (c .pool .roster)) → Keeps c j q
+run-kept c j v plain q over Who.Nobody n able e = Kept.equal (ap (λ (ro : Roster). sessionAt ro j) e)
+run-kept c j v plain q over (Who.One id) n able e =
     let can = able id refl in
     Kept.cleared (ap (λ (ro : Roster). sessionAt ro j) e ∙ entered-other (c .pool .roster) id j plain (other-one (Who.One id) j id n refl)) (record {
       who = id;
@@ -84,7 +85,7 @@ well-other : (st : Stage) (p : Pool) (id j : ℕ) → Long (p .roster) → id < 
 well-other Stage.Leave p id j l h ne = departed-goes (removal.paid p id) id (paid-long p id l) h .others j ne ∙ paid-other p id j ne
 well-other (Stage.Info peer) p id j l h ne = told-goes p id peer l h .others j ne
 
-removal-other : (m : Removal) (p : Pool) (a : Reply) (j : ℕ) → Long (p .roster) → m .id < 16 → j ≢ m .id → sessionAt (removal.removalAnswered m p a .posted .pool .roster) j ≡ sessionAt (p .roster) j
+pub removal-other : (m : Removal) (p : Pool) (a : Reply) (j : ℕ) → Long (p .roster) → m .id < 16 → j ≢ m .id → sessionAt (removal.removalAnswered m p a .posted .pool .roster) j ≡ sessionAt (p .roster) j
 removal-other m p Reply.Failed j l h ne = refl
 removal-other m p (Reply.Good b) j l h ne = well-other (m .stage) p (m .id) j l h ne
 
@@ -93,7 +94,7 @@ answered-kept Job.Idle c a j v o n = Kept.equal refl
 answered-kept (Job.Running r) c a j v o n =
     let f = run-facts (c .pool .roster) r (v .ok .long) o in
     let m = takes (c .pool .roster .members) (c .pool .roster .version) r a in
-    run-kept c j v (f .plain) (reported (c .pool) m .pool) (m .normal) n (λ id. run-able (c .pool) r a v f id) (run-roster (c .pool) m)
+    run-kept c j v (f .plain) (reported (c .pool) m .pool) (not (isRunning (reported (c .pool) m .pool .job))) (m .normal) n (λ id. run-able (c .pool) r a v f id) (run-roster (c .pool) m)
 answered-kept (Job.Removing m) c a j v o n =
     Kept.equal (removal-other m (c .pool) a j (v .ok .long) (removal-facts (c .pool .roster) m (v .ok .long) o .below) (eqb-false j (m .id) n))
 

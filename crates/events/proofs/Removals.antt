@@ -33,10 +33,11 @@ use Rattle.run.specs.Run.{takes}
 use Rattle.run.specs.declared.Who.{Who}
 use Rattle.recovery.specs.Recovery.{withRoster}
 use Rattle.exits.proofs.Laws.{turned}
+use Rattle.rules.specs.Jobs.{isRunning}
 use Rattle.keeps.specs.Changes.{removing-at}
 use Rattle.keeps.specs.Ids.{Long, ids-has}
 use Rattle.keeps.specs.Pools.{Valid, removal-facts, RemovalOk}
-use Rattle.keeps.specs.Records.{left-numbers, entered-numbers}
+use Rattle.keeps.specs.Records.{left-numbers, entered-numbers, raisedIf}
 use Rattle.keeps.specs.Tried.{tried-roster}
 use Rattle.joins.proofs.Kept.{created-numbers, assembled-numbers}
 use Rattle.joins.specs.Joins.{createRefusal, createDone, joinCreate, assembleRefusal, assembled, assembleDone, joinAssemble}
@@ -51,7 +52,7 @@ use Rattle.removal.specs.declared.Gone.{Gone}
 use Rattle.writes.proofs.Kept.{write-passed, write-roster, missed-does, synced-same}
 use Rattle.writes.specs.Writes.{writeRefusal, writeEnded}
 use Rattle.answers.proofs.Kept.{run-roster}
-use Rattle.answers.specs.Answers.{answerRefusal, enteredBy, answered, answer}
+use Rattle.answers.specs.Answers.{answerRefusal, enteredBy, answered, answer, reported}
 use Rattle.client.specs.Client.{carried, soundFor, removeTurn, writeTurn, answerTurn, syncedTurn, cleanTo}
 use Rattle.client.specs.declared.Client.{Client}
 use Rattle.events.specs.Events.{Event, isAccepted, Lent, mapLeft, outOf, next, stateOf, isSync, recordOf, jobOf, Part, answerPart, partOf, nobodyLeft}
@@ -403,13 +404,13 @@ unfolding joinCreate createDone joinAssemble assembleDone enable maintenance mai
 answer-stays xs number a c v p id was =
     turned (Holds id) (answerRefusal (c .pool) (soundFor (c .pool) xs) number) _ (c .pool) was (λ e. at (c .pool .job) p)
   where
-    one : (w : Who) (ro : Roster) → ro ≡ enteredBy w (c .pool .roster) → has (ro .members) id ≡ true
-    one Who.Nobody ro e = ap (λ (x : Roster). has (x .members) id) e ∙ was
-    one (Who.One i) ro e = ap (λ (x : Roster). has (x .members) id) e ∙ (ap (λ (n : ℕ). has n id) (entered-numbers (c .pool .roster) i (isSync c) refl .held) ∙ was)
+    one : (w : Who) (over : Bool) (ro : Roster) → ro ≡ raisedIf over (enteredBy w (c .pool .roster)) → has (ro .members) id ≡ true
+    one Who.Nobody over ro e = ap (λ (x : Roster). has (x .members) id) e ∙ was
+    one (Who.One i) over ro e = ap (λ (x : Roster). has (x .members) id) e ∙ (ap (λ (n : ℕ). has n id) (entered-numbers (c .pool .roster) i (isSync c) refl .held) ∙ was)
 
     at : (k : Job) → isPart (answerPart k a) ≡ false → Holds id (answered k (c .pool) a .pool)
     at Job.Idle q = was
-    at (Job.Running r) q = let m = takes (membersOf c) (versionOf c) r a in one (m .normal) _ (run-roster (c .pool) m)
+    at (Job.Running r) q = let m = takes (membersOf c) (versionOf c) r a in one (m .normal) (not (isRunning (reported (c .pool) m .pool .job))) (reported (c .pool) m .pool .roster) (run-roster (c .pool) m)
     at (Job.Removing m) q = clash refl q
 
 pub remove-takes-out : (xs : List ℕ) (i : ℕ) (mode : Mode) (c : Client) → Valid (c .pool) → isAccepted (outOf (Event.remove xs i mode) c .answer) ≡ true → isPart (partOf (Event.remove xs i mode) c) ≡ true → (id : ℕ) → has (membersOf c) id ≡ true → has (membersOf (next (Event.remove xs i mode) c)) id ≡ not (takesOut (partOf (Event.remove xs i mode) c) c id)

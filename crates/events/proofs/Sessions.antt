@@ -23,9 +23,9 @@ use Rattle.changes.specs.declared.Way.{Way}
 use Rattle.run.specs.declared.Next.{Next}
 use Rattle.recovery.specs.Cases.{begun}
 use Rattle.recovery.specs.Recovery.{withRoster, posted, tried, runEnded, beginning}
-use Rattle.rules.specs.Jobs.{isIdle, peerAt, isPeer}
+use Rattle.rules.specs.Jobs.{isIdle, isRunning, peerAt, isPeer}
 use Rattle.keeps.specs.Pools.{Valid, removal-facts}
-use Rattle.keeps.specs.Records.{left-at}
+use Rattle.keeps.specs.Records.{left-at, raisedIf}
 use Rattle.keeps.specs.Tried.{tried-roster}
 use Rattle.joins.proofs.Kept.{create-passed, created-at, assemble-passed, assembled-at, assembled-numbers}
 use Rattle.joins.specs.Joins.{createRefusal, createDone, joinCreate, assembleRefusal, assembled, assembleDone, joinAssemble}
@@ -192,7 +192,7 @@ downed c id v e = (
   stays,
 )
   where
-    same : downAt (c .pool .job) (c .pool) id .pool .roster ≡ dropped (c .pool .roster) id
+    same : downAt (c .pool .job) (c .pool) id .pool .roster ≡ raisedIf (isRunning (c .pool .job)) (dropped (c .pool .roster) id)
     same = down-roster (c .pool .job) (c .pool) id
 
     stays : (m : Removal) → jobOf c ≡ Job.Removing m → sessionAt (downAt (c .pool .job) (c .pool) id .pool .roster) (m .id) ≡ recordOf c (m .id)

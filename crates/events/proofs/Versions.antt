@@ -1,55 +1,66 @@
--- The pool's kind never changes; its version rises by one for each session that fell from NORMAL to FAILED, and at join assemble becomes the larger one.
+-- The pool's kind never changes; its version rises by one for each session that left NORMAL and for a run that ended, and at join assemble becomes the larger one.
 use mathlib.Core.Path.{_≡_, refl, ap, _∙_, sym}
 use mathlib.Core.Logic.{_≢_}
-use mathlib.Core.Bool.{Bool, true, false, not, _&&_}
+use mathlib.Core.Bool.{Bool, true, false, not, _&&_, _||_}
 use mathlib.Core.List.{List}
 use Prim.Native.Nat.{ℕ, _<_, _≤_, zero, suc, _+_}
 use native.Mathlib.Omega.{arith}
-use Rattle.laws.specs.Tests.{clash, by-cases, and-left, and-false}
-use Rattle.laws.specs.Words.{pick}
+use Rattle.laws.specs.Tests.{clash, by-cases, and-left, and-right, and-false}
+use Rattle.laws.specs.Words.{pick, one}
+use Rattle.refusals.specs.Limits.{versionTop}
 use Rattle.sets.proofs.Laws.{countTo-none, countTo-same}
 use Rattle.sets.specs.Sets.{has, countTo}
-use Rattle.state.specs.Session.{isNormal, isFailed}
+use Rattle.state.specs.Session.{isNormal, isRemoving, isOwed, candidate, free, moved, marked}
 use Rattle.state.specs.declared.Job.{Job}
 use Rattle.state.specs.declared.Mode.{Mode}
 use Rattle.state.specs.declared.Pool.{Pool}
+use Rattle.state.specs.declared.Removal.{Removal}
 use Rattle.state.specs.declared.Reply.{Reply}
 use Rattle.state.specs.declared.Roster.{Roster}
 use Rattle.state.specs.declared.Session.{Session}
 use Rattle.state.specs.declared.Stage.{Stage}
 use Rattle.state.specs.declared.State.{State}
+use Rattle.state.specs.declared.Turn.{Turn}
 use Rattle.roster.specs.Roster.{sessionAt}
-use Rattle.changes.specs.Changes.{removing}
+use Rattle.changes.specs.Changes.{more, owes, removing}
 use Rattle.changes.specs.declared.Way.{Way}
 use Rattle.run.specs.Run.{takes}
 use Rattle.run.specs.declared.Who.{Who}
 use Rattle.recovery.specs.Recovery.{withRoster}
-use Rattle.exits.proofs.Laws.{turned}
+use Rattle.exits.proofs.Laws.{turned, turn-of}
+use Rattle.exits.specs.Exit.{refused}
+use Rattle.rules.specs.Jobs.{isRunning}
 use Rattle.rules.specs.Rules.{jobOk}
+use Rattle.keeps.specs.Changes.{removing-at}
 use Rattle.keeps.specs.Ids.{Long}
 use Rattle.keeps.specs.Links.{counted}
 use Rattle.keeps.specs.Pools.{Valid, removal-facts}
-use Rattle.keeps.specs.Records.{left-numbers, entered-numbers, raised}
+use Rattle.keeps.specs.Records.{isLast, left-at, left-other, left-numbers, entered-numbers, rises, raisedIf}
+use Rattle.keeps.specs.Rosters.{below-top}
+use Rattle.keeps.specs.Runs.{run-facts, run-room, candidate-normal, entered-other}
 use Rattle.keeps.specs.Tried.{tried-roster}
 use Rattle.joins.proofs.Kept.{created-numbers, assembled-numbers}
 use Rattle.joins.specs.Joins.{createRefusal, createDone, joinCreate, assembleRefusal, assembled, assembleDone, joinAssemble}
 use Rattle.enables.proofs.Kept.{enable-passed, maintenance-passed, enabled-numbers}
 use Rattle.enables.specs.Enables.{enableRefusal, enable, maintenanceRefusal, maintenanceDone, maintenance}
-use Rattle.links.proofs.Kept.{down-passed, down-roster, dropped-at, dropped-other, normal-dropped, other-dropped, checked-numbers, dropped-sync}
+use Rattle.links.proofs.Kept.{down-passed, down-roster, dropped-at, dropped-other, dropped-room, normal-dropped, other-dropped, checked-numbers, dropped-sync}
 use Rattle.links.specs.Links.{downRefusal, dropped, downDone, linkDown, checkRefusal, storeCheck, tryRefusal, tryRun}
-use Rattle.removal.proofs.Steps.{departed-goes, started-goes, told-goes, paid-long, removing-long, remove-passed, paid-numbers, removing-numbers}
+use Rattle.removal.proofs.Steps.{isDue, departed-goes, started-goes, told-goes, paid-long, removing-long, removing-other, remove-passed, paid-numbers, removing-numbers}
 use Rattle.removal.specs.Removal as removal
-use Rattle.removal.specs.Remove.{removeRefusal, remove}
+use Rattle.removal.specs.Remove.{removeRefusal, remove, removeBegun, gone}
 use Rattle.writes.proofs.Kept.{wroteIn, misses, write-passed, write-roster, missed-does, synced-same, Missed}
 use Rattle.writes.specs.Writes.{missed, writeRefusal, writeEnded, writeDone}
-use Rattle.answers.proofs.Kept.{run-roster}
+use Rattle.answers.proofs.Kept.{run-able, run-roster}
 use Rattle.answers.specs.Answers.{answerRefusal, enteredBy, answered, answer, reported}
 use Rattle.client.specs.Client.{soundFor, removeTurn, writeTurn, answerTurn, syncedTurn, cleanTo}
 use Rattle.client.specs.declared.Client.{Client}
-use Rattle.events.specs.Events.{Event, next, stateOf, isSync, raises}
-use Rattle.events.specs.Said.{versionOf, fell}
+use Rattle.events.specs.Events.{Event, turnOf, next, isAccepted, isDown, recordOf, stateOf, isSync, jobOf, raises}
+use Rattle.events.specs.Said.{versionOf, leavesNormal, endsRun}
 use Rattle.events.proofs.Fates.{Fate, state-of, kept-stands}
-use Rattle.events.proofs.States.{normal-not-failed, normal-lives, removing-not-failed}
+use Rattle.events.proofs.Others.{removal-other}
+use Rattle.events.proofs.Shape.{down-done, off}
+use Rattle.events.proofs.States.{and-true, normal-lives}
+use Rattle.events.proofs.Tries.{idle-none}
 use native.Mathlib.Decide.{ℕ-discrete}
 
 -- ---- events that do not raise the version
@@ -62,89 +73,60 @@ pub record Level (c : Client) (q : Pool) : Type 0 where
 pub as-was : (c : Client) (q : Pool) → q .roster ≡ c .pool .roster → Level c q
 as-was c q e = record { kind = ap (λ (ro : Roster). ro .sync) e; version = ap (λ (ro : Roster). ro .version) e }
 
-entered-level : (c : Client) (w : Who) (q : Pool) → q .roster ≡ enteredBy w (c .pool .roster) → Level c q
-entered-level c Who.Nobody q e = as-was c q e
-entered-level c (Who.One id) q e =
-    let n = entered-numbers (c .pool .roster) id (isSync c) refl in
-    record { kind = ap (λ (ro : Roster). ro .sync) e ∙ n .kind; version = ap (λ (ro : Roster). ro .version) e ∙ n .versioned }
-
-well-level : (st : Stage) (c : Client) (id : ℕ) → Long (c .pool .roster) → id < 16 → Level c (removal.wellAnswered st (c .pool) id .posted .pool)
-well-level Stage.Leave c id l h =
-    let g = departed-goes (removal.paid (c .pool) id) id (paid-long (c .pool) id l) h .numbers in
-    let n = paid-numbers (c .pool) id in
-    record { kind = g .kind ∙ n .kind; version = g .versioned ∙ n .versioned }
-well-level (Stage.Info peer) c id l h = let g = told-goes (c .pool) id peer l h .numbers in record { kind = g .kind; version = g .versioned }
-
-answered-level : (k : Job) (c : Client) (a : Reply) → Valid (c .pool) → jobOk k (c .pool .roster) ≡ true → Level c (answered k (c .pool) a .pool)
-answered-level Job.Idle c a v o = as-was c (c .pool) refl
-answered-level (Job.Running r) c a v o =
-    let m = takes (c .pool .roster .members) (c .pool .roster .version) r a in
-    entered-level c (m .normal) (reported (c .pool) m .pool) (run-roster (c .pool) m)
-answered-level (Job.Removing m) c Reply.Failed v o = record { kind = refl; version = refl }
-answered-level (Job.Removing m) c (Reply.Good b) v o = well-level (m .stage) c (m .id) (v .ok .long) (removal-facts (c .pool .roster) m (v .ok .long) o .below)
-
-pub remove-level : (c : Client) (xs : List ℕ) (id : ℕ) (mode : Mode) → Valid (c .pool) → Level c (next (Event.remove xs id mode) c .pool)
-unfolding remove removeTurn
-remove-level c xs id mode v =
-    turned (Level c) (removeRefusal (c .pool) (soundFor (c .pool) xs) id mode) _ (c .pool) (as-was c (c .pool) refl)
-    (λ e. let h = remove-passed (c .pool) (soundFor (c .pool) xs) id mode e in
-    let g = started-goes (withRoster (c .pool) (removing (c .pool .roster) id mode)) id (removing-long (c .pool .roster) id mode (v .ok .long)) (h .below) .numbers in
-    let n = removing-numbers (c .pool .roster) id mode (isSync c) refl in
-    record { kind = g .kind ∙ n .kind; version = g .versioned ∙ n .versioned })
-
 pub create-level : (id : ℕ) (c : Client) → Valid (c .pool) → raises (Event.joinCreate id) ≡ false → Level c (next (Event.joinCreate id) c .pool)
-unfolding joinCreate createDone enable maintenance maintenanceDone storeCheck tryRun syncedTurn answer answerTurn
+unfolding joinCreate createDone enable storeCheck tryRun syncedTurn
 create-level id c v f =
     turned (Level c) (createRefusal (c .pool) id) _ (c .pool) (as-was c (c .pool) refl) (λ e. let k = created-numbers (c .pool .roster) id in record { kind = k .kind; version = k .versioned })
 
 pub enable-level : (id : ℕ) (c : Client) → Valid (c .pool) → raises (Event.enable id) ≡ false → Level c (next (Event.enable id) c .pool)
-unfolding joinCreate createDone enable maintenance maintenanceDone storeCheck tryRun syncedTurn answer answerTurn
+unfolding joinCreate createDone enable storeCheck tryRun syncedTurn
 enable-level id c v f =
     turned (Level c) (enableRefusal (c .pool) id) _ (c .pool) (as-was c (c .pool) refl)
     (λ e. let k = enabled-numbers (c .pool) id (enable-passed (c .pool) id e .plain) in record { kind = k .kind; version = k .versioned })
 
-pub maintenance-level : (id : ℕ) (c : Client) → Valid (c .pool) → raises (Event.maintenance id) ≡ false → Level c (next (Event.maintenance id) c .pool)
-unfolding joinCreate createDone enable maintenance maintenanceDone storeCheck tryRun syncedTurn answer answerTurn
-maintenance-level id c v f =
-    turned (Level c) (maintenanceRefusal (c .pool) id) _ (c .pool) (as-was c (c .pool) refl)
-    (λ e. let k = left-numbers (c .pool .roster) id Way.Maintenance false (maintenance-passed (c .pool) id e .plain) in record { kind = k .kind; version = k .versioned })
-
 pub check-level : (id : ℕ) (c : Client) → Valid (c .pool) → raises (Event.storeCheck id) ≡ false → Level c (next (Event.storeCheck id) c .pool)
-unfolding joinCreate createDone enable maintenance maintenanceDone storeCheck tryRun syncedTurn answer answerTurn
+unfolding joinCreate createDone enable storeCheck tryRun syncedTurn
 check-level id c v f =
     turned (Level c) (checkRefusal (c .pool) id) _ (c .pool) (as-was c (c .pool) refl) (λ e. let k = checked-numbers (c .pool) id in record { kind = k .kind; version = k .versioned })
 
 pub try-level : (c : Client) → Valid (c .pool) → raises Event.tryRun ≡ false → Level c (next Event.tryRun c .pool)
-unfolding joinCreate createDone enable maintenance maintenanceDone storeCheck tryRun syncedTurn answer answerTurn
+unfolding joinCreate createDone enable storeCheck tryRun syncedTurn
 try-level c v f = turned (Level c) (tryRefusal (c .pool)) _ (c .pool) (as-was c (c .pool) refl) (λ e. as-was c _ (tried-roster (c .pool)))
 
 pub synced-level : (xs : List ℕ) (member chunk : ℕ) (c : Client) → Valid (c .pool) → raises (Event.synced xs member chunk) ≡ false → Level c (next (Event.synced xs member chunk) c .pool)
-unfolding joinCreate createDone enable maintenance maintenanceDone storeCheck tryRun syncedTurn answer answerTurn
+unfolding joinCreate createDone enable storeCheck tryRun syncedTurn
 synced-level xs member chunk c v f = as-was c _ (ap (λ (p : Pool). p .roster) (synced-same (c .pool) (soundFor (c .pool) xs) member chunk (cleanTo xs chunk 16)))
 
-pub answer-level : (xs : List ℕ) (number : ℕ) (a : Reply) (c : Client) → Valid (c .pool) → raises (Event.answer xs number a) ≡ false → Level c (next (Event.answer xs number a) c .pool)
-unfolding joinCreate createDone enable maintenance maintenanceDone storeCheck tryRun syncedTurn answer answerTurn
-answer-level xs number a c v f =
-    turned (Level c) (answerRefusal (c .pool) (soundFor (c .pool) xs) number) _ (c .pool) (as-was c (c .pool) refl) (λ e. answered-level (c .pool .job) c a v (v .job))
+-- ---- nobody leaves NORMAL by them
 
--- ---- nobody falls by them
+and-not : (b : Bool) → (b && not b) ≡ false
+and-not true = refl
+and-not false = refl
 
 -- by the states before and after
-fell-at : (c c′ : Client) (id : ℕ) (st : State) → stateOf c′ id ≡ st → (isNormal (stateOf c id) && isFailed st) ≡ false → fell c c′ id ≡ false
-fell-at c c′ id st e f = rw e f
+left-by : (c c′ : Client) (id : ℕ) (st : State) → stateOf c′ id ≡ st → (isNormal (stateOf c id) && not (isNormal st)) ≡ false → leavesNormal c c′ id ≡ false
+left-by c c′ id st e f = rw e f
 
-pub unfelled : (c : Client) (e : Event) (c′ : Client) (id : ℕ) → raises e ≡ false → Fate c e c′ id → fell c c′ id ≡ false
-unfelled c e c′ id f (Fate.kept k) = fell-at c c′ id (stateOf c id) (kept-stands c c′ id k) (normal-not-failed (stateOf c id))
-unfelled c e c′ id f (Fate.begins x st r) = rw st refl
-unfelled c e c′ id f (Fate.joins set version x plain st r) = rw st refl
-unfelled c e c′ id f (Fate.goes to l n b r) =
-    fell-at c c′ id to (state-of c′ id _ r) (by-cases (isNormal (stateOf c id)) (λ z. rw (z, removing-not-failed to (n z)) refl) (λ z. rw z refl))
-unfelled c e c′ id f (Fate.fails last x n b r) = clash x f
-unfelled c e c′ id f (Fate.maintained last x plain n b r) = fell-at c c′ id State.Reconnecting (state-of c′ id _ r) (and-false (isNormal (stateOf c id)))
-unfelled c e c′ id f (Fate.unflagged x is r) = fell-at c c′ id (stateOf c id) (state-of c′ id _ r) (normal-not-failed (stateOf c id))
-unfelled c e c′ id f (Fate.paid mode st r) = rw st refl
-unfelled c e c′ id f (Fate.freed i m r) = fell-at c c′ id State.Free (state-of c′ id _ r) (and-false (isNormal (stateOf c id)))
-unfelled c e c′ id f (Fate.removed xs mode x l r) = fell-at c c′ id State.Free (state-of c′ id _ r) (and-false (isNormal (stateOf c id)))
+same-state : (c c′ : Client) (id : ℕ) → stateOf c′ id ≡ stateOf c id → leavesNormal c c′ id ≡ false
+same-state c c′ id e = left-by c c′ id (stateOf c id) e (and-not (isNormal (stateOf c id)))
+
+was-not : (c c′ : Client) (id : ℕ) → isNormal (stateOf c id) ≡ false → leavesNormal c c′ id ≡ false
+was-not c c′ id e = rw e refl
+
+removing-not : (st : State) → isRemoving st ≡ true → isNormal st ≡ false
+removing-not st e = by-cases (isNormal st) (λ n. clash e (normal-lives st n)) (λ n. n)
+
+pub unleft : (c : Client) (e : Event) (c′ : Client) (id : ℕ) → raises e ≡ false → Fate c e c′ id → leavesNormal c c′ id ≡ false
+unleft c e c′ id f (Fate.kept k) = same-state c c′ id (kept-stands c c′ id k)
+unleft c e c′ id f (Fate.begins x st r) = was-not c c′ id (rw st refl)
+unleft c e c′ id f (Fate.joins set version x plain st r) = was-not c c′ id (rw st refl)
+unleft c e c′ id f (Fate.goes to l n b r) = was-not c c′ id (by-cases (isNormal (stateOf c id)) (λ z. clash (n z .1) f) (λ z. z))
+unleft c e c′ id f (Fate.fails last x n b r) = clash x f
+unleft c e c′ id f (Fate.maintained last x plain n b r) = clash (ap raises x) f
+unleft c e c′ id f (Fate.unflagged x is r) = same-state c c′ id (state-of c′ id _ r)
+unleft c e c′ id f (Fate.paid mode st r) = was-not c c′ id (rw st refl)
+unleft c e c′ id f (Fate.freed i m r) = was-not c c′ id (removing-not (stateOf c id) m)
+unleft c e c′ id f (Fate.removed xs mode x l r) = clash (ap raises x) f
 
 -- ---- the version
 
@@ -160,52 +142,150 @@ countTo-one p id (suc n) t f = at (countTo-one p id n t f) (ℕ-discrete n id)
         let there = f n d in
         ((λ l. rw there (omega (arith, d, r .0 (omega (arith, d))))), λ l. rw there (omega (arith, r .1 (omega arith))))
 
--- the version after an event that leaves the pool q
-abbrev pub Risen : Client → Pool → Type 0
-Risen c q = q .roster .version ≡ versionOf c + pick (isSync c) 0 (countTo (fell c (record { pool = q })) 16)
+-- the version in the pool q that an event leaves, a run having ended or not
+abbrev pub RisenBy : Client → Pool → Bool → Type 0
+RisenBy c q ended = q .roster .version ≡ versionOf c + pick (isSync c) 0 (countTo (leavesNormal c (record { pool = q })) 16 + one ended)
+
+-- the same of a turn
+abbrev endedBy : Event → Client → Turn → Bool
+endedBy e c u = isRunning (jobOf c) && ((isDown e && isAccepted (u .answer)) || not (isRunning (u .pool .job)))
+
+abbrev pub Risen : Event → Client → Turn → Type 0
+Risen e c u = (u .pool .roster .sync ≡ isSync c) × RisenBy c (u .pool) (endedBy e c u)
 
 pick-none : (b : Bool) (n : ℕ) → pick b n n ≡ n
 pick-none true n = refl
 pick-none false n = refl
 
-pub none-risen : (c : Client) (q : Pool) → q .roster .version ≡ versionOf c → ((j : ℕ) → fell c (record { pool = q }) j ≡ false) → Risen c q
+pub none-risen : (c : Client) (q : Pool) → q .roster .version ≡ versionOf c → ((j : ℕ) → leavesNormal c (record { pool = q }) j ≡ false) → RisenBy c q false
 none-risen c q same none =
-    let z = countTo-none (fell c (record { pool = q })) 16 (λ j h. none j) in
+    let z = countTo-none (leavesNormal c (record { pool = q })) 16 (λ j h. none j) in
     same ∙ rw (z, pick-none (isSync c) 0) (omega arith)
 
-refused-risen : (c : Client) → Risen c (c .pool)
-refused-risen c = none-risen c (c .pool) refl (λ j. normal-not-failed (stateOf c j))
+refused-risen : (e : Event) (c : Client) (n : ℕ) → Risen e c (refused (c .pool) n)
+refused-risen e c n = (refl, rw (and-false (isDown e), and-not (isRunning (jobOf c))) (none-risen c (c .pool) refl (λ j. same-state c c j refl)))
 
-down-risen : (c : Client) (id : ℕ) → Valid (c .pool) → id < 16 → (q : Pool) → q .roster ≡ dropped (c .pool .roster) id → Risen c q
-down-risen c id v h q same =
-    by-cases (isSync c)
-    (λ sync. version _ (other-dropped (c .pool .roster) id (rw sync refl) .versioned) ∙ rw sync (omega arith))
-    (λ plain. by-cases (isNormal (stateOf c id)) (fallen plain) (quiet plain))
+-- where no run was in hand, none ended
+calm-risen : (e : Event) (c : Client) (u : Turn) → isRunning (jobOf c) ≡ false → RisenBy c (u .pool) false → RisenBy c (u .pool) (endedBy e c u)
+calm-risen e c u calm r = rw calm r
+
+-- an event by which only one session can leave NORMAL, and does if it was so
+by-one : (c : Client) (id : ℕ) (q : Pool) (ended : Bool) → id < 16 → isNormal (stateOf (record { pool = q }) id) ≡ false → ((j : ℕ) → j ≢ id → leavesNormal c (record { pool = q }) j ≡ false)
+    → q .roster .version ≡ versionOf c + pick (isSync c) 0 (one (isNormal (stateOf c id)) + one ended) → RisenBy c q ended
+by-one c id q ended h gone others e = e ∙ ap (λ (n : ℕ). versionOf c + pick (isSync c) 0 (n + one ended)) (sym number)
   where
-    version : (n : ℕ) → dropped (c .pool .roster) id .version ≡ n → q .roster .version ≡ n
-    version n e = ap (λ (ro : Roster). ro .version) same ∙ e
+    number : countTo (leavesNormal c (record { pool = q })) 16 ≡ one (isNormal (stateOf c id))
+    number =
+        by-cases (isNormal (stateOf c id))
+        (λ n. countTo-one (leavesNormal c (record { pool = q })) id 16 (rw (n, gone) refl) others .0 h ∙ rw n refl)
+        (λ n. countTo-none (leavesNormal c (record { pool = q })) 16 (λ j k. elim (ℕ-discrete j id) [ yes p ↦ was-not c (record { pool = q }) j (rw p n) | no d ↦ others j d ]) ∙ rw n refl)
 
-    other : (j : ℕ) → j ≢ id → fell c (record { pool = q }) j ≡ false
-    other j ne =
-        fell-at c (record { pool = q }) j (stateOf c j) (ap (λ (ro : Roster). sessionAt ro j .state) same ∙ ap (λ (s : Session). s .state) (dropped-other (c .pool .roster) id j ne)) (normal-not-failed (stateOf c j))
+-- the version after one session left NORMAL, if it was so
+one-left : (c : Client) (id : ℕ) (b : Bool) → Valid (c .pool) → id < 16 → isSync c ≡ b
+    → pick (isNormal (stateOf c id)) (pick b (versionOf c) (more (versionOf c))) (versionOf c) ≡ versionOf c + pick b 0 (one (isNormal (stateOf c id)))
+one-left c id true v h sync = pick-none (isNormal (stateOf c id)) (versionOf c) ∙ omega arith
+one-left c id false v h plain =
+    by-cases (isNormal (stateOf c id))
+    (λ n. rw n (rises (c .pool .roster) (v .ok) (omega (arith, counted (c .pool .roster) id (v .ok) h plain n))))
+    (λ n. rw n (omega arith))
 
-    fallen : isSync c ≡ false → isNormal (stateOf c id) ≡ true → Risen c q
-    fallen plain n =
-        let k = normal-dropped (c .pool .roster) id plain n in
-        let some : 1 ≤ c .pool .roster .count = omega (arith, counted (c .pool .roster) id (v .ok) h plain n) in
-        let st : stateOf (record { pool = q }) id ≡ State.Failed = ap (λ (ro : Roster). sessionAt ro id .state) same
-        ∙ (ap (λ (s : Session). s .state) (dropped-at (c .pool .roster) id (v .ok .long) h) ∙ rw (normal-lives (stateOf c id) n) refl) in
-        let one-fell = countTo-one (fell c (record { pool = q })) id 16 (rw (n, st) refl) other .0 h in
-        version _ (k .versioned ∙ raised (c .pool .roster) (v .ok) some) ∙ rw (plain, one-fell) refl
+-- ---- the events that may raise it
 
-    quiet : isSync c ≡ false → isNormal (stateOf c id) ≡ false → Risen c q
-    quiet plain n =
-        none-risen c q (version _ (other-dropped (c .pool .roster) id (rw n (and-false (not (isSync c)))) .versioned))
-        (λ j. elim (ℕ-discrete j id) [ yes e ↦ rw (e, n) refl | no d ↦ other j d ])
+pub maintenance-rises : (id : ℕ) (c : Client) → Valid (c .pool) → Risen (Event.maintenance id) c (turnOf (Event.maintenance id) c)
+unfolding maintenance maintenanceDone
+maintenance-rises id c v =
+    turn-of (Risen (Event.maintenance id) c) (maintenanceRefusal (c .pool) id) (maintenanceDone (c .pool) id) (c .pool) (refused-risen (Event.maintenance id) c (maintenanceRefusal (c .pool) id))
+    (λ e. let h = maintenance-passed (c .pool) id e in
+    let k = left-numbers (c .pool .roster) id Way.Maintenance false (h .plain) in
+    let after = left-at (c .pool .roster) id Way.Maintenance (v .ok .long) (h .below) in (
+      k .kind,
+      calm-risen (Event.maintenance id) c (maintenanceDone (c .pool) id) (idle-none (jobOf c) (h .idle))
+          (by-one c id (maintenanceDone (c .pool) id .pool) false (h .below)
+          (ap (λ (s : Session). isNormal (s .state)) after)
+          (λ j d. same-state c (record { pool = maintenanceDone (c .pool) id .pool }) j (ap (λ (s : Session). s .state) (left-other (c .pool .roster) id Way.Maintenance j d)))
+          (k .versioned ∙ rw (h .plain, h .normal) (rises (c .pool .roster) (v .ok) (omega (arith, counted (c .pool .roster) id (v .ok) (h .below) (h .plain) (h .normal)))))),
+    ))
 
-write-risen : (c : Client) (reached : ℕ) → Valid (c .pool) → isSync c ≡ false → (q : Pool) → q .roster ≡ wroteIn (c .pool) reached → Risen c q
+-- a session that is removed or gone is not NORMAL
+removed-not : (b : Bool) (s r x : Session) (mode : Mode) (owed : Bool) → s ≡ pick b free r → r ≡ moved x (State.Removing mode owed) → isNormal (s .state) ≡ false
+removed-not true s r x mode owed e f = ap (λ (y : Session). isNormal (y .state)) e
+removed-not false s r x mode owed e f = ap (λ (y : Session). isNormal (y .state)) (e ∙ f)
+
+-- the pool in which a removal has started
+abbrev startedIn : Client → ℕ → Mode → Pool
+startedIn c id mode = removal.started (withRoster (c .pool) (removing (c .pool .roster) id mode)) id .posted .pool
+
+remove-risen : (c : Client) (id : ℕ) (mode : Mode) → Valid (c .pool) → id < 16 → (startedIn c id mode .roster .sync ≡ isSync c) × RisenBy c (startedIn c id mode) false
+remove-risen c id mode v h =
+    let g = started-goes (withRoster (c .pool) (removing (c .pool .roster) id mode)) id (removing-long (c .pool .roster) id mode (v .ok .long)) h in
+    let n = removing-numbers (c .pool .roster) id mode (isSync c) refl in (
+      g .numbers .kind ∙ n .kind,
+      by-one c id (startedIn c id mode) false h
+          (removed-not (pick (isOwed (sessionAt (removing (c .pool .roster) id mode) id .state)) false (not (isDue Stage.Leave (removing (c .pool .roster) id mode))))
+          (sessionAt (startedIn c id mode .roster) id) (sessionAt (removing (c .pool .roster) id mode) id) (recordOf c id) mode (owes (stateOf c id)) (g .own) (removing-at (c .pool .roster) id mode (v .ok .long) h))
+          (λ j d. same-state c (record { pool = startedIn c id mode }) j (ap (λ (s : Session). s .state) (g .others j d ∙ removing-other (c .pool .roster) id j mode d)))
+          (g .numbers .versioned ∙ (n .versioned ∙ (one-left c id (isSync c) v h refl ∙ ap (λ (k : ℕ). versionOf c + pick (isSync c) 0 k) (omega arith)))),
+    )
+
+pub remove-rises : (xs : List ℕ) (id : ℕ) (mode : Mode) (c : Client) → Valid (c .pool) → Risen (Event.remove xs id mode) c (turnOf (Event.remove xs id mode) c)
+unfolding remove removeTurn
+remove-rises xs id mode c v =
+    turn-of (Risen (Event.remove xs id mode) c) (removeRefusal (c .pool) (soundFor (c .pool) xs) id mode) (gone (c .pool) (removeBegun (c .pool) id mode)) (c .pool)
+    (refused-risen (Event.remove xs id mode) c (removeRefusal (c .pool) (soundFor (c .pool) xs) id mode))
+    (λ e. let h = remove-passed (c .pool) (soundFor (c .pool) xs) id mode e in
+    let r = remove-risen c id mode v (h .below) in
+    (r .0, calm-risen (Event.remove xs id mode) c (gone (c .pool) (removeBegun (c .pool) id mode)) (idle-none (jobOf c) (h .idle)) (r .1)))
+
+-- link down: the version of the session that failed, and of the run that ended
+down-version : (j : Job) (c : Client) (id : ℕ) → jobOf c ≡ j → Valid (c .pool) → id < 16
+    → raisedIf (isRunning j) (dropped (c .pool .roster) id) .version ≡ versionOf c + pick (isSync c) 0 (one (isNormal (stateOf c id)) + one (isRunning j))
+down-version j c id job v h = at j job
+  where
+    first : dropped (c .pool .roster) id .version ≡ versionOf c + pick (isSync c) 0 (one (isNormal (stateOf c id)))
+    first =
+        by-cases (not (isSync c) && isNormal (stateOf c id))
+        (λ z. let plain = off (isSync c) (and-left (not (isSync c)) (isNormal (stateOf c id)) z) in
+        let n = and-right (not (isSync c)) (isNormal (stateOf c id)) z in
+        normal-dropped (c .pool .roster) id plain n .versioned ∙ (rises (c .pool .roster) (v .ok) (omega (arith, counted (c .pool .roster) id (v .ok) h plain n)) ∙ rw (plain, n) refl))
+        (λ z. other-dropped (c .pool .roster) id z .versioned ∙ none (isSync c) (isNormal (stateOf c id)) z)
+      where
+        none : (s n : Bool) → (not s && n) ≡ false → versionOf c ≡ versionOf c + pick s 0 (one n)
+        none true n z = omega arith
+        none false true z = clash refl z
+        none false false z = omega arith
+
+    calm : (k : Job) → isRunning k ≡ false → raisedIf (isRunning k) (dropped (c .pool .roster) id) .version ≡ versionOf c + pick (isSync c) 0 (one (isNormal (stateOf c id)) + one (isRunning k))
+    calm k e = rw e (first ∙ ap (λ (n : ℕ). versionOf c + pick (isSync c) 0 n) (omega arith))
+
+    at : (k : Job) → jobOf c ≡ k → raisedIf (isRunning k) (dropped (c .pool .roster) id) .version ≡ versionOf c + pick (isSync c) 0 (one (isNormal (stateOf c id)) + one (isRunning k))
+    at Job.Idle e = calm Job.Idle refl
+    at (Job.Removing m) e = calm (Job.Removing m) refl
+    at (Job.Running r) e =
+        let q = run-facts (c .pool .roster) r (v .ok .long) (rw e at (v .job)) in
+        let room = dropped-room (c .pool .roster) id (v .ok) (q .plain) h (run-room (c .pool .roster) (v .ok) (q .plain) (q .limit)) in
+        let f : dropped (c .pool .roster) id .version ≡ versionOf c + one (isNormal (stateOf c id)) = first ∙ ap (λ (b : Bool). versionOf c + pick b 0 (one (isNormal (stateOf c id)))) (q .plain) in
+        below-top (dropped (c .pool .roster) id .version) (omega (arith, room)) ∙ (ap (λ (n : ℕ). n + 1) f ∙ (omega arith ∙ ap (λ (b : Bool). versionOf c + pick b 0 (one (isNormal (stateOf c id)) + 1)) (sym (q .plain))))
+
+pub down-rises : (id : ℕ) (c : Client) → Valid (c .pool) → Risen (Event.linkDown id) c (turnOf (Event.linkDown id) c)
+unfolding linkDown downDone
+down-rises id c v =
+    turn-of (Risen (Event.linkDown id) c) (downRefusal (c .pool) id) (downDone (c .pool) id) (c .pool) (refused-risen (Event.linkDown id) c (downRefusal (c .pool) id))
+    (λ e. let h = down-passed (c .pool) id e .below in
+    let same = down-roster (c .pool .job) (c .pool) id in (
+      ap (λ (ro : Roster). ro .sync) same ∙ dropped-sync (c .pool .roster) id,
+      rw (down-done (c .pool .job) (c .pool) id, and-true (isRunning (jobOf c)))
+          (by-one c id (downDone (c .pool) id .pool) (isRunning (jobOf c)) h
+          (ap (λ (ro : Roster). isNormal (sessionAt ro id .state)) same ∙ (ap (λ (s : Session). isNormal (s .state)) (dropped-at (c .pool .roster) id (v .ok .long) h) ∙ down-not (recordOf c id) (pick (isNormal (stateOf c id)) (isLast (c .pool .roster)) (recordOf c id .mark))))
+          (λ j d. same-state c (record { pool = downDone (c .pool) id .pool }) j (ap (λ (ro : Roster). sessionAt ro j .state) same ∙ ap (λ (s : Session). s .state) (dropped-other (c .pool .roster) id j d)))
+          (ap (λ (ro : Roster). ro .version) same ∙ down-version (jobOf c) c id refl v h)),
+    ))
+  where
+    down-not : (s : Session) (b : Bool) → isNormal (pick (isRemoving (s .state)) s (marked (moved s State.Failed) b) .state) ≡ false
+    down-not s b = by-cases (isRemoving (s .state)) (λ z. rw z (removing-not (s .state) z)) (λ z. rw z refl)
+
+write-risen : (c : Client) (reached : ℕ) → Valid (c .pool) → isSync c ≡ false → (q : Pool) → q .roster ≡ wroteIn (c .pool) reached → RisenBy c q false
 write-risen c reached v plain q same =
-    ap (λ (ro : Roster). ro .version) same ∙ (d .version ∙ rw (plain, countTo-same (fell c (record { pool = q })) (λ j. misses reached j (c .pool .roster)) 16 falls) refl)
+    ap (λ (ro : Roster). ro .version) same ∙ (d .version ∙ rw (plain, countTo-same (leavesNormal c (record { pool = q })) (λ j. misses reached j (c .pool .roster)) 16 leave) (omega arith))
   where
     d : Missed reached (c .pool .roster) 16 (missed (c .pool .roster) reached)
     d = missed-does (c .pool .roster) reached (v .ok) plain
@@ -213,38 +293,99 @@ write-risen c reached v plain q same =
     after : (j : ℕ) (s : Session) → sessionAt (missed (c .pool .roster) reached) j ≡ s → stateOf (record { pool = q }) j ≡ s .state
     after j s e = ap (λ (ro : Roster). sessionAt ro j .state) same ∙ ap (λ (s : Session). s .state) e
 
-    falls : (j : ℕ) → j < 16 → fell c (record { pool = q }) j ≡ misses reached j (c .pool .roster)
-    falls j h =
+    leave : (j : ℕ) → j < 16 → leavesNormal c (record { pool = q }) j ≡ misses reached j (c .pool .roster)
+    leave j h =
         by-cases (misses reached j (c .pool .roster))
         (λ m. rw (m, and-left (isNormal (stateOf c j)) (not (has reached j)) m, after j _ (d .fails j h m)) refl)
-        (λ m. rw m (fell-at c (record { pool = q }) j (stateOf c j) (after j _ (d .spares j m)) (normal-not-failed (stateOf c j))))
+        (λ m. rw m (same-state c (record { pool = q }) j (after j _ (d .spares j m))))
 
--- the three events that may raise it
-pub assemble-loud : (id set version : ℕ) (c : Client) → Valid (c .pool) → raises (Event.joinAssemble id set version) ≡ true
-    → (isSync (next (Event.joinAssemble id set version) c) ≡ isSync c) × (versionOf c ≤ versionOf (next (Event.joinAssemble id set version) c)) × (((i s w : ℕ) → (Event.joinAssemble id set version) ≢ Event.joinAssemble i s w) → Risen c (next (Event.joinAssemble id set version) c .pool))
-unfolding joinAssemble assembleDone linkDown downDone writeEnded writeTurn
-assemble-loud id set version c v f =
-    let d = turned (λ q. (q .roster .sync ≡ isSync c) × (versionOf c ≤ q .roster .version)) (assembleRefusal (c .pool) id set version) (assembleDone (c .pool) id set version) (c .pool) (refl, omega arith)
+pub write-rises : (xs : List ℕ) (chunk reached : ℕ) (c : Client) → Valid (c .pool) → Risen (Event.write xs chunk reached) c (turnOf (Event.write xs chunk reached) c)
+unfolding writeEnded writeTurn
+write-rises xs chunk reached c v =
+    turn-of (Risen (Event.write xs chunk reached) c) (writeRefusal (c .pool) (soundFor (c .pool) xs) chunk reached) (writeDone (c .pool) chunk reached) (c .pool) (refused-risen (Event.write xs chunk reached) c (writeRefusal (c .pool) (soundFor (c .pool) xs) chunk reached))
+    (λ e. let same = write-roster (c .pool) chunk reached in
+    let w = write-passed (c .pool) (soundFor (c .pool) xs) chunk reached e in (
+      ap (λ (ro : Roster). ro .sync) same ∙ (missed-does (c .pool .roster) reached (v .ok) (w .plain) .plain ∙ sym (w .plain)),
+      calm-risen (Event.write xs chunk reached) c (writeDone (c .pool) chunk reached) (w .free) (write-risen c reached v (w .plain) (writeDone (c .pool) chunk reached .pool) same),
+    ))
+
+-- an answer in a run makes nobody leave NORMAL
+run-stays : (c : Client) (q : Pool) (over : Bool) (w : Who) → Valid (c .pool) → isSync c ≡ false → ((id : ℕ) → w ≡ Who.One id → candidate (sessionAt (c .pool .roster) id) ≡ true)
+    → q .roster ≡ raisedIf over (enteredBy w (c .pool .roster)) → (j : ℕ) → leavesNormal c (record { pool = q }) j ≡ false
+run-stays c q over Who.Nobody v plain able e j = same-state c (record { pool = q }) j (ap (λ (ro : Roster). sessionAt ro j .state) e)
+run-stays c q over (Who.One id) v plain able e j = elim (ℕ-discrete j id) [
+  | yes p ↦ was-not c (record { pool = q }) j (rw p (candidate-normal (sessionAt (c .pool .roster) id) (able id refl)))
+  | no d ↦ same-state c (record { pool = q }) j (ap (λ (ro : Roster). sessionAt ro j .state) e ∙ ap (λ (s : Session). s .state) (entered-other (c .pool .roster) id j plain d))
+]
+
+-- the one that becomes NORMAL leaves kind and version as they were
+pub entered-same : (w : Who) (c : Client) → (enteredBy w (c .pool .roster) .sync ≡ isSync c) × (enteredBy w (c .pool .roster) .version ≡ versionOf c)
+entered-same Who.Nobody c = (refl, refl)
+entered-same (Who.One id) c = let n = entered-numbers (c .pool .roster) id (isSync c) refl in (n .kind, n .versioned)
+
+run-version : (over : Bool) (c : Client) (w : Who) → isSync c ≡ false → versionOf c < versionTop → raisedIf over (enteredBy w (c .pool .roster)) .version ≡ versionOf c + one over
+run-version true c w plain low = ap more (entered-same w c .1) ∙ below-top (versionOf c) low
+run-version false c w plain low = entered-same w c .1 ∙ omega arith
+
+well-same : (st : Stage) (c : Client) (id : ℕ) → Long (c .pool .roster) → id < 16
+    → (removal.wellAnswered st (c .pool) id .posted .pool .roster .sync ≡ isSync c) × (removal.wellAnswered st (c .pool) id .posted .pool .roster .version ≡ versionOf c)
+well-same Stage.Leave c id l h =
+    let g = departed-goes (removal.paid (c .pool) id) id (paid-long (c .pool) id l) h .numbers in
+    let n = paid-numbers (c .pool) id in
+    (g .kind ∙ n .kind, g .versioned ∙ n .versioned)
+well-same (Stage.Info peer) c id l h = let g = told-goes (c .pool) id peer l h .numbers in (g .kind, g .versioned)
+
+removal-same : (m : Removal) (c : Client) (a : Reply) → Long (c .pool .roster) → m .id < 16
+    → (removal.removalAnswered m (c .pool) a .posted .pool .roster .sync ≡ isSync c) × (removal.removalAnswered m (c .pool) a .posted .pool .roster .version ≡ versionOf c)
+removal-same m c Reply.Failed l h = (refl, refl)
+removal-same m c (Reply.Good b) l h = well-same (m .stage) c (m .id) l h
+
+answered-risen : (k : Job) (c : Client) (a : Reply) → jobOf c ≡ k → Valid (c .pool) → jobOk k (c .pool .roster) ≡ true
+    → (answered k (c .pool) a .pool .roster .sync ≡ isSync c) × RisenBy c (answered k (c .pool) a .pool) (isRunning k && not (isRunning (answered k (c .pool) a .pool .job)))
+answered-risen Job.Idle c a job v o = (refl, none-risen c (c .pool) refl (λ j. same-state c c j refl))
+answered-risen (Job.Running r) c a job v o =
+    let f = run-facts (c .pool .roster) r (v .ok .long) o in
+    let m = takes (c .pool .roster .members) (c .pool .roster .version) r a in
+    let over = not (isRunning (reported (c .pool) m .pool .job)) in
+    let same = run-roster (c .pool) m in
+    let none = countTo-none (leavesNormal c (record { pool = reported (c .pool) m .pool })) 16
+    (λ j h. run-stays c (reported (c .pool) m .pool) over (m .normal) v (f .plain) (λ id. run-able (c .pool) r a v f id) same j) in (
+      ap (λ (ro : Roster). ro .sync) same ∙ entered-same (m .normal) c .0,
+      ap (λ (ro : Roster). ro .version) same ∙ (run-version over c (m .normal) (f .plain) (omega (arith, f .limit))
+          ∙ (omega arith ∙ (ap (λ (b : Bool). versionOf c + pick b 0 (0 + one over)) (sym (f .plain)) ∙ ap (λ (n : ℕ). versionOf c + pick (isSync c) 0 (n + one over)) (sym none)))),
+    )
+answered-risen (Job.Removing m) c a job v o =
+    let h = removal-facts (c .pool .roster) m (v .ok .long) o in
+    let s = removal-same m c a (v .ok .long) (h .below) in
+    let q = removal.removalAnswered m (c .pool) a .posted .pool in (
+      s .0,
+      none-risen c q (s .1) (λ j. elim (ℕ-discrete j (m .id)) [
+        | yes p ↦ was-not c (record { pool = q }) j (rw p (removing-not (stateOf c (m .id)) (h .removing)))
+        | no d ↦ same-state c (record { pool = q }) j (ap (λ (x : Session). x .state) (removal-other m (c .pool) a j (v .ok .long) (h .below) d))
+      ]),
+    )
+
+pub answer-rises : (xs : List ℕ) (number : ℕ) (a : Reply) (c : Client) → Valid (c .pool) → Risen (Event.answer xs number a) c (turnOf (Event.answer xs number a) c)
+unfolding answer answerTurn
+answer-rises xs number a c v =
+    turn-of (Risen (Event.answer xs number a) c) (answerRefusal (c .pool) (soundFor (c .pool) xs) number) _ (c .pool) (refused-risen (Event.answer xs number a) c (answerRefusal (c .pool) (soundFor (c .pool) xs) number))
+    (λ e. answered-risen (c .pool .job) c a refl v (v .job))
+
+-- join assemble: the larger one
+assemble-larger : (id set version : ℕ) (c : Client) → Valid (c .pool) → (isSync (next (Event.joinAssemble id set version) c) ≡ isSync c) × (versionOf c ≤ versionOf (next (Event.joinAssemble id set version) c))
+unfolding joinAssemble assembleDone
+assemble-larger id set version c v =
+    turned (λ q. (q .roster .sync ≡ isSync c) × (versionOf c ≤ q .roster .version)) (assembleRefusal (c .pool) id set version) (assembleDone (c .pool) id set version) (c .pool) (refl, omega arith)
     (λ e. let same = tried-roster (withRoster (c .pool) (assembled (c .pool .roster) id set version)) in
     let n = assembled-numbers (c .pool .roster) id set version in
-    (ap (λ (ro : Roster). ro .sync) same ∙ n .kind, omega (arith, ap (λ (ro : Roster). ro .version) same, n .versioned))) in
-    (d .0, d .1, λ n. absurd (n id set version refl))
+    (ap (λ (ro : Roster). ro .sync) same ∙ n .kind, omega (arith, ap (λ (ro : Roster). ro .version) same, n .versioned)))
 
-pub down-loud : (id : ℕ) (c : Client) → Valid (c .pool) → raises (Event.linkDown id) ≡ true
-    → (isSync (next (Event.linkDown id) c) ≡ isSync c) × (versionOf c ≤ versionOf (next (Event.linkDown id) c)) × (((i s w : ℕ) → (Event.linkDown id) ≢ Event.joinAssemble i s w) → Risen c (next (Event.linkDown id) c .pool))
-unfolding joinAssemble assembleDone linkDown downDone writeEnded writeTurn
-down-loud id c v f =
-    let d = turned (λ q. (q .roster .sync ≡ isSync c) × Risen c q) (downRefusal (c .pool) id) (downDone (c .pool) id) (c .pool) (refl, refused-risen c)
-    (λ e. let same = down-roster (c .pool .job) (c .pool) id in
-    (ap (λ (ro : Roster). ro .sync) same ∙ dropped-sync (c .pool .roster) id, down-risen c id v (down-passed (c .pool) id e .below) (downDone (c .pool) id .pool) same)) in
-    (d .0, omega (arith, d .1), λ n. d .1)
+-- What is known of an event that may raise the version.
+abbrev pub Loud : Event → Client → Type 0
+Loud e c = (isSync (next e c) ≡ isSync c) × (versionOf c ≤ versionOf (next e c)) × (((id set version : ℕ) → e ≢ Event.joinAssemble id set version) → RisenBy c (next e c .pool) (endsRun e c))
 
-pub write-loud : (xs : List ℕ) (chunk reached : ℕ) (c : Client) → Valid (c .pool) → raises (Event.write xs chunk reached) ≡ true
-    → (isSync (next (Event.write xs chunk reached) c) ≡ isSync c) × (versionOf c ≤ versionOf (next (Event.write xs chunk reached) c)) × (((i s w : ℕ) → (Event.write xs chunk reached) ≢ Event.joinAssemble i s w) → Risen c (next (Event.write xs chunk reached) c .pool))
-unfolding joinAssemble assembleDone linkDown downDone writeEnded writeTurn
-write-loud xs chunk reached c v f =
-    let d = turned (λ q. (q .roster .sync ≡ isSync c) × Risen c q) (writeRefusal (c .pool) (soundFor (c .pool) xs) chunk reached) (writeDone (c .pool) chunk reached) (c .pool) (refl, refused-risen c)
-    (λ e. let same = write-roster (c .pool) chunk reached in
-    let plain = write-passed (c .pool) (soundFor (c .pool) xs) chunk reached e .plain in
-    (ap (λ (ro : Roster). ro .sync) same ∙ (missed-does (c .pool .roster) reached (v .ok) plain .plain ∙ sym plain), write-risen c reached v plain (writeDone (c .pool) chunk reached .pool) same)) in
-    (d .0, omega (arith, d .1), λ n. d .1)
+pub loud-of : (e : Event) (c : Client) → Risen e c (turnOf e c) → Loud e c
+loud-of e c r = (r .0, omega (arith, r .1), λ n. r .1)
+
+pub assemble-loud : (id set version : ℕ) (c : Client) → Valid (c .pool) → Loud (Event.joinAssemble id set version) c
+assemble-loud id set version c v = let d = assemble-larger id set version c v in (d .0, d .1, λ n. absurd (n id set version refl))

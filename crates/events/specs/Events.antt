@@ -172,7 +172,7 @@ abbrev pub caseOf : Event → Case
 caseOf (Event.joinCreate id) = ofSession id (λ c. Joins.createTests (c .pool) id) (λ c. Joins.joinCreate (c .pool) id) Sort.barred false
 caseOf (Event.joinAssemble id set version) = ofSession id (λ c. Joins.assembleTests (c .pool) id set version) (λ c. Joins.joinAssemble (c .pool) id set version) Sort.barred true
 caseOf (Event.enable id) = ofSession id (λ c. Enables.enableTests (c .pool) id) (λ c. Enables.enable (c .pool) id) Sort.barred false
-caseOf (Event.maintenance id) = ofSession id (λ c. Enables.maintenanceTests (c .pool) id) (λ c. Enables.maintenance (c .pool) id) Sort.barred false
+caseOf (Event.maintenance id) = ofSession id (λ c. Enables.maintenanceTests (c .pool) id) (λ c. Enables.maintenance (c .pool) id) Sort.barred true
 caseOf (Event.linkDown id) = ofSession id (λ c. Links.downTests (c .pool) id) (λ c. Links.linkDown (c .pool) id) Sort.down true
 caseOf (Event.storeCheck id) = ofSession id (λ c. Links.checkTests (c .pool) id) (λ c. Links.storeCheck (c .pool) id) Sort.barred false
 caseOf Event.tryRun =
@@ -197,7 +197,7 @@ caseOf (Event.remove xs id mode) =
       touches = λ c after ef. removalTouches id (isDelete mode) after ef;
       part = λ c. Part.remove id mode;
       sort = Sort.barred;
-      raises = false;
+      raises = true;
     }
 caseOf (Event.write xs chunk reached) =
     record {
@@ -233,7 +233,7 @@ caseOf (Event.answer xs number a) =
       touches = λ c after ef. answerTouches (jobOf c) c after ef;
       part = λ c. answerPart (jobOf c) a;
       sort = Sort.answer;
-      raises = false;
+      raises = true;
     }
 
 abbrev pub testsOf : Event → Client → List Test

@@ -6,7 +6,7 @@ use mathlib.Core.Bool.{Bool, true, false, _&&_, _||_, not}
 use mathlib.Core.List.{List}
 use Prim.Native.Nat.{ℕ, _+_, max}
 use lib.Dec.{eqb, ltb}
-use Rattle.laws.specs.Words.{pick}
+use Rattle.laws.specs.Words.{pick, one}
 use Rattle.sets.specs.Sets.{has, countTo}
 use Rattle.chunks.specs.Chunk.{markedFor}
 use Rattle.maps.specs.Map.{zeroRow, zeroed}
@@ -26,9 +26,9 @@ use Rattle.state.specs.Session.{isFree, isCreated, isNormal, isFailed, isReconn
 use Rattle.run.specs.declared.Next.{Next}
 use Rattle.run.specs.Run.{awaitedIn}
 use Rattle.recovery.specs.Cases.{begun}
-use Rattle.rules.specs.Jobs.{peerAt}
+use Rattle.rules.specs.Jobs.{isRunning, peerAt}
 use Rattle.client.specs.declared.Client.{Client}
-use Rattle.events.specs.Events.{Event, outOf, next, isAccepted, Lent, mapLeft, recordOf, stateOf, isSync, nobodyLeft, jobOf, Part, partOf}
+use Rattle.events.specs.Events.{Event, outOf, next, isAccepted, Lent, mapLeft, recordOf, stateOf, isSync, nobodyLeft, jobOf, Part, partOf, isDown}
 use Rattle.events.specs.Demand2.{Reached}
 
 -- ---- words
@@ -106,15 +106,21 @@ NormalOnly = (c : Client) → Reached c → isSync c ≡ false → (e : Event) (
 
 -- ---- the version
 
--- NORMAL before, FAILED after
-abbrev pub fell : Client → Client → ℕ → Bool
-fell c c′ id = isNormal (stateOf c id) && isFailed (stateOf c′ id)
+-- NORMAL before, and not after: for FAILED, maintenance or removal
+abbrev pub leavesNormal : Client → Client → ℕ → Bool
+leavesNormal c c′ id = isNormal (stateOf c id) && not (isNormal (stateOf c′ id))
 
--- "Leaving NORMAL for FAILED raises the pool version by one"; but for join assemble nothing else changes it, and "a sync pool has no version change". Refused: a link
--- down or a write that does not raise it, a write that raises it once for all; a removal, a maintenance or an answer that raises it.
+-- the event ends the run in hand: after it none is, or it is an accepted link down, after which another may have begun
+abbrev pub endsRun : Event → Client → Bool
+endsRun e c = isRunning (jobOf c) && ((isDown e && isAccepted (outOf e c .answer)) || not (isRunning (jobOf (next e c))))
+
+-- "Leaving NORMAL for FAILED raises the pool version by one"; C-13: "Leaving NORMAL for maintenance or removal must raise the pool version too, and so must the end of
+-- every run, however it ends". They add up; but for join assemble nothing else changes it, and "a sync pool has no version change". Refused: a link down, a write, a
+-- maintenance or a removal that does not raise it, a write that raises it once for all; a run that ends well, by a failed answer or by a link down and does not raise it;
+-- an answer within a run, a repeated removal or any other event that raises it.
 abbrev pub VersionRises : Type 0
 VersionRises = (c : Client) → Reached c → (e : Event) → ((id set version : ℕ) → e ≢ Event.joinAssemble id set version)
-    → versionOf (next e c) ≡ versionOf c + pick (isSync c) 0 (countTo (fell c (next e c)) 16)
+    → versionOf (next e c) ≡ versionOf c + pick (isSync c) 0 (countTo (leavesNormal c (next e c)) 16 + one (endsRun e c))
 
 -- ---- writes
 

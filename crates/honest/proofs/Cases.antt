@@ -68,7 +68,7 @@ module _ (ro : Roster) (v : Ok ro) (sync : ro .sync ≡ false) where
 pub case-1 : CaseOne
 case-1 p w normals h =
     record {
-      recovered = recovered cut p w c₀ sim src l 0 (3 * size l) ro (w .nodes) (rw (← run) refl) refl (omega (arith, size-some l (lowest l) (lowest-in l low))) (omega arith) apart (can .source .map) ends;
+      recovered = recovered cut p w c₀ sim src l 0 (3 * size l) ro (w .nodes) (begun-limit (p .roster) (h .begins .run) (h .begins .began)) (rw (← run) refl) refl (omega (arith, size-some l (lowest l) (lowest-in l low))) (omega arith) apart (can .source .map) ends;
       others = λ j q. ap (λ (g : ℕ → Station). g j) (nodes-is cut p w c₀ sim (3 * size l)) ∙ ends .same-node j q;
     }
   where
@@ -143,7 +143,7 @@ enabled-all : (cut : Cutting) (p : Pool) (w : World) (c₀ : Course) (src l t n 
     → EnabledAll p src l n f w
 enabled-all cut p w c₀ src l t n ro f s tied none all hv hm own can e =
     record {
-      others = recovered cut p w c₀ s src l (t + 1) n (entered ro src) g tied none (omega arith) (omega arith) (can .apart)
+      others = recovered cut p w c₀ s src l (t + 1) n (entered ro src) g hv tied none (omega arith) (omega arith) (can .apart)
           (let q : Fine (p .chunks) src (g src) = rw (upd-same f src a) (fine-enabled (p .chunks) src (p .roster .version) (p .roster .members) (f src) (can .source) hv hm own) in q .map)
           (e .spread);
       source-is-up = up-of cut p w c₀ s n src (f src .map) (e .source-entered) (e .source-served);

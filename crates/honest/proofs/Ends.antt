@@ -2,9 +2,10 @@
 use mathlib.Core.Path.{_≡_, refl, sym, ap, _∙_}
 use mathlib.Core.Bool.{true, false}
 use mathlib.Core.List.{List}
-use Prim.Native.Nat.{ℕ, zero, _+_, _*_, _<_}
+use Prim.Native.Nat.{ℕ, zero, _+_, _*_, _≤_, _<_}
 use native.Mathlib.Omega.{arith}
 use lib.ListN.{length, getD}
+use Rattle.refusals.specs.Limits.{versionLimit}
 use Rattle.sets.specs.Sets.{has, size}
 use Rattle.maps.specs.Map.{rowsKept}
 use Rattle.maps.proofs.Sound.{Sound, sound-kept}
@@ -14,6 +15,7 @@ use Rattle.state.specs.declared.Roster.{Roster}
 use Rattle.state.specs.declared.Pool.{Pool}
 use Rattle.state.specs.declared.Outcome.{Outcome}
 use Rattle.roster.specs.Roster.{sessionAt}
+use Rattle.changes.specs.Changes.{more}
 use Rattle.run.specs.declared.Next.{Next}
 use Rattle.run.specs.Run.{awaitedIn}
 use Rattle.rules.specs.Rules.{validPool}
@@ -25,6 +27,7 @@ use Rattle.exits.specs.Exit.{numberOf}
 use Rattle.answers.specs.Answers.{answer}
 use Rattle.answers.proofs.Kept.{answer-keeps}
 use Rattle.keeps.specs.Pools as pools
+use Rattle.keeps.specs.Rosters.{below-top}
 use Rattle.keeps.specs.Tried.{tried-keeps}
 use Rattle.world.specs.Station.{Station}
 use Rattle.node.specs.Cuts.{Cuts}
@@ -34,7 +37,7 @@ use Rattle.honest.proofs.Began.{begun-plain}
 use Rattle.honest.proofs.Bytes.{kept-in, kept-out}
 use Rattle.honest.proofs.Course.{Cutting, Course, course, steps}
 use Rattle.honest.proofs.Spread.{Served, Spreads}
-use Rattle.honest.proofs.Sim.{jobOf, poolOf, Whole, run-numbered, Sim, Keeps, sim-steps}
+use Rattle.honest.proofs.Sim.{jobOf, versionAt, rosterOf, poolOf, Whole, run-numbered, Sim, Keeps, sim-steps}
 use Rattle.honest.proofs.Exact.{Tied, not-before}
 
 -- every answer keeps the state rules
@@ -113,7 +116,7 @@ module _ (cut : Cutting) (p : Pool) (w : World) (c₀ : Course) (s : Sim cut (p 
   end : ℕ → Course
   end i = steps cut (p .roster .members) (p .roster .version) i c₀
 
-  pub roster-is : (i : ℕ) → exchanges i w .pool .roster ≡ steps cut (p .roster .members) (p .roster .version) i c₀ .roster
+  pub roster-is : (i : ℕ) → exchanges i w .pool .roster ≡ rosterOf (steps cut (p .roster .members) (p .roster .version) i c₀ .roster) (steps cut (p .roster .members) (p .roster .version) i c₀ .next)
   roster-is i = ap (λ (w : World). w .pool .roster) (after i .is)
 
   pub nodes-is : (i : ℕ) → exchanges i w .nodes ≡ steps cut (p .roster .members) (p .roster .version) i c₀ .nodes
@@ -133,14 +136,16 @@ module _ (cut : Cutting) (p : Pool) (w : World) (c₀ : Course) (s : Sim cut (p 
   }
 
   -- an enabling spread at the end of the run, its source's map sound
-  pub recovered : (src l t n : ℕ) (ro : Roster) (f : ℕ → Station) → Tied c₀ → c₀ .taken ≡ 0 → 0 < n → t + 3 * size l ≡ n → has l src ≡ false → Sound (p .chunks) (f src .map)
+  pub recovered : (src l t n : ℕ) (ro : Roster) (f : ℕ → Station) → p .roster .version ≤ versionLimit → Tied c₀ → c₀ .taken ≡ 0 → 0 < n → t + 3 * size l ≡ n → has l src ≡ false → Sound (p .chunks) (f src .map)
       → Spreads (p .roster .members) (p .roster .version) (p .chunks) src l t ro f (steps cut (p .roster .members) (p .roster .version) n c₀)
       → Recovered p src l n w
-  recovered src l t n ro f tied none some all out snd e =
+  recovered src l t n ro f low tied none some all out snd e =
       record {
         before = λ i h. ap isRunning (job-is i) ∙ running-on _ (not-before cut (p .roster .members) (p .roster .version) i n c₀ tied none taken-n h);
         over = job-is n ∙ ap jobOf (e .over);
         count = ap (λ (w : World). w .sent .outcome) (after n .is) ∙ (after n .outcome (let z : 0 < steps cut (p .roster .members) (p .roster .version) n c₀ .taken = rw taken-n some in z) ∙ ap Outcome.Taken taken-n);
+        raised = ap (λ (ro : Roster). ro .version) (roster-is n)
+            ∙ (ap (λ (q : Next). versionAt q (steps cut (p .roster .members) (p .roster .version) n c₀ .roster .version)) (e .over) ∙ (ap more (after n .version) ∙ below-top (p .roster .version) (omega (arith, low))));
         up = λ j h. up-of n j (f src .map) (e .entered j h) (e .served j h);
         map = λ j h. copied j (e .served j h);
       }

@@ -15,6 +15,7 @@ use Rattle.state.specs.declared.Message.{Message}
 use Rattle.state.specs.declared.Told.{Told}
 use Rattle.state.specs.declared.Outcome.{Outcome}
 use Rattle.state.specs.declared.Reply.{Reply}
+use Rattle.changes.specs.Changes.{more, numbered}
 use Rattle.run.specs.declared.Who.{Who}
 use Rattle.run.specs.declared.Next.{Next}
 use Rattle.run.specs.declared.Move.{Move}
@@ -40,8 +41,16 @@ abbrev pub awaitedOf : Roster → Next → Message
 awaitedOf ro Next.Over = Message.Nothing
 awaitedOf ro (Next.On r) = awaitedIn (ro .members) (ro .version) r
 
+-- the version of the pool: the run's, and one more once it is over
+abbrev pub versionAt : Next → ℕ → ℕ
+versionAt Next.Over v = more v
+versionAt (Next.On r) v = v
+
+abbrev pub rosterOf : Roster → Next → Roster
+rosterOf ro n = numbered ro (ro .count) (versionAt n (ro .version))
+
 abbrev pub poolOf : ℕ → ℕ → Roster → Next → Pool
-poolOf num chunks ro n = record { roster = ro; job = jobOf n; number = num; chunks = chunks }
+poolOf num chunks ro n = record { roster = rosterOf ro n; job = jobOf n; number = num; chunks = chunks }
 
 abbrev pub worldOf : (ℕ → List ℕ) → ℕ → ℕ → List ℕ → Outcome → Told → Roster → Next → (ℕ → Station) → World
 worldOf cuts num chunks map out told ro n f =

@@ -77,11 +77,13 @@ pub record Copied (p : Pool) (source j : ℕ) (w : World) : Type 0 where
   pub equal : (k : ℕ) → k < 8192 → has (p .roster .members) (k / 512) ≡ true → getD (w .nodes j .map) k 0 ≡ getD (w .nodes source .map) k 0
   pub zero : (k : ℕ) → k < 8192 → has (p .roster .members) (k / 512) ≡ false → getD (w .nodes j .map) k 0 ≡ 0
 
--- After n exchanges the run is over and has taken n answers; before that it was not over. Each receiver is NORMAL on both sides, with the source's map.
+-- After n exchanges the run is over and has taken n answers; before that it was not over. The pool then has one version more than the run began with. Each receiver is
+-- NORMAL on both sides, with the source's map.
 pub record Recovered (p : Pool) (source receivers n : ℕ) (w : World) : Type 0 where
   pub before : (i : ℕ) → i < n → isRunning (exchanges i w .pool .job) ≡ true
   pub over : exchanges n w .pool .job ≡ Job.Idle
   pub count : exchanges n w .sent .outcome ≡ Outcome.Taken n
+  pub raised : exchanges n w .pool .roster .version ≡ p .roster .version + 1
   pub up : (j : ℕ) → has receivers j ≡ true → Up p j (exchanges n w)
   pub map : (j : ℕ) → has receivers j ≡ true → Copied p source j (exchanges n w)
 

@@ -18,9 +18,9 @@ use Rattle.state.specs.Session.{isFree, isNormal, isFailed, isReconnecting, isR
 use Rattle.roster.specs.declared.Kind.{Kind}
 use Rattle.changes.specs.declared.Way.{Way}
 use Rattle.roster.specs.Roster.{sessionAt, stored, odd, idsOf}
-use Rattle.changes.specs.Changes.{numbered, left, went, owes, removing, freed, memberDropped}
+use Rattle.changes.specs.Changes.{more, numbered, left, went, owes, removing, freed, memberDropped}
 use Rattle.keeps.specs.Ids.{Long, stored-same, ids-has}
-use Rattle.keeps.specs.Rosters.{Ok, oddBy, plain-even, quiet-keeps, sync-keeps, leave-keeps, count-is, without-none}
+use Rattle.keeps.specs.Rosters.{Ok, oddBy, plain-even, quiet-keeps, sync-keeps, leave-keeps, count-is, without-none, more-le}
 
 and-none : (b : Bool) → (b && false) ≡ false
 and-none true = refl
@@ -56,16 +56,16 @@ left-keeps : (ro : Roster) (id : ℕ) (mode : Mode) (owed : Bool) → Ok ro → 
 unfolding left
 left-keeps ro id mode owed v h was true e =
     subst Ok
-    (sym (ap (λ (b : Bool). pick b (stored ro id (moved (sessionAt ro id) (State.Removing mode owed))) (numbered (stored ro id (moved (sessionAt ro id) (State.Removing mode owed))) (ro .count - 1) (ro .version))) e))
+    (sym (ap (λ (b : Bool). pick b (stored ro id (moved (sessionAt ro id) (State.Removing mode owed))) (numbered (stored ro id (moved (sessionAt ro id) (State.Removing mode owed))) (ro .count - 1) (more (ro .version)))) e))
     (sync-keeps ro id (moved (sessionAt ro id) (State.Removing mode owed)) v h e (removing-even true (ro .members) id (sessionAt ro id) mode owed))
 left-keeps ro id mode owed v h was false e =
     subst Ok
-    (sym (ap (λ (b : Bool). pick b (stored ro id (moved (sessionAt ro id) (State.Removing mode owed))) (numbered (stored ro id (moved (sessionAt ro id) (State.Removing mode owed))) (ro .count - 1) (ro .version))) e))
-    (leave-keeps ro id (moved (sessionAt ro id) (State.Removing mode owed)) (ro .count - 1) (ro .version) v h e was refl
+    (sym (ap (λ (b : Bool). pick b (stored ro id (moved (sessionAt ro id) (State.Removing mode owed))) (numbered (stored ro id (moved (sessionAt ro id) (State.Removing mode owed))) (ro .count - 1) (more (ro .version)))) e))
+    (leave-keeps ro id (moved (sessionAt ro id) (State.Removing mode owed)) (ro .count - 1) (more (ro .version)) v h e was refl
     (λ m. clash m (and-none (sessionAt ro id .mark)))
     (removing-even false (ro .members) id (sessionAt ro id) mode owed)
     (omega (arith, count-is ro v e, size-some (idsOf Kind.Normals ro) id (ids-has Kind.Normals ro (v .long) id h ∙ was)))
-    (omega arith) (omega arith))
+    (more-le (ro .version) .0) (more-le (ro .version) .1))
 
 pub removing-keeps : (ro : Roster) (id : ℕ) (mode : Mode) → Ok ro → id < 16 → Ok (removing ro id mode)
 unfolding removing

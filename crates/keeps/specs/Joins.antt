@@ -18,8 +18,8 @@ use Rattle.state.specs.Past.{pastTakenOver}
 use Rattle.state.specs.Session.{isFree, isNormal, isFailed, isReconnecting, isRemoving, newSession}
 use Rattle.roster.specs.declared.Kind.{Kind}
 use Rattle.roster.specs.Roster.{sessionAt, odd, idsOf}
-use Rattle.changes.specs.Changes.{numbered, enrolled, withMembers, withPast, memberEntered, takenOver}
-use Rattle.keeps.specs.Rosters.{Ok, oddBy, plain-even, quiet-keeps, sync-keeps, count-is}
+use Rattle.changes.specs.Changes.{more, numbered, raised, enrolled, withMembers, withPast, memberEntered, takenOver}
+use Rattle.keeps.specs.Rosters.{Ok, oddBy, plain-even, quiet-keeps, sync-keeps, count-is, below-top}
 
 -- ---- a membership that holds every member it held
 
@@ -90,6 +90,12 @@ version-keeps ro version v low high =
       none = v .none;
       even = v .even;
     }
+
+-- the version raised
+pub raised-keeps : (ro : Roster) → Ok ro → ro .version + ro .count < versionTop → Ok (raised ro)
+raised-keeps ro v room =
+    let r = below-top (ro .version) (omega (arith, room)) in
+    version-keeps ro (more (ro .version)) v (omega (arith, r)) (omega (arith, r, room))
 
 -- ---- the past, which no rule speaks of
 

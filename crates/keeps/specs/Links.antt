@@ -3,7 +3,7 @@ use mathlib.Core.Path.{_≡_, refl, sym, ap, _∙_, subst}
 use mathlib.Core.Bool.{Bool, true, false, not, _&&_, _||_}
 use Prim.Native.Nat.{ℕ, _+_, _-_, _≤_, _<_}
 use native.Mathlib.Omega.{arith}
-use lib.Dec.{eqb, ltb}
+use lib.Dec.{eqb}
 use borrow.Author.Tests.{eqb-true}
 use Rattle.laws.specs.Words.{pick}
 use Rattle.laws.specs.Tests.{by-cases, clash, and-left}
@@ -18,9 +18,9 @@ use Rattle.roster.specs.declared.Kind.{Kind}
 use Rattle.changes.specs.declared.Cause.{Cause}
 use Rattle.changes.specs.declared.Way.{Way}
 use Rattle.roster.specs.Roster.{sessionAt, stored, odd, idsOf}
-use Rattle.changes.specs.Changes.{more, numbered, entered, isFailing, arrived, left, failed, went, flaggedAt}
+use Rattle.changes.specs.Changes.{more, numbered, entered, arrived, left, failed, went, flaggedAt}
 use Rattle.keeps.specs.Ids.{ids-has}
-use Rattle.keeps.specs.Rosters.{Ok, oddBy, plain-even, quiet-keeps, sync-keeps, leave-keeps, count-is, enter-keeps}
+use Rattle.keeps.specs.Rosters.{Ok, oddBy, plain-even, quiet-keeps, sync-keeps, leave-keeps, count-is, enter-keeps, more-le}
 use Rattle.keeps.specs.Changes.{moved-plain}
 
 -- ---- what the rule about one record says in a state of a session that is neither none nor REMOVING
@@ -75,13 +75,6 @@ failed-even st false member maint mark mark′ l e z = failed-bears member (main
 
 -- ---- numbers
 
-pub more-le : (n : ℕ) → (n ≤ more n) × (more n ≤ n + 1)
-more-le n = at (ltb n versionTop)
-  where
-    at : (b : Bool) → (n ≤ pick b (n + 1) n) × (pick b (n + 1) n ≤ n + 1)
-    at true = (omega arith, omega arith)
-    at false = (omega arith, omega arith)
-
 -- one NORMAL session is counted
 pub counted : (ro : Roster) (id : ℕ) → Ok ro → id < 16 → ro .sync ≡ false → isNormal (sessionAt ro id .state) ≡ true → (ro .count - 1) + 1 ≡ ro .count
 counted ro id v h sync was = omega (arith, count-is ro v sync, size-some (idsOf Kind.Normals ro) id (ids-has Kind.Normals ro (v .long) id h ∙ was))
@@ -118,21 +111,17 @@ arrived-even Way.Maintenance members id s last e m = reconnecting-bears (has mem
 arrived-even (Way.Removing mode owed) members id s last e m = clash refl (sym e)
 
 pub away-is : (ro : Roster) (id : ℕ) (w : Way) → ro .sync ≡ false
-    → left ro id w ≡ numbered (stored ro id (arrived (sessionAt ro id) w (eqb (ro .count - 1) 0))) (ro .count - 1) (pick (isFailing w) (more (ro .version)) (ro .version))
+    → left ro id w ≡ numbered (stored ro id (arrived (sessionAt ro id) w (eqb (ro .count - 1) 0))) (ro .count - 1) (more (ro .version))
 unfolding left
 away-is ro id w e = rw e refl
-
-rise-le : (b : Bool) (n : ℕ) → (n ≤ pick b (more n) n) × (pick b (more n) n ≤ n + 1)
-rise-le true n = more-le n
-rise-le false n = (omega arith, omega arith)
 
 pub away-keeps : (ro : Roster) (id : ℕ) (w : Way) → Ok ro → id < 16 → ro .sync ≡ false → isNormal (sessionAt ro id .state) ≡ true → stays w ≡ true → Ok (left ro id w)
 away-keeps ro id w v h sync was st =
     let e : odd false (ro .members) id (sessionAt ro id) ≡ false = rw sync at (v .even id h) in
     let m = live-member (sessionAt ro id .state) (has (ro .members) id) (sessionAt ro id .maintenance) (sessionAt ro id .mark) (normal-live (sessionAt ro id .state) was) e in
-    let r = rise-le (isFailing w) (ro .version) in
+    let r = more-le (ro .version) in
     subst Ok (sym (away-is ro id w sync))
-    (leave-keeps ro id (arrived (sessionAt ro id) w (eqb (ro .count - 1) 0)) (ro .count - 1) (pick (isFailing w) (more (ro .version)) (ro .version)) v h sync was
+    (leave-keeps ro id (arrived (sessionAt ro id) w (eqb (ro .count - 1) 0)) (ro .count - 1) (more (ro .version)) v h sync was
     (arrived-not-normal w (sessionAt ro id) (eqb (ro .count - 1) 0))
     (λ k. eqb-true (ro .count - 1) 0 (sym (arrived-mark w (sessionAt ro id) (eqb (ro .count - 1) 0) st) ∙ k))
     (arrived-even w (ro .members) id (sessionAt ro id) (eqb (ro .count - 1) 0) st m)

@@ -5,19 +5,17 @@ use mathlib.Core.Logic.{_≢_}
 use Prim.Native.Nat.{ℕ, _+_, _-_, _≤_, _<_}
 use native.Mathlib.Omega.{arith}
 use lib.Dec.{eqb}
-use borrow.Author.Tests.{lt-ltb}
 use Rattle.laws.specs.Words.{pick}
 use Rattle.laws.specs.Tests.{by-cases, clash, and-false}
-use Rattle.refusals.specs.Limits.{versionTop}
 use Rattle.state.specs.declared.State.{State}
 use Rattle.state.specs.declared.Roster.{Roster}
 use Rattle.state.specs.Session.{isNormal, isFailed, isReconnecting, newSession, moved, marked}
 use Rattle.changes.specs.declared.Cause.{Cause}
 use Rattle.changes.specs.declared.Way.{Way}
 use Rattle.roster.specs.Roster.{sessionAt, outside, unsynced}
-use Rattle.changes.specs.Changes.{more, allUnmarked, entered, isFailing, arrived, left, failed}
+use Rattle.changes.specs.Changes.{more, numbered, allUnmarked, entered, arrived, left, failed}
 use Rattle.keeps.specs.Ids.{Long, stored-long, stored-same, stored-other, unmarked-long, below}
-use Rattle.keeps.specs.Rosters.{Ok}
+use Rattle.keeps.specs.Rosters.{Ok, below-top}
 
 and-true : (b : Bool) → (b && true) ≡ b
 and-true true = refl
@@ -95,7 +93,7 @@ left-other ro id w j p =
     (λ e. rw e (stored-other ro id (arrived (sessionAt ro id) w (eqb (ro .count - 1) 0)) j p))
 
 pub left-numbers : (ro : Roster) (id : ℕ) (w : Way) (b : Bool) → ro .sync ≡ b
-    → Numbers ro (left ro id w) (pick b (ro .count) (ro .count - 1)) (pick (not b && isFailing w) (more (ro .version)) (ro .version)) (ro .members)
+    → Numbers ro (left ro id w) (pick b (ro .count) (ro .count - 1)) (pick b (ro .version) (more (ro .version))) (ro .members)
 unfolding left
 left-numbers ro id w true e = record { kind = rw e refl; counted = rw e refl; versioned = rw e refl; held = rw e refl }
 left-numbers ro id w false e = record { kind = rw e refl; counted = rw e refl; versioned = rw e refl; held = rw e refl }
@@ -142,8 +140,12 @@ other-failed ro id cause e =
     at false q = clash refl q
 
 -- there is room for the version to rise while a session is NORMAL
-pub raised : (ro : Roster) → Ok ro → 1 ≤ ro .count → more (ro .version) ≡ ro .version + 1
-raised ro v h = rw (lt-ltb (ro .version) versionTop (omega (arith, v .high))) refl
+pub rises : (ro : Roster) → Ok ro → 1 ≤ ro .count → more (ro .version) ≡ ro .version + 1
+rises ro v h = below-top (ro .version) (omega (arith, v .high))
+
+-- the same sessions, with the version raised if a run ended
+abbrev pub raisedIf : Bool → Roster → Roster
+raisedIf b ro = numbered ro (ro .count) (pick b (more (ro .version)) (ro .version))
 
 -- past the end there is no session
 pub normal-below : (ro : Roster) (j : ℕ) → Long ro → isNormal (sessionAt ro j .state) ≡ true → j < 16

@@ -5,7 +5,7 @@ use mathlib.Core.Logic.{_≢_}
 use Prim.Native.Nat.{ℕ, _+_, _-_, _≤_, _<_}
 use native.Mathlib.Decide.{ℕ-discrete}
 use native.Mathlib.Omega.{arith}
-use lib.Dec.{eqb}
+use lib.Dec.{eqb, ltb}
 use borrow.Author.Tests.{eqb-true, eq-eqb, lt-ltb, le-leb, leb-true, ltb-true}
 use Rattle.laws.specs.Words.{pick}
 use Rattle.laws.specs.Tests.{by-cases, clash, all-at}
@@ -56,6 +56,17 @@ ok-of ro v =
     simp (eq-eqb _ _ (v .count), le-leb _ _ (v .one-mark), v .no-mark, le-leb _ _ (v .low), le-leb _ _ (v .high), lt-ltb _ _ (v .small), v .none, eq-eqb _ _ q)
 
 -- ---- small laws
+
+pub more-le : (n : ℕ) → (n ≤ more n) × (more n ≤ n + 1)
+more-le n = at (ltb n versionTop)
+  where
+    at : (b : Bool) → (n ≤ pick b (n + 1) n) × (pick b (n + 1) n ≤ n + 1)
+    at true = (omega arith, omega arith)
+    at false = (omega arith, omega arith)
+
+-- a number below the top of the state rules has room to rise
+pub below-top : (n : ℕ) → n < versionTop → more n ≡ n + 1
+below-top n h = rw (lt-ltb n versionTop h) refl
 
 -- taking an id out makes no set larger
 pub size-less : (s id : ℕ) → s < 65536 → size (without s id) ≤ size s
@@ -295,7 +306,7 @@ plain-keeps ro id v h sync was member room =
     new = numbered (stored (allUnmarked ro) id (moved (sessionAt ro id) State.Normal)) (more (ro .count)) (ro .version)
 
     raised : more (ro .count) ≡ ro .count + 1
-    raised = rw (lt-ltb (ro .count) versionTop (omega (arith, room, v .low))) refl
+    raised = below-top (ro .count) (omega (arith, room, v .low))
 
     l₁ : Long (allUnmarked ro)
     l₁ = unmarked-long ro (v .long)

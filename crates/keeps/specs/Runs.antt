@@ -8,7 +8,7 @@ use lib.Dec.{eqb}
 use borrow.Author.Tests.{eqb-true, eq-eqb, lt-ltb, le-leb, leb-true, ltb-true}
 use Rattle.laws.specs.Words.{pick}
 use Rattle.laws.specs.Tests.{clash, all-at, and-left, and-right, and-both, either}
-use Rattle.refusals.specs.Limits.{answerLimit, versionLimit}
+use Rattle.refusals.specs.Limits.{answerLimit, versionLimit, versionTop}
 use Rattle.sets.specs.Sets.{has, with, without}
 use Rattle.sets.proofs.Laws.{has-below, has-without-same, still, size-le, size-with}
 use Rattle.state.specs.declared.State.{State}
@@ -81,6 +81,10 @@ unfolding runOk
 run-of ro r l v =
     let q = none-stray ro (r .left) l (v .able) in
     simp (v .plain, le-leb _ _ (v .limit), lt-ltb _ _ (v .small), v .some, eq-eqb _ _ q, v .source, le-leb _ _ (v .most))
+
+-- a version that a run began with has room for its end and for each session
+pub run-room : (ro : Roster) → Ok ro → ro .sync ≡ false → ro .version ≤ versionLimit → ro .version + ro .count < versionTop
+run-room ro v sync low = omega (arith, low, count-is ro v sync, size-le (idsOf Kind.Normals ro))
 
 -- ---- who is a candidate
 

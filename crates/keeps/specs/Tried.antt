@@ -8,7 +8,7 @@ use lib.Dec.{eqb, ltb}
 use borrow.Author.Tests.{eqb-true, eqb-false, eq-eqb, le-leb, lt-ltb, ltb-false}
 use Rattle.laws.specs.Words.{pick}
 use Rattle.laws.specs.Tests.{clash}
-use Rattle.refusals.specs.Limits.{answerLimit, versionLimit}
+use Rattle.refusals.specs.Limits.{chunkLimit, answerLimit, versionLimit, versionTop}
 use Rattle.sets.specs.Sets.{has, without, lowest}
 use Rattle.sets.proofs.Laws.{has-below, has-without-same, still, without-lt, size-le, lowest-le, lowest-in, empty-set}
 use Rattle.state.specs.declared.Step.{Step}
@@ -23,12 +23,13 @@ use Rattle.roster.specs.Roster.{sessionAt, idsOf}
 use Rattle.run.specs.declared.Next.{Next}
 use Rattle.run.specs.Still.{possible}
 use Rattle.recovery.specs.Cases.{start, case1, case2, case3, caseOf, begun}
-use Rattle.recovery.specs.Recovery.{withRoster, beginning, posted, tried}
+use Rattle.recovery.specs.Recovery.{withRoster, runEnded, beginning, posted, tried}
 use Rattle.rules.specs.Rules.{allAsked, oneAsked, sourceOk, handOk, runOk, jobOk}
 use Rattle.rules.specs.Jobs.{isIdle}
 use Rattle.keeps.specs.Ids.{Long, ids-has, ids-lt, none-ids}
 use Rattle.keeps.specs.Rosters.{Ok}
 use Rattle.keeps.specs.Pools.{Valid}
+use Rattle.keeps.specs.Joins.{raised-keeps}
 
 -- ---- a pool with other sessions and no job in hand
 
@@ -39,6 +40,10 @@ idle-job (Job.Removing m) ro e = clash refl (sym e)
 
 pub idle-valid : (p : Pool) (ro : Roster) → Valid p → isIdle (p .job) ≡ true → Ok ro → Valid (withRoster p ro)
 idle-valid p ro v idle ok = record { some = v .some; most = v .most; ok = ok; job = idle-job (p .job) ro idle }
+
+-- a run that ends, where the version has room to rise
+pub ended-keeps : (p : Pool) → 1 ≤ p .chunks → p .chunks ≤ chunkLimit → Ok (p .roster) → p .roster .version + p .roster .count < versionTop → Valid (runEnded p)
+ended-keeps p some most ok room = record { some = some; most = most; ok = raised-keeps (p .roster) ok room; job = refl }
 
 -- ---- recovery tried
 

@@ -2,16 +2,16 @@
 use mathlib.Core.Path.{_≡_, refl, sym, ap, _∙_}
 use mathlib.Core.Bool.{Bool, true, false, not, _&&_, _||_}
 use mathlib.Core.Logic.{_≢_}
-use Prim.Native.Nat.{ℕ, _-_, _<_}
+use Prim.Native.Nat.{ℕ, _+_, _-_, _<_}
 use native.Mathlib.Decide.{ℕ-discrete}
 use native.Mathlib.Omega.{arith}
 use lib.Dec.{eqb, ltb}
 use borrow.Author.Tests.{eqb-true, ltb-false, not-false}
 use Rattle.laws.specs.Words.{pick}
-use Rattle.laws.specs.Tests.{by-cases, clash, passed, and-left, and-right, all-at}
+use Rattle.laws.specs.Tests.{by-cases, clash, passed, and-left, and-right}
+use Rattle.refusals.specs.Limits.{versionTop}
 use Rattle.state.specs.declared.State.{State}
 use Rattle.state.specs.declared.Roster.{Roster}
-use Rattle.state.specs.declared.Run.{Run}
 use Rattle.state.specs.declared.Job.{Job}
 use Rattle.state.specs.declared.Pool.{Pool}
 use Rattle.state.specs.Session.{isFree, isCreated, isNormal, isFailed, isReconnecting, isRemoving, moved, marked}
@@ -21,14 +21,15 @@ use Rattle.changes.specs.Changes.{more, entered, went}
 use Rattle.recovery.specs.Recovery.{withRoster, runEnded}
 use Rattle.exits.specs.Exit.{haltedIf}
 use Rattle.exits.proofs.Laws.{pools, turned, halts}
-use Rattle.rules.specs.Rules.{validPool, runRules, runOk}
-use Rattle.rules.specs.Jobs.{isIdle, isPeer}
+use Rattle.rules.specs.Rules.{validPool}
+use Rattle.rules.specs.Jobs.{isIdle, isRunning, isPeer}
 use Rattle.keeps.specs.Ids.{Long, stored-same, stored-other}
-use Rattle.keeps.specs.Rosters.{Ok}
+use Rattle.keeps.specs.Rosters.{Ok, more-le}
 use Rattle.keeps.specs.Pools.{Valid, removal-stays}
-use Rattle.keeps.specs.Links.{isLive, failed-keeps, reconnects-keeps, sync-enters}
-use Rattle.keeps.specs.Tried.{idle-valid, tried-keeps, tried-roster}
-use Rattle.keeps.specs.Records.{Numbers, isLast, entered-at, sync-entered-other, entered-numbers, failed-at, failed-other, normal-failed, other-failed}
+use Rattle.keeps.specs.Runs.{run-facts, run-room}
+use Rattle.keeps.specs.Links.{isLive, counted, failed-keeps, reconnects-keeps, sync-enters}
+use Rattle.keeps.specs.Tried.{idle-valid, ended-keeps, tried-keeps, tried-roster}
+use Rattle.keeps.specs.Records.{Numbers, isLast, entered-at, sync-entered-other, entered-numbers, failed-at, failed-other, normal-failed, other-failed, raisedIf}
 use Rattle.links.specs.Links.{drops, downRefusal, dropped, downAt, downDone, linkDown, checks, checkRefusal, checkDone, storeCheck, tryRefusal, tryRun}
 
 checks-are : (st : State) (sync : Bool) → (isFailed st || (isCreated st && not sync)) ≡ true → (isNormal st ≡ false) × (isLive st ≡ true)
@@ -128,12 +129,14 @@ removing-stays ro id j e = elim (ℕ-discrete j id) [
   | no p ↦ rw (dropped-other ro id j p) e
 ]
 
-run-plain : (ro : Roster) (r : Run) → runOk ro r ≡ true → ro .sync ≡ false
-unfolding runOk
-run-plain ro r e = not-true (ro .sync) (all-at (runRules ro r) 0 e)
-
-over-valid : (p : Pool) (ro : Roster) → Valid p → Ok ro → Valid (runEnded (withRoster p ro))
-over-valid p ro v ok = record { some = v .some; most = v .most; ok = ok; job = refl }
+-- the version rises by as much as the count falls, so there is as much room as before
+pub dropped-room : (ro : Roster) (id : ℕ) → Ok ro → ro .sync ≡ false → id < 16 → ro .version + ro .count < versionTop → dropped ro id .version + dropped ro id .count < versionTop
+dropped-room ro id v sync h room =
+    by-cases (isNormal (sessionAt ro id .state))
+    (λ e. let n = normal-dropped ro id sync e in
+    omega (arith, n .versioned, n .counted, more-le (ro .version) .1, counted ro id v h sync e, room))
+    (λ e. let n = other-dropped ro id (rw (sync, e) refl) in
+    omega (arith, n .versioned, n .counted, room))
 
 halted-valid : (b : Bool) (p : Pool) → Valid p → Valid (haltedIf b p)
 halted-valid b p v = halts Valid b p (record { some = v .some; most = v .most; ok = v .ok; job = refl }) v
@@ -141,8 +144,11 @@ halted-valid b p v = halts Valid b p (record { some = v .some; most = v .most; o
 down-does : (j : Job) (p : Pool) (id : ℕ) → p .job ≡ j → Valid p → Drops p id → Valid (downAt j p id .pool)
 down-does Job.Idle p id e v h = record { some = v .some; most = v .most; ok = dropped-keeps p id v h; job = rw e refl }
 down-does (Job.Running r) p id e v h =
-    let s = run-plain (p .roster) r (rw e at (v .job)) in
-    tried-keeps (runEnded (withRoster p (dropped (p .roster) id))) (over-valid p (dropped (p .roster) id) v (dropped-keeps p id v h)) (dropped-sync (p .roster) id ∙ s)
+    let q = run-facts (p .roster) r (v .ok .long) (rw e at (v .job)) in
+    tried-keeps (runEnded (withRoster p (dropped (p .roster) id)))
+    (ended-keeps (withRoster p (dropped (p .roster) id)) (v .some) (v .most) (dropped-keeps p id v h)
+    (dropped-room (p .roster) id (v .ok) (q .plain) (h .below) (run-room (p .roster) (v .ok) (q .plain) (q .limit))))
+    (dropped-sync (p .roster) id ∙ q .plain)
 down-does (Job.Removing m) p id e v h =
     halted-valid (isPeer (Job.Removing m) id) (withRoster p (dropped (p .roster) id))
     (record { some = v .some; most = v .most; ok = dropped-keeps p id v h; job = rw e (removal-stays (p .roster) (dropped (p .roster) id) m (v .ok .long) (removing-stays (p .roster) id (m .id)) (rw e at (v .job))) })
@@ -154,7 +160,8 @@ down-keeps p id v = turned Valid (downRefusal p id) (downDone p id) p v (λ e. d
 halted-roster : (b : Bool) (p : Pool) → haltedIf b p .roster ≡ p .roster
 halted-roster b p = halts (λ q. q .roster ≡ p .roster) b p refl refl
 
-pub down-roster : (j : Job) (p : Pool) (id : ℕ) → downAt j p id .pool .roster ≡ dropped (p .roster) id
+-- the version is raised once more if a run ended
+pub down-roster : (j : Job) (p : Pool) (id : ℕ) → downAt j p id .pool .roster ≡ raisedIf (isRunning j) (dropped (p .roster) id)
 down-roster Job.Idle p id = refl
 down-roster (Job.Running r) p id = tried-roster (runEnded (withRoster p (dropped (p .roster) id)))
 down-roster (Job.Removing m) p id = halted-roster (isPeer (Job.Removing m) id) (withRoster p (dropped (p .roster) id))

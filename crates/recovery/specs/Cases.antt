@@ -35,7 +35,7 @@ caseOf normals candidates marked strays members =
     (pick (not (eqb marked 0)) (case2 marked candidates)
     (case3 members strays))
 
--- A run begins exactly when the version is at most 2^63 - 33 and one case holds.
+-- A run begins exactly when the version is at most 2^63 - 34 and one case holds.
 unfoldable pub begun : Roster → Next
 begun ro =
     pick (ltb versionLimit (ro .version)) Next.Over

@@ -8,6 +8,7 @@ use Rattle.state.specs.declared.Job.{Job}
 use Rattle.state.specs.declared.Pool.{Pool}
 use Rattle.state.specs.declared.Message.{Message}
 use Rattle.state.specs.declared.Told.{Told}
+use Rattle.changes.specs.Changes.{raised}
 use Rattle.run.specs.declared.Who.{Who}
 use Rattle.run.specs.declared.Next.{Next}
 use Rattle.run.specs.Run.{awaitedIn}
@@ -38,9 +39,9 @@ quiet p = record { pool = p; awaited = Message.Nothing }
 abbrev pub jobless : Pool → Pool
 jobless p = record { roster = p .roster; job = Job.Idle; number = p .number; chunks = p .chunks }
 
--- The one end of every run: finished, failed or cut off.
+-- The one end of every run: finished, failed or cut off. The version rises, whatever came of it.
 abbrev pub runEnded : Pool → Pool
-runEnded p = jobless p
+runEnded p = jobless (withRoster p (raised (p .roster)))
 
 -- The one end of every removal: finished or halted.
 abbrev pub removalEnded : Pool → Pool

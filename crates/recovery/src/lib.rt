@@ -77,11 +77,13 @@ fn jobless(p: Pool) -> Pool
     }
 }
 
-// A run is over: finished, failed or cut off.
+// A run is over: finished, failed or cut off. The version is raised.
 pub fn end_run(p: Pool) -> Pool
     ensures { λ r. ⌜ r ≡ runEnded p ⌝ }
 {
-    jobless(p)
+    let ro = p.roster;
+    let after = with_roster(p, changes::raise(ro));
+    jobless(after)
 }
 
 // A removal is over: finished or halted.

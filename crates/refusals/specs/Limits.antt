@@ -21,7 +21,7 @@ answerLimit = 168
 
 -- the highest version that is taken over or that a run begins with
 abbrev pub versionLimit : ℕ
-versionLimit = 2 ^ 63 - 33
+versionLimit = 2 ^ 63 - 34
 
 -- the bound of the state rules, and of a node's write
 abbrev pub versionTop : ℕ
@@ -31,6 +31,6 @@ versionTop = 2 ^ 63 - 17
 abbrev pub numbers : Numbers
 numbers = record { members = members; chunks = chunkLimit; bytes = mapBytes; version = versionLimit }
 
--- a version that was taken over can be raised once for each session
-pub limits-tied : versionLimit + members ≤ versionTop
+-- a version that was taken over, or that a run began with, can be raised once for the end of that run and once for each session
+pub limits-tied : versionLimit + 1 + members ≤ versionTop
 limits-tied = omega arith

@@ -1,5 +1,5 @@
 -- What a removal leaves, step by step: of its own session, of the member, of the client map. The other sessions' records and the version stay.
-use mathlib.Core.Path.{_≡_, refl, ap, _∙_}
+use mathlib.Core.Path.{_≡_, refl, ap}
 use mathlib.Core.Bool.{Bool, true, false, not, _&&_}
 use mathlib.Core.Logic.{_≢_}
 use Prim.Native.Nat.{ℕ, _-_, _<_}
@@ -154,19 +154,14 @@ removing-other ro id j mode d =
     (λ e. rw e (left-other ro id (Way.Removing mode true) j d))
     (λ e. rw e (stored-other ro id (moved (sessionAt ro id) (State.Removing mode (owes (sessionAt ro id .state)))) j d))
 
--- removal raises no version
+-- leaving NORMAL raises the version, in a pool that counts
 pub removing-numbers : (ro : Roster) (id : ℕ) (mode : Mode) (b : Bool) → ro .sync ≡ b
-    → Numbers ro (removing ro id mode) (pick (isNormal (sessionAt ro id .state)) (pick b (ro .count) (ro .count - 1)) (ro .count)) (ro .version) (ro .members)
+    → Numbers ro (removing ro id mode) (pick (isNormal (sessionAt ro id .state)) (pick b (ro .count) (ro .count - 1)) (ro .count)) (pick (isNormal (sessionAt ro id .state)) (pick b (ro .version) (more (ro .version))) (ro .version)) (ro .members)
 unfolding removing went
 removing-numbers ro id mode b sync =
     by-cases (isNormal (sessionAt ro id .state))
-    (λ e. let n = left-numbers ro id (Way.Removing mode true) b sync in
-    rw e (record { kind = n .kind; counted = n .counted; versioned = n .versioned ∙ same b; held = n .held }))
+    (λ e. rw e (left-numbers ro id (Way.Removing mode true) b sync))
     (λ e. rw e (record { kind = refl; counted = refl; versioned = refl; held = refl }))
-  where
-    same : (b : Bool) → pick (not b && false) (more (ro .version)) (ro .version) ≡ ro .version
-    same true = refl
-    same false = refl
 
 pub removing-long : (ro : Roster) (id : ℕ) (mode : Mode) → Long ro → Long (removing ro id mode)
 unfolding removing went

@@ -74,6 +74,11 @@ abbrev pub reports : Outcome → List Reply → Client → Outcome
 reports o [] c = o
 reports o (a ∷ rs) c = reports (report (outOf (replying c a) c .answer)) rs (next (replying c a) c)
 
+-- the client after a run's replies
+abbrev pub replied : List Reply → Client → Client
+replied [] c = c
+replied (a ∷ rs) c = replied rs (next (replying c a) c)
+
 abbrev pub byteOf : Lent → ℕ → ℕ
 byteOf Lent.none k = 0
 byteOf (Lent.some xs) k = getD xs k 0
@@ -81,12 +86,13 @@ byteOf (Lent.some xs) k = getD xs k 0
 -- ---- rows
 
 -- answer: after a history, an event gets this answer. stands: after a history, this is seen. asks: after a history, an event and these replies make these messages
--- awaited, Nothing once the run is over, and this is the last report. byte: after a history, an event leaves this byte at this place of the lent map.
+-- awaited, Nothing once the run is over, and this is the last report. leaves: after them this is seen, and no job is in hand. byte: after a history, an event leaves this byte at this place of the lent map.
 pub data Row : Type 0 where
   answer : List Event → Event → Answer → Row
   stands : List Event → Seen → Row
   idle : List Event → Row
   asks : List Event → Event → List Reply → List Message → Outcome → Row
+  leaves : List Event → Event → List Reply → Seen → Row
   byte : List Event → Event → ℕ → ℕ → Row
 
 abbrev pub holds : Row → Type 0
@@ -94,6 +100,7 @@ holds (Row.answer h e a) = outOf e (from h) .answer ≡ a
 holds (Row.stands h s) = seen (from h) ≡ s
 holds (Row.idle h) = from h .pool .job ≡ Job.Idle
 holds (Row.asks h e rs ms o) = (awaited (outOf e (from h) .answer) ∷ messages rs (next e (from h)) ≡ ms) × (reports (report (outOf e (from h) .answer)) rs (next e (from h)) ≡ o)
+holds (Row.leaves h e rs s) = (seen (replied rs (next e (from h))) ≡ s) × (replied rs (next e (from h)) .pool .job ≡ Job.Idle)
 holds (Row.byte h e k b) = byteOf (mapLeft e (from h)) k ≡ b
 
 abbrev pub All : List Row → Type 0
@@ -161,6 +168,8 @@ rows =
     ∷ Row.asks oneChecked (Event.storeCheck 1) (wells 4 [])
     (Message.Enable 1 3 3 ∷ Message.Ready 0 false ∷ Message.Send 1 0 ∷ Message.Done 0 true 3 3 ∷ Message.Nothing ∷ [])
     (Outcome.Taken 4)
+    -- C-13: version 4 after its last answer
+    ∷ Row.leaves oneChecked (Event.storeCheck 1) (wells 4 []) (record { count = 2; version = 4; normal = 3; first = State.Normal; second = State.Normal; mark = 0 })
     -- both NORMAL, write reached {1}: 0 FAILED, list {0}
     ∷ Row.answer both (Event.write zeros 7 2) (sent (Outcome.Written true 1) (Told.Marks 2 7 1 2))
     ∷ Row.stands (written 2) (record { count = 1; version = 2; normal = 2; first = State.Failed; second = State.Normal; mark = 0 })
@@ -187,4 +196,30 @@ rows =
     ∷ Message.Nothing
     ∷ [])
     (Outcome.Taken 14)
+    -- C-13: version 4 after its last answer
+    ∷ Row.leaves (Event.joinAssemble 0 3 3 ∷ []) (Event.joinAssemble 1 3 3) (has 2 ∷ has 3 ∷ wells 12 []) (record { count = 2; version = 4; normal = 3; first = State.Normal; second = State.Normal; mark = 0 })
+    ∷ []
+
+-- ---- the customer's story
+
+-- both NORMAL, then 0 goes into maintenance
+abbrev pub oneMaintained : List Event
+oneMaintained = both ++ (Event.maintenance 0 ∷ [])
+
+-- C-13: "Two legs carried the same version, one had been in maintenance while the other took writes, and the tie went to the stale one." Now the one in maintenance keeps
+-- version 1, and the write brings version 2 to the other. When the client's state is lost and both are assembled, there is no tie: 1 is chosen, and its map is sent to 0.
+abbrev pub story : List Row
+story =
+    Row.stands oneMaintained (record { count = 1; version = 2; normal = 2; first = State.Reconnecting; second = State.Normal; mark = 0 })
+    ∷ Row.answer oneMaintained (Event.write zeros 7 2) (sent (Outcome.Written true 1) (Told.Marks 2 7 1 2))
+    ∷ Row.asks (Event.joinAssemble 0 3 1 ∷ []) (Event.joinAssemble 1 3 2) (has 1 ∷ has 2 ∷ wells 4 [])
+    (Message.GetVersion 0
+    ∷ Message.GetVersion 1
+    ∷ Message.Ready 0 false
+    ∷ Message.Send 1 0
+    ∷ Message.Done 0 false 2 3
+    ∷ Message.LastIo 0 1
+    ∷ Message.LastIo 1 1
+    ∷ [])
+    (Outcome.Taken 6)
     ∷ []

@@ -34,7 +34,7 @@ use Rattle.keeps.specs.Rosters.{Ok}
 use Rattle.keeps.specs.Pools.{Valid, removal-stays}
 use Rattle.keeps.specs.Links.{normal-live, counted, failed-keeps}
 use Rattle.keeps.specs.Joins.{past-keeps}
-use Rattle.keeps.specs.Records.{Numbers, isLast, failed-at, failed-other, normal-failed, raised}
+use Rattle.keeps.specs.Records.{Numbers, isLast, failed-at, failed-other, normal-failed, rises}
 use Rattle.writes.specs.Writes.{reachBars, writeRefusal, missStep, missed, loses, marks, writeDone, writeEnded, syncRefusal, syncDone, synced}
 
 and-true : (b : Bool) → (b && true) ≡ b
@@ -90,7 +90,7 @@ module _ (reached : ℕ) (ro : Roster) (i : ℕ) (q : Roster) (h : i < 16) (m : 
       record {
         ok = failed-keeps q i Cause.Write (m .ok) h (normal-live (sessionAt q i .state) was);
         plain = n .kind ∙ m .plain;
-        version = n .versioned ∙ (raised q (m .ok) some ∙ rw (m .version, miss) (omega arith));
+        version = n .versioned ∙ (rises q (m .ok) some ∙ rw (m .version, miss) (omega arith));
         members = n .held ∙ m .members;
         spares = λ j e. failed-other q i Cause.Write j (λ p. clash miss (rw p at e)) ∙ m .spares j e;
         ahead = λ j l. failed-other q i Cause.Write j (λ p. absurd (let z : ⊥ = omega arith in z)) ∙ m .ahead j (omega arith);

@@ -25,18 +25,12 @@ arrive-requires-2 c κs = search needs
 store-requires-2 : tie.Need-store-requires-2
 store-requires-2 c κs = search needs
 
-is-failing-requires : tie.Need-is-failing-requires
-is-failing-requires c κs = search needs
-
-more-requires : tie.Need-more-requires
-more-requires c κs = search needs
-
-choose-requires : tie.Need-choose-requires
-choose-requires c κs = search needs
+raise-requires : tie.Need-raise-requires
+raise-requires c κs = search needs
 
 returns-2 : tie.Need-returns-2
 unfolding left
-returns-2 c = simp (c .choose .ensures, c .before .more .ensures, c .before .before .is-failing .ensures, c .before .before .before .store2 .ensures, c .before .before .before .before .arrive2 .ensures, c .before .before .before .before .before .minus .ensures, c .before .before .before .before .before .before .if1 .left, c .before .before .before .before .before .before .before .session .ensures)
+returns-2 c = simp (c .raise .ensures, c .before .store2 .ensures, c .before .before .arrive2 .ensures, c .before .before .before .minus .ensures, c .before .before .before .before .if1 .left, c .before .before .before .before .before .session .ensures)
 
 pub leave-spec : {M : Type 1} → statement M
 leave-spec =
@@ -49,7 +43,5 @@ leave-spec =
     minus-requires
     arrive-requires-2
     store-requires-2
-    is-failing-requires
-    more-requires
-    choose-requires
+    raise-requires
     returns-2)
