@@ -15,7 +15,7 @@ PAGE = os.path.join(ROOT, "docs", "MATRIX.md")
 FIRST = "# The matrix: every state with every event.\n"  # where it begins in STDIN
 
 # The acted-on session is 1. Its state: the words, the lab's numbers (state, maintenance, mark, mode, owed), whether it is a member, and what the pool went through.
-NONE, CREATED, NORMAL, FAILED, RECONNECTING, REMOVING = range(6)
+NONE, CREATED, NORMAL, FAILED, RECONNECTING, REMOVING, FAILED_IO = range(7)
 WRITTEN, ASSEMBLED = "written", "assembled"
 SESSIONS = [
     ("none, no member", (NONE, 0, 0, 0, 0), False, ()),
@@ -24,7 +24,8 @@ SESSIONS = [
     ("CREATED, the pool written", (CREATED, 0, 0, 0, 0), True, (WRITTEN,)),
     ("CREATED, the pool assembled", (CREATED, 0, 0, 0, 0), True, (ASSEMBLED,)),
     ("NORMAL", (NORMAL, 0, 0, 0, 0), True, ()),
-    ("FAILED", (FAILED, 0, 0, 0, 0), True, ()),
+    ("FAILED, cause link", (FAILED, 0, 0, 0, 0), True, ()),
+    ("FAILED, cause IO", (FAILED_IO, 0, 0, 0, 0), True, ()),
     ("FAILED, the pool written and assembled", (FAILED, 0, 0, 0, 0), True, (WRITTEN, ASSEMBLED)),
     ("FAILED, marked", (FAILED, 0, 1, 0, 0), True, ()),
     ("RECONNECTING", (RECONNECTING, 0, 0, 0, 0), True, ()),
@@ -34,7 +35,7 @@ SESSIONS = [
     ("REMOVING (delete), LEAVE done", (REMOVING, 0, 0, 0, 0), False, ()),
     ("REMOVING (disassemble), LEAVE owed", (REMOVING, 0, 0, 1, 1), True, ()),
 ]
-SYNC_STATES = {NONE, CREATED, NORMAL, FAILED, REMOVING}
+SYNC_STATES = {NONE, CREATED, NORMAL, FAILED, FAILED_IO, REMOVING}
 
 # Who is beside it (session id: the lab's numbers), and the lines that bring the job into hand.
 BESIDE = [
@@ -64,6 +65,7 @@ def client_events(members, normals):
         ("maintenance", "maintenance 1"),
         ("link down", "link_down 1"),
         ("store check good", "store_check 1"),
+        ("rejoin good", "rejoin 1"),
         ("remove, delete", "remove 1 0"),
         ("remove, disassemble", "remove 1 1"),
         ("write, all reached", "write %d %d" % (CHUNK, normals)),
@@ -206,8 +208,8 @@ def history():
     return before() + FIRST + "\n".join(out) + "\n"
 
 
-def cell(line, past=""):
-    """An answer, short, with what the pool went through before its messages."""
+def cell(line, further=""):
+    """An answer, short, with the further fields before its messages."""
     if line.startswith("refused "):
         return line[8:]
     head, *messages = line.split(" | ")
@@ -225,16 +227,19 @@ def cell(line, past=""):
         for k in ("taken", "acked", "list"):
             if k in fields:
                 words.append("%s=%s" % (k, fields[k]))
-    return " ".join(words) + past + "".join("; " + m for m in messages)
+    return " ".join(words) + further + "".join("; " + m for m in messages)
 
 
-def past_of(answer, look, lines):
-    """What the pool went through, after the event; nothing for a refusal, which leaves it as it was set up."""
-    past = [w for w in (WRITTEN, ASSEMBLED) if "%s=1" % w in look.split()]
+def fields_of(answer, look, lines):
+    """The further fields of the pool after the event, those that are not 0; none for a refusal, which leaves them as they were set up."""
+    fields = dict(w.split("=") for w in look.split()[1:])
     if not answer.startswith("refused "):
-        return "".join(" " + w for w in past)
-    if past != [w for w in (WRITTEN, ASSEMBLED) if "poke %s 1" % w in lines]:
-        sys.exit("matrix: a refusal changed what the pool went through")
+        return "".join(" " + (k if k in (WRITTEN, ASSEMBLED) else "%s=%s" % (k, v)) for k, v in fields.items() if v != "0")
+    was = {w: int("poke %s 1" % w in lines) for w in (WRITTEN, ASSEMBLED)}
+    for word, state in (("link", FAILED), ("io", FAILED_IO)):
+        was[word] = sum(1 << i for i in range(16) if any(line.startswith("poke session %d %d " % (i, state)) for line in lines))
+    if fields != {w: str(v) for w, v in was.items()}:
+        sys.exit("matrix: a refusal changed a field of the pool")
     return ""
 
 
@@ -294,7 +299,7 @@ def page():
         at += len(lines)
         looked = answers[at + 1 : at + 1 + len(looks)]
         if table[0] == "client":
-            cells = [cell(answers[at], past_of(answers[at], looked[0], lines))]
+            cells = [cell(answers[at], fields_of(answers[at], looked[0], lines))]
         else:
             cells = [cell(answers[at])] + left_of(answers[at], looked)
         tables.setdefault(table, {}).setdefault(words, []).append([name] + cells)
@@ -307,8 +312,8 @@ def page():
         "Made by `scripts/matrix.py` from what the program `lab` answers to the last history of `crates/lab/stdin`, which the gate runs; the gate also compares this page with it.",
         "",
         "A number alone is the refusal. Else the answer: for the client the session letters (session 0 first; the acted-on session is 1), `v` the pool version,",
-        "`n` the NORMAL count, the sets that are not empty, the job, what the answer counts, `written` and `assembled` where they stand, and after each `;` a message;",
-        "for the node its state and fields.",
+        "`n` the NORMAL count, the sets that are not empty, the job, what the answer counts, `written` and `assembled` where they stand, the sessions that are FAILED with cause",
+        "`link` and with cause `io`, and after each `;` a message; for the node its state and fields.",
         "The numbers and words are those of the lab (docs/HISTORIES.md).",
         "",
         "For the node (1, with the members 0, 1 and 2) also what became of its map and its staging. Looked at are row 0 (a member, the chosen of LAST_IO_TO_MAP), 1 (its own),",

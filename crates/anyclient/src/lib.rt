@@ -18,6 +18,7 @@ pub fn call(c: Client, e: Event, own: &mut [u8], other: &[u8]) -> Out
         Event::Maintenance(id) => c.maintenance(id),
         Event::LinkDown(id) => c.link_down(id),
         Event::StoreCheck(id) => c.store_check(id),
+        Event::Rejoin(id) => c.rejoin(id),
         Event::Try => c.try_run(),
         Event::Remove(id, mode) => c.remove(own, id, mode),
         Event::Write(chunk, reached) => c.write(own, chunk, reached),

@@ -252,6 +252,7 @@ accepted-course es rec (Event.joinAssemble id set version) c r h z = barred-out 
 accepted-course es rec (Event.enable id) c r h z = barred-out c r (h .job) (Event.enable id) refl refl z
 accepted-course es rec (Event.maintenance id) c r h z = barred-out c r (h .job) (Event.maintenance id) refl refl z
 accepted-course es rec (Event.storeCheck id) c r h z = barred-out c r (h .job) (Event.storeCheck id) refl refl z
+accepted-course es rec (Event.rejoin id) c r h z = barred-out c r (h .job) (Event.rejoin id) refl refl z
 accepted-course es rec Event.tryRun c r h z = barred-out c r (h .job) Event.tryRun refl refl z
 accepted-course es rec (Event.remove xs id mode) c r h z = barred-out c r (h .job) (Event.remove xs id mode) refl refl z
 accepted-course es rec (Event.write xs chunk reached) c r h z = barred-out c r (h .job) (Event.write xs chunk reached) refl refl z

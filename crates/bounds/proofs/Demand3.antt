@@ -55,6 +55,7 @@ no-answer c (Event.enable id) r b = refl
 no-answer c (Event.maintenance id) r b = refl
 no-answer c (Event.linkDown id) r b = refl
 no-answer c (Event.storeCheck id) r b = refl
+no-answer c (Event.rejoin id) r b = refl
 no-answer c Event.tryRun r b = refl
 no-answer c (Event.remove xs id mode) r b = refl
 no-answer c (Event.write xs chunk reached) r b = refl

@@ -129,6 +129,7 @@ accepted-keeps (Event.enable id) c r h z = other-keeps (Event.enable id) c r h r
 accepted-keeps (Event.maintenance id) c r h z = other-keeps (Event.maintenance id) c r h refl refl z
 accepted-keeps (Event.linkDown id) c r h z = cut-keeps id c r h z
 accepted-keeps (Event.storeCheck id) c r h z = other-keeps (Event.storeCheck id) c r h refl refl z
+accepted-keeps (Event.rejoin id) c r h z = other-keeps (Event.rejoin id) c r h refl refl z
 accepted-keeps Event.tryRun c r h z = other-keeps Event.tryRun c r h refl refl z
 accepted-keeps (Event.remove xs id mode) c r h z = other-keeps (Event.remove xs id mode) c r h refl refl z
 accepted-keeps (Event.write xs chunk reached) c r h z = other-keeps (Event.write xs chunk reached) c r h refl refl z

@@ -6,6 +6,7 @@ use lib.Dec.{eqb, ltb}
 use Rattle.laws.specs.Words.{pick}
 use Rattle.refusals.specs.Limits.{versionTop}
 use Rattle.sets.specs.Sets.{with, without}
+use Rattle.state.specs.declared.Cause.{Cause}
 use Rattle.state.specs.declared.Mode.{Mode}
 use Rattle.state.specs.declared.State.{State}
 use Rattle.state.specs.declared.Session.{Session}
@@ -13,7 +14,6 @@ use Rattle.state.specs.declared.Past.{Past}
 use Rattle.state.specs.declared.Roster.{Roster}
 use Rattle.state.specs.Past.{pastKept, pastTakenOver, pastWritten}
 use Rattle.state.specs.Session.{isNormal, free, newSession, moved, flagged, marked}
-use Rattle.changes.specs.declared.Cause.{Cause}
 use Rattle.changes.specs.declared.Way.{Way}
 use Rattle.roster.specs.Roster.{sessionAt, stored}
 
@@ -67,7 +67,7 @@ entered ro id =
 
 -- The record after leaving NORMAL: `last` says that nobody else is NORMAL. Removal marks nobody.
 abbrev pub arrived : Session → Way → Bool → Session
-arrived s (Way.Failed cause) last = marked (moved s State.Failed) last
+arrived s (Way.Failed cause) last = marked (moved s (State.Failed cause)) last
 arrived s Way.Maintenance last = marked (flagged (moved s State.Reconnecting) true) last
 arrived s (Way.Removing mode owed) last = moved s (State.Removing mode owed)
 
@@ -79,12 +79,12 @@ left ro id w =
     (stored ro id (arrived (sessionAt ro id) w false))
     (raised (numbered (stored ro id (arrived (sessionAt ro id) w (eqb (ro .count - 1) 0))) (ro .count - 1) (ro .version)))
 
--- A session enters FAILED, told by what. Nothing keeps the cause yet: it waits for a rule that does.
+-- a session enters FAILED, with its cause
 unfoldable pub failed : Roster → ℕ → Cause → Roster
 failed ro id cause =
     pick (isNormal (sessionAt ro id .state))
     (left ro id (Way.Failed cause))
-    (stored ro id (moved (sessionAt ro id) State.Failed))
+    (stored ro id (moved (sessionAt ro id) (State.Failed cause)))
 
 -- a session that is not NORMAL goes to a state in which no number or mark is settled
 unfoldable pub went : Roster → ℕ → State → Roster
@@ -95,7 +95,7 @@ abbrev pub owes : State → Bool
 owes State.Free = true
 owes State.Created = true
 owes State.Normal = true
-owes State.Failed = false
+owes (State.Failed cause) = false
 owes State.Reconnecting = true
 owes (State.Removing m owed) = owed
 

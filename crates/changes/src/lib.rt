@@ -3,16 +3,11 @@ ghost use mathlib.Core.Path.{_≡_};
 ghost use mathlib.Core.List.{map};
 ghost use Prim.Native.Nat.{max};
 ghost use Rattle.changes.specs.Changes.{more, unmarked, allUnmarked, raised, entered, arrived, left, failed, went, owes, removing, enrolled, freed, flaggedAt, memberEntered, memberDropped, takenOver, written};
+use state::Cause;
 use state::Mode;
 use state::Roster;
 use state::Session;
 use state::State;
-
-// What made a session FAILED. Nothing keeps it yet.
-pub enum Cause {
-    Link,
-    Write,
-}
 
 // The ways out of NORMAL.
 pub enum Way {
@@ -76,7 +71,7 @@ fn arrive(s: Session, w: Way, last: bool) -> Session
     ensures { λ r. ⌜ r ≡ arrived s w last ⌝ }
 {
     match w {
-        Way::Failed(cause) => s.moved(State::Failed).marked(last),
+        Way::Failed(cause) => s.moved(State::Failed(cause)).marked(last),
         Way::Maintenance => s.moved(State::Reconnecting).flagged(true).marked(last),
         Way::Removing(mode, owed) => s.moved(State::Removing(mode, owed)),
     }
@@ -107,7 +102,7 @@ pub fn fail(ro: Roster, id: u64, cause: Cause) -> Roster
     if state::is_normal(st) {
         return leave(ro, id, Way::Failed(cause));
     }
-    let there = s.moved(State::Failed);
+    let there = s.moved(State::Failed(cause));
     roster::store(ro, id, there)
 }
 
@@ -127,7 +122,7 @@ fn is_owing(s: State) -> bool
         State::Free => true,
         State::Created => true,
         State::Normal => true,
-        State::Failed => false,
+        State::Failed(cause) => false,
         State::Reconnecting => true,
         State::Removing(m, owed) => owed,
     }

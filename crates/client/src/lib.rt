@@ -4,7 +4,7 @@ ghost use mathlib.Core.Path.{_≡_};
 ghost use Rattle.refusals.specs.Limits.{numbers};
 ghost use Rattle.joins.specs.Joins.{joinCreate, joinAssemble};
 ghost use Rattle.enables.specs.Enables.{enable, maintenance};
-ghost use Rattle.links.specs.Links.{linkDown, storeCheck, tryRun};
+ghost use Rattle.links.specs.Links.{linkDown, storeCheck, rejoin, tryRun};
 ghost use Rattle.client.specs.Client.{fresh, handed, carried, removeTurn, writeTurn, answerTurn, cleanTo, syncedTurn};
 use refusals::Numbers;
 use state::Answer;
@@ -127,6 +127,13 @@ impl Client {
     {
         let p = self.pool;
         hand(links::store_check(p, id))
+    }
+
+    pub fn rejoin(self, id: u64) -> Out
+        ensures { λ r. ⌜ r ≡ handed (rejoin (self .pool) id) ⌝ }
+    {
+        let p = self.pool;
+        hand(links::rejoin(p, id))
     }
 
     // Recovery is tried, on request.

@@ -108,7 +108,7 @@ created-lives : (st : State) → isCreated st ≡ true → isFree st ≡ false
 created-lives State.Free e = clash refl (sym e)
 created-lives State.Created e = refl
 created-lives State.Normal e = refl
-created-lives State.Failed e = refl
+created-lives (State.Failed cause) e = refl
 created-lives State.Reconnecting e = refl
 created-lives (State.Removing m owed) e = refl
 

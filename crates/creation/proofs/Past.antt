@@ -12,6 +12,7 @@ use Rattle.sets.specs.Sets.{has, without}
 use Rattle.state.specs.declared.Mode.{Mode}
 use Rattle.state.specs.declared.State.{State}
 use Rattle.state.specs.declared.Session.{Session}
+use Rattle.state.specs.declared.Cause.{Cause}
 use Rattle.state.specs.declared.Past.{Past}
 use Rattle.state.specs.declared.Roster.{Roster}
 use Rattle.state.specs.declared.Stage.{Stage}
@@ -27,7 +28,6 @@ use Rattle.state.specs.Past.{pastWritten, pastTakenOver, pastKept}
 use Rattle.state.specs.Session.{isNormal, isCreated, isRemoving, isOwed, isDelete, isDeleting}
 use Rattle.roster.specs.Roster.{sessionAt}
 use Rattle.changes.specs.declared.Way.{Way}
-use Rattle.changes.specs.declared.Cause.{Cause}
 use Rattle.changes.specs.Changes.{entered, left, failed, went, owes, removing, written, memberDropped, flaggedAt}
 use Rattle.run.specs.declared.Who.{Who}
 use Rattle.run.specs.declared.Next.{Next}
@@ -43,7 +43,7 @@ use Rattle.keeps.specs.Changes.{removing-at}
 use Rattle.keeps.specs.Tried.{tried-roster}
 use Rattle.joins.specs.Joins.{createRefusal, created, createDone, joinCreate, assembleRefusal, assembled, assembleDone, joinAssemble}
 use Rattle.enables.specs.Enables.{enableRefusal, enableDone, enable, maintenanceRefusal, maintenanceDone, maintenance}
-use Rattle.links.specs.Links.{downRefusal, dropped, downAt, downDone, linkDown, checkRefusal, checkDone, storeCheck, tryRefusal, tryRun}
+use Rattle.links.specs.Links.{downRefusal, dropped, downAt, downDone, linkDown, checkRefusal, checkDone, storeCheck, rejoinRefusal, rejoin, tryRefusal, tryRun}
 use Rattle.removal.proofs.Steps.{isOut, paid-at, paid-numbers, remove-passed, removing-numbers}
 use Rattle.removal.specs.declared.Gone.{Gone}
 use Rattle.removal.specs.Removal.{modeOf, due, freedFrom, onward, departed, started, paid, wellAnswered}
@@ -106,7 +106,7 @@ unfolding missStep
 missed-past reached zero k ro = refl
 missed-past reached (suc n) k ro =
     missed-past reached n (suc k) (missStep reached k ro)
-    ∙ either (λ (q : Roster). q .past ≡ ro .past) (isNormal (sessionAt ro k .state) && not (has reached k)) _ _ (failed-past ro k Cause.Write) refl
+    ∙ either (λ (q : Roster). q .past ≡ ro .past) (isNormal (sessionAt ro k .state) && not (has reached k)) _ _ (failed-past ro k Cause.Io) refl
 
 -- ---- the past along a removal
 
@@ -161,6 +161,11 @@ down-calm Job.Idle c id = (refl, dropped-past (c .pool .roster) id)
 down-calm (Job.Running r) c id = (refl, tried-calm c (runEnded (withRoster (c .pool) (dropped (c .pool .roster) id))) (dropped-past (c .pool .roster) id))
 down-calm (Job.Removing m) c id =
     (refl, halts (λ (q : Pool). q .roster .past ≡ pastOf c) (isPeer (Job.Removing m) id) (withRoster (c .pool) (dropped (c .pool .roster) id)) (dropped-past (c .pool .roster) id) (dropped-past (c .pool .roster) id))
+
+check-calm : (c : Client) (id : ℕ) → Calm c (checkDone (c .pool) id)
+unfolding checkDone went
+check-calm c id =
+    either (Calm c) (isSync c) _ _ (refl, entered-past (c .pool .roster) id) (refl, tried-calm c (withRoster (c .pool) (went (c .pool .roster) id State.Reconnecting)) refl)
 
 run-calm : (n : Next) (w : Who) (p : Pool) → goneOn n (withRoster p (enteredBy w (p .roster))) .pool .roster .past ≡ p .roster .past
 unfolding posted
@@ -321,7 +326,7 @@ answer-law xs number a c v =
 -- ---- every event
 
 pub law : (e : Event) (c : Client) → Valid (c .pool) → Law e c
-unfolding joinCreate createDone created enable enableDone maintenance maintenanceDone linkDown downDone storeCheck checkDone tryRun synced syncDone syncedTurn went
+unfolding joinCreate createDone created enable enableDone maintenance maintenanceDone linkDown downDone storeCheck checkDone rejoin tryRun synced syncDone syncedTurn went
 law (Event.joinCreate id) c v =
     calm (Event.joinCreate id) c
     (turn-of (Calm c) (createRefusal (c .pool) id) (createDone (c .pool) id) (c .pool) (refl, refl) (λ e. (refl, either (λ (ro : Roster). ro .past ≡ pastOf c) (isSync c) _ _ refl refl)))
@@ -339,10 +344,9 @@ law (Event.maintenance id) c v =
 law (Event.linkDown id) c v =
     calm (Event.linkDown id) c (turn-of (Calm c) (downRefusal (c .pool) id) (downDone (c .pool) id) (c .pool) (refl, refl) (λ e. down-calm (jobOf c) c id)) refl refl
 law (Event.storeCheck id) c v =
-    calm (Event.storeCheck id) c
-    (turn-of (Calm c) (checkRefusal (c .pool) id) (checkDone (c .pool) id) (c .pool) (refl, refl)
-    (λ e. either (Calm c) (isSync c) _ _ (refl, entered-past (c .pool .roster) id) (refl, tried-calm c (withRoster (c .pool) (went (c .pool .roster) id State.Reconnecting)) refl)))
-    refl refl
+    calm (Event.storeCheck id) c (turn-of (Calm c) (checkRefusal (c .pool) id) (checkDone (c .pool) id) (c .pool) (refl, refl) (λ e. check-calm c id)) refl refl
+law (Event.rejoin id) c v =
+    calm (Event.rejoin id) c (turn-of (Calm c) (rejoinRefusal (c .pool) id) (checkDone (c .pool) id) (c .pool) (refl, refl) (λ e. check-calm c id)) refl refl
 law Event.tryRun c v =
     calm Event.tryRun c (turn-of (Calm c) (tryRefusal (c .pool)) (triedAfter (c .pool) (c .pool) Outcome.Plain Told.Nothing) (c .pool) (refl, refl) (λ e. (refl, tried-calm c (c .pool) refl))) refl refl
 law (Event.remove xs id mode) c v = remove-law xs id mode c v

@@ -32,6 +32,7 @@ takesOver (Event.enable id) c = false
 takesOver (Event.maintenance id) c = false
 takesOver (Event.linkDown id) c = false
 takesOver (Event.storeCheck id) c = false
+takesOver (Event.rejoin id) c = false
 takesOver Event.tryRun c = false
 takesOver (Event.remove xs id mode) c = false
 takesOver (Event.write xs chunk reached) c = false

@@ -33,7 +33,7 @@ created-is : (st : State) → isCreated st ≡ true → (isNormal st ≡ false) 
 created-is State.Free e = clash refl (sym e)
 created-is State.Created e = (refl, refl)
 created-is State.Normal e = clash refl (sym e)
-created-is State.Failed e = clash refl (sym e)
+created-is (State.Failed cause) e = clash refl (sym e)
 created-is State.Reconnecting e = clash refl (sym e)
 created-is (State.Removing m owed) e = clash refl (sym e)
 

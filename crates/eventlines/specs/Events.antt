@@ -2,7 +2,7 @@
 use mathlib.Core.Bool.{_&&_}
 use lib.Dec.{ltb, eqb}
 use Rattle.laws.specs.Words.{pick}
-use Rattle.names.specs.Names.{POOL, AUTO, JOIN-CREATE, JOIN-ASSEMBLE, ENABLE, MAINTENANCE, LINK-DOWN, STORE-CHECK, TRY, REMOVE, WRITE, SYNCED, ANSWER, DELIVER, REGISTER-CREATE, REGISTER-ADD, UNREGISTER, LEAVE, ENABLE1, ENABLE0, FAULT, MAP-READY, GIVE-PART, TAKE, TAKE-PART, MAP-DONE, MAP-DISABLE, MAP-GET-VER, LAST-IO, POOL-INFO}
+use Rattle.names.specs.Names.{POOL, AUTO, JOIN-CREATE, JOIN-ASSEMBLE, ENABLE, MAINTENANCE, LINK-DOWN, STORE-CHECK, REJOIN, TRY, REMOVE, WRITE, SYNCED, ANSWER, DELIVER, REGISTER-CREATE, REGISTER-ADD, UNREGISTER, LEAVE, ENABLE1, ENABLE0, FAULT, MAP-READY, GIVE-PART, TAKE, TAKE-PART, MAP-DONE, MAP-DISABLE, MAP-GET-VER, LAST-IO, POOL-INFO}
 use Rattle.forms.specs.declared.Form.{Form}
 use Rattle.forms.specs.declared.Event.{Event}
 use Rattle.forms.specs.declared.NodeEvent.{NodeEvent}
@@ -19,8 +19,9 @@ clientEvents f rest =
     (pick (plain f MAINTENANCE 2) (Command.Client (Event.Maintenance (f .x1)))
     (pick (plain f LINK-DOWN 2) (Command.Client (Event.LinkDown (f .x1)))
     (pick (plain f STORE-CHECK 2) (Command.Client (Event.StoreCheck (f .x1)))
+    (pick (plain f REJOIN 2) (Command.Client (Event.Rejoin (f .x1)))
     (pick (plain f TRY 1) (Command.Client Event.Try)
-    rest))))))
+    rest)))))))
 
 -- The other four, and what concerns the lab as a whole.
 unfoldable pub wholeEvents : Form → Command → Command

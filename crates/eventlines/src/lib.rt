@@ -18,6 +18,8 @@ pub fn client_events(f: Form, rest: Command) -> Command
     let x3 = f.x3;
     let is = plain(f, names::TRY, 1);
     let r = first(is, Command::Client(Event::Try), rest);
+    let is = plain(f, names::REJOIN, 2);
+    let r = first(is, Command::Client(Event::Rejoin(x1)), r);
     let is = plain(f, names::STORE_CHECK, 2);
     let r = first(is, Command::Client(Event::StoreCheck(x1)), r);
     let is = plain(f, names::LINK_DOWN, 2);

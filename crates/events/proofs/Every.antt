@@ -53,6 +53,7 @@ quiet-barred (Event.enable id) f = (refl, refl)
 quiet-barred (Event.maintenance id) f = (refl, refl)
 quiet-barred (Event.linkDown id) f = clash refl f
 quiet-barred (Event.storeCheck id) f = (refl, refl)
+quiet-barred (Event.rejoin id) f = (refl, refl)
 quiet-barred Event.tryRun f = (refl, refl)
 quiet-barred (Event.remove xs id mode) f = (refl, refl)
 quiet-barred (Event.write xs chunk reached) f = (refl, refl)

@@ -1,5 +1,5 @@
 -- What an event makes of the record of each session, and why.
-use mathlib.Core.Path.{_≡_, refl, ap, _∙_, sym}
+use mathlib.Core.Path.{_≡_, refl, ap, _∙_, sym, subst}
 use mathlib.Core.Logic.{_≢_}
 use mathlib.Core.Bool.{Bool, true, false, not, _&&_, _||_}
 use mathlib.Core.List.{List}
@@ -7,13 +7,14 @@ use Prim.Native.Nat.{ℕ, _-_, _<_}
 use native.Mathlib.Omega.{arith}
 use lib.Dec.{eqb, ltb}
 use borrow.Author.Tests.{eqb-true, eq-eqb, ltb-true}
-use Rattle.laws.specs.Tests.{clash, by-cases, and-left}
+use Rattle.laws.specs.Tests.{clash, by-cases, and-left, and-right}
 use Rattle.laws.specs.Words.{pick}
 use Rattle.sets.proofs.Laws.{countTo-none}
 use Rattle.sets.specs.Sets.{has, countTo}
 use Rattle.state.specs.Session.{isFree, isCreated, isNormal, isFailed, isReconnecting, isRemoving, isOwed, free, newSession, moved, flagged, marked}
 use Rattle.state.specs.Table.{legal}
 use Rattle.state.specs.declared.Brought.{Brought}
+use Rattle.state.specs.declared.Cause.{Cause}
 use Rattle.state.specs.declared.Job.{Job}
 use Rattle.state.specs.declared.Mode.{Mode}
 use Rattle.state.specs.declared.Phase.{Phase}
@@ -44,8 +45,8 @@ use Rattle.joins.proofs.Kept.{create-passed, created-at, assemble-passed, assem
 use Rattle.joins.specs.Joins.{createRefusal, createDone, joinCreate, assembleRefusal, assembled, assembleDone, joinAssemble}
 use Rattle.enables.proofs.Kept.{enable-passed, enabled-at, maintenance-passed}
 use Rattle.enables.specs.Enables.{enables, enableRefusal, enable, maintenanceRefusal, maintenanceDone, maintenance}
-use Rattle.links.proofs.Kept.{Drops, down-passed, down-roster, dropped-at, dropped-other, normal-dropped, check-passed, checked-at}
-use Rattle.links.specs.Links.{drops, downRefusal, dropped, downDone, linkDown, checks, checkRefusal, storeCheck}
+use Rattle.links.proofs.Kept.{Drops, down-passed, down-roster, dropped-at, dropped-other, normal-dropped, Checks, check-passed, rejoin-checks, checked-at}
+use Rattle.links.specs.Links.{drops, downRefusal, dropped, downDone, linkDown, checks, checkRefusal, storeCheck, checkDone, rejoinRefusal, rejoin}
 use Rattle.removal.proofs.Steps.{isDue, departed-goes, started-goes, told-goes, paid-at, paid-long, removing-long, Removable, remove-passed}
 use Rattle.removal.specs.Removal as removal
 use Rattle.removal.specs.Remove.{otherMode, removeRefusal, remove}
@@ -57,7 +58,8 @@ use Rattle.client.specs.Client.{soundFor, removeTurn, writeTurn, answerTurn}
 use Rattle.client.specs.declared.Client.{Client}
 use Rattle.events.specs.Demand2.{Kept}
 use Rattle.events.specs.Events.{Event, next, stateOf, isSync, recordOf, isOne, answerConcerns, jobOf, Part, answerPart, partOf, raises}
-use Rattle.events.specs.Said.{countOf, membersOf, versionOf, enabling, Becomes}
+use Rattle.events.specs.Said.{countOf, membersOf, versionOf, enabling, Becomes, Brings}
+use Rattle.events.proofs.Shape.{off}
 use Rattle.events.proofs.States.{and-true, free-is, created-is, reconnecting-is, unborne}
 
 -- ---- the statement
@@ -77,9 +79,9 @@ pub data Fate (c : Client) (e : Event) (c′ : Client) (id : ℕ) : Type 0 where
   begins : e ≡ Event.joinCreate id → stateOf c id ≡ State.Free → recordOf c′ id ≡ newSession (pick (isSync c) State.Normal State.Created) → Fate c e c′ id
   joins : (set version : ℕ) → e ≡ Event.joinAssemble id set version → isSync c ≡ false → stateOf c id ≡ State.Free → recordOf c′ id ≡ newSession State.Reconnecting → Fate c e c′ id
   goes : (to : State) → legal (isSync c) (stateOf c id) to ≡ true → (isNormal (stateOf c id) ≡ true → (isRemoving to ≡ true) × (raises e ≡ true)) → (isNormal to ≡ true → isSync c ≡ false → Becomes c id e)
-      → recordOf c′ id ≡ moved (recordOf c id) to → Fate c e c′ id
-  fails : (last : Bool) → raises e ≡ true → isNormal (stateOf c id) ≡ true → (isSync c ≡ false → countOf c′ ≡ 0 → last ≡ noneAbove c id)
-      → recordOf c′ id ≡ marked (moved (recordOf c id) State.Failed) last → Fate c e c′ id
+      → ((cause : Cause) → to ≡ State.Failed cause → Brings c id e cause) → recordOf c′ id ≡ moved (recordOf c id) to → Fate c e c′ id
+  fails : (cause : Cause) (last : Bool) → Brings c id e cause → raises e ≡ true → isNormal (stateOf c id) ≡ true → (isSync c ≡ false → countOf c′ ≡ 0 → last ≡ noneAbove c id)
+      → recordOf c′ id ≡ marked (moved (recordOf c id) (State.Failed cause)) last → Fate c e c′ id
   maintained : (last : Bool) → e ≡ Event.maintenance id → isSync c ≡ false → isNormal (stateOf c id) ≡ true → (countOf c′ ≡ 0 → last ≡ noneAbove c id)
       → recordOf c′ id ≡ marked (flagged (moved (recordOf c id) State.Reconnecting) true) last → Fate c e c′ id
   unflagged : e ≡ Event.enable id → isReconnecting (stateOf c id) ≡ true → recordOf c′ id ≡ flagged (recordOf c id) false → Fate c e c′ id
@@ -93,6 +95,10 @@ Has c e id q = Fate c e (record { pool = q }) id
 
 stays : (c : Client) (e : Event) (id : ℕ) → Has c e id (c .pool)
 stays c e id = Fate.kept (Kept.equal refl)
+
+-- a state that is not FAILED has no cause
+pub no-cause {ℓ} : {A : Type ℓ} (to : State) (cause : Cause) → isFailed to ≡ false → to ≡ State.Failed cause → A
+no-cause to cause e q = clash (ap isFailed q) e
 
 -- the state that a record leaves
 pub state-of : (c′ : Client) (id : ℕ) (s : Session) → recordOf c′ id ≡ s → stateOf c′ id ≡ s .state
@@ -147,7 +153,7 @@ enable-fate c id v =
     let r = enabled-at (c .pool) id (v .ok .long) (h .below) in
     by-cases (isCreated (stateOf c id))
     (λ b. let is = created-is (stateOf c id) b in
-    Fate.goes State.Normal (rw is refl) (λ n. clash n (rw is refl)) (λ n s. Becomes.enabled b) (rw b at r))
+    Fate.goes State.Normal (rw is refl) (λ n. clash n (rw is refl)) (λ n s. Becomes.enabled b) (λ k q. no-cause State.Normal k refl q) (rw b at r))
     (λ b. Fate.unflagged refl (and-left (isReconnecting (stateOf c id)) (recordOf c id .maintenance) (rw b at (h .may))) (rw b at r)))
 
 pub maintenance-fate : (c : Client) (id : ℕ) → Valid (c .pool) → Valid (next (Event.maintenance id) c .pool) → Fate c (Event.maintenance id) (next (Event.maintenance id) c) id
@@ -163,11 +169,11 @@ maintenance-fate c id v =
 
 -- ---- link down, store check
 
-to-failed : (sync : Bool) (st : State) (x : Bool) → ((isCreated st || (isNormal st || isReconnecting st)) || (isRemoving st && x)) ≡ true → isRemoving st ≡ false → legal sync st State.Failed ≡ true
+to-failed : (sync : Bool) (st : State) (x : Bool) → ((isCreated st || (isNormal st || isReconnecting st)) || (isRemoving st && x)) ≡ true → isRemoving st ≡ false → legal sync st (State.Failed Cause.Link) ≡ true
 to-failed sync State.Free x e f = clash e refl
 to-failed sync State.Created x e f = refl
 to-failed sync State.Normal x e f = refl
-to-failed sync State.Failed x e f = clash e refl
+to-failed sync (State.Failed cause) x e f = clash e refl
 to-failed sync State.Reconnecting x e f = refl
 to-failed sync (State.Removing m owed) x e f = clash refl f
 
@@ -177,12 +183,15 @@ down-does c id v h q ended w same =
     by-cases (isRemoving (stateOf c id))
     (λ b. Fate.kept (Kept.equal (rw b at r)))
     (λ b. by-cases (isNormal (stateOf c id))
-    (λ n. Fate.fails (isLast (c .pool .roster)) refl n (last n) (rw (b, n) at r))
-    (λ n. Fate.goes State.Failed (to-failed (isSync c) (stateOf c id) _ (h .may) b) (λ m. clash m n) (λ m s. clash m refl)
-    ((rw (b, n) at r) ∙ ap (λ (k : Bool). marked (moved (recordOf c id) State.Failed) k) (sym (and-true (recordOf c id .mark))))))
+    (λ n. Fate.fails Cause.Link (isLast (c .pool .roster)) (Brings.link b) refl n (last n) (rw (b, n) at r))
+    (λ n. Fate.goes (State.Failed Cause.Link) (to-failed (isSync c) (stateOf c id) _ (h .may) b) (λ m. clash m n) (λ m s. clash m refl) (λ k q. link-brings k (cc q) b)
+    ((rw (b, n) at r) ∙ ap (λ (k : Bool). marked (moved (recordOf c id) (State.Failed Cause.Link)) k) (sym (and-true (recordOf c id .mark))))))
   where
-    r : sessionAt (q .roster) id ≡ pick (isRemoving (stateOf c id)) (recordOf c id) (marked (moved (recordOf c id) State.Failed) (pick (isNormal (stateOf c id)) (isLast (c .pool .roster)) (recordOf c id .mark)))
+    r : sessionAt (q .roster) id ≡ pick (isRemoving (stateOf c id)) (recordOf c id) (marked (moved (recordOf c id) (State.Failed Cause.Link)) (pick (isNormal (stateOf c id)) (isLast (c .pool .roster)) (recordOf c id .mark)))
     r = ap (λ (ro : Roster). sessionAt ro id) same ∙ dropped-at (c .pool .roster) id (v .ok .long) (h .below)
+
+    link-brings : (cause : Cause) → Cause.Link ≡ cause → isRemoving (stateOf c id) ≡ false → Brings c id (Event.linkDown id) cause
+    link-brings cause e b = subst (λ (k : Cause). Brings c id (Event.linkDown id) k) e (Brings.link b)
 
     last : isNormal (stateOf c id) ≡ true → isSync c ≡ false → q .roster .count ≡ 0 → isLast (c .pool .roster) ≡ noneAbove c id
     last n plain z =
@@ -204,8 +213,8 @@ to-back sync State.Free e = clash e refl
 to-back true State.Created e = clash e refl
 to-back false State.Created e = (refl, refl)
 to-back sync State.Normal e = clash e refl
-to-back true State.Failed e = (refl, refl)
-to-back false State.Failed e = (refl, refl)
+to-back true (State.Failed cause) e = (refl, refl)
+to-back false (State.Failed cause) e = (refl, refl)
 to-back sync State.Reconnecting e = clash e refl
 to-back sync (State.Removing m owed) e = clash e refl
 
@@ -213,13 +222,29 @@ back-plain {ℓ} : {A : Type ℓ} (sync : Bool) → isNormal (back sync) ≡ tru
 back-plain true n e = clash refl e
 back-plain false n e = clash n refl
 
+back-lives : (sync : Bool) → isFailed (back sync) ≡ false
+back-lives true = refl
+back-lives false = refl
+
+-- a session that a good store check or a good rejoin brings back
+brought-back : (c : Client) (e : Event) (id : ℕ) → Valid (c .pool) → Checks (c .pool) id → Has c e id (checkDone (c .pool) id .pool)
+unfolding checks
+brought-back c e id v h =
+    let t = to-back (isSync c) (stateOf c id) (h .may) in
+    Fate.goes (back (isSync c)) (t .0) (λ n. clash n (t .1)) (λ n s. back-plain (isSync c) n s) (λ k q. no-cause (back (isSync c)) k (back-lives (isSync c)) q)
+    (checked-at (c .pool) id (v .ok .long) (h .below))
+
 pub check-fate : (c : Client) (id : ℕ) → Valid (c .pool) → Fate c (Event.storeCheck id) (next (Event.storeCheck id) c) id
-unfolding storeCheck checks
+unfolding storeCheck
 check-fate c id v =
     turned (Has c (Event.storeCheck id) id) (checkRefusal (c .pool) id) _ (c .pool) (stays c (Event.storeCheck id) id)
-    (λ e. let h = check-passed (c .pool) id e in
-    let t = to-back (isSync c) (stateOf c id) (h .may) in
-    Fate.goes (back (isSync c)) (t .0) (λ n. clash n (t .1)) (λ n s. back-plain (isSync c) n s) (checked-at (c .pool) id (v .ok .long) (h .below)))
+    (λ e. brought-back c (Event.storeCheck id) id v (check-passed (c .pool) id e))
+
+pub rejoin-fate : (c : Client) (id : ℕ) → Valid (c .pool) → Fate c (Event.rejoin id) (next (Event.rejoin id) c) id
+unfolding rejoin
+rejoin-fate c id v =
+    turned (Has c (Event.rejoin id) id) (rejoinRefusal (c .pool) id) _ (c .pool) (stays c (Event.rejoin id) id)
+    (λ e. brought-back c (Event.rejoin id) id v (rejoin-checks (c .pool) id e))
 
 -- ---- remove
 
@@ -227,7 +252,7 @@ to-removing : (sync : Bool) (st : State) (mode : Mode) (owed : Bool) → isFree 
 to-removing sync State.Free mode owed e f = clash refl e
 to-removing sync State.Created mode owed e f = refl
 to-removing sync State.Normal mode owed e f = refl
-to-removing sync State.Failed mode owed e f = refl
+to-removing sync (State.Failed cause) mode owed e f = refl
 to-removing sync State.Reconnecting mode owed e f = refl
 to-removing sync (State.Removing m o) mode owed e f = clash refl f
 
@@ -236,7 +261,7 @@ same-mode : (st : State) (mode : Mode) → isRemoving st ≡ true → otherMode 
 same-mode State.Free mode e f = clash e refl
 same-mode State.Created mode e f = clash e refl
 same-mode State.Normal mode e f = clash e refl
-same-mode State.Failed mode e f = clash e refl
+same-mode (State.Failed cause) mode e f = clash e refl
 same-mode State.Reconnecting mode e f = clash e refl
 same-mode (State.Removing Mode.Delete owed) Mode.Delete e f = refl
 same-mode (State.Removing Mode.Delete owed) Mode.Disassemble e f = clash refl f
@@ -254,7 +279,7 @@ remove-does c xs id mode v h q true r =
 remove-does c xs id mode v h q false r =
     by-cases (isRemoving (stateOf c id))
     (λ m. Fate.kept (Kept.equal (r ∙ again c id (State.Removing mode (owes (stateOf c id))) v (h .below) m refl (same-mode (stateOf c id) mode m (h .mode-same)))))
-    (λ m. Fate.goes (State.Removing mode (owes (stateOf c id))) (to-removing (isSync c) (stateOf c id) mode (owes (stateOf c id)) (h .some) m) (λ n. (refl, refl)) (λ n s. clash n refl) r)
+    (λ m. Fate.goes (State.Removing mode (owes (stateOf c id))) (to-removing (isSync c) (stateOf c id) mode (owes (stateOf c id)) (h .some) m) (λ n. (refl, refl)) (λ n s. clash n refl) (λ k q. no-cause (State.Removing mode (owes (stateOf c id))) k refl q) r)
 
 pub remove-fate : (c : Client) (xs : List ℕ) (id : ℕ) (mode : Mode) → Valid (c .pool) → Fate c (Event.remove xs id mode) (next (Event.remove xs id mode) c) id
 unfolding remove removeTurn
@@ -274,7 +299,7 @@ write-fate c xs chunk reached id v miss =
     (λ e. let d = missed-does (c .pool .roster) reached (v .ok) (write-passed (c .pool) (soundFor (c .pool) xs) chunk reached e .plain) in
     let same = write-roster (c .pool) chunk reached in
     let was = and-left (isNormal (stateOf c id)) (not (has reached id)) miss in
-    Fate.fails (eqb (missed (c .pool .roster) reached .count) 0 && noneAbove c id) refl was
+    Fate.fails Cause.Io (eqb (missed (c .pool .roster) reached .count) 0 && noneAbove c id) (Brings.io xs chunk reached was (off (has reached id) (and-right (isNormal (stateOf c id)) (not (has reached id)) miss))) refl was
     (λ plain z. rw (eq-eqb (missed (c .pool .roster) reached .count) 0 (sym (ap (λ (ro : Roster). ro .count) same) ∙ z)) refl)
     (ap (λ (ro : Roster). sessionAt ro id) same ∙ d .fails id (normal-below (c .pool .roster) id (v .ok .long) was) miss))
 
@@ -328,7 +353,7 @@ run-fate c xs number b id r job v f o = at (good (membersOf c) (versionOf c) r b
         let same = eqb-true id x o′ in
         let can = run-able (c .pool) r (Reply.Good b) v f id (e ∙ ap Who.One (sym same)) in
         let is = reconnecting-is (stateOf c id) (and-left (isReconnecting (stateOf c id)) (not (recordOf c id .maintenance)) can) in
-        Fate.goes State.Normal (rw (is, f .plain) refl) (λ n. clash n (rw is refl)) (λ n s. Becomes.answered xs number b r job (good-enables (membersOf c) (versionOf c) r b id o))
+        Fate.goes State.Normal (rw (is, f .plain) refl) (λ n. clash n (rw is refl)) (λ n s. Becomes.answered xs number b r job (good-enables (membersOf c) (versionOf c) r b id o)) (λ k q. no-cause State.Normal k refl q)
         (ap (λ (ro : Roster). sessionAt ro id) (run-roster (c .pool) (good (membersOf c) (versionOf c) r b))
         ∙ (ap (λ (w : Who). sessionAt (enteredBy w (c .pool .roster)) id) (e ∙ ap Who.One (sym same))
         ∙ entered-at (c .pool .roster) id (v .ok .long) (candidate-below (c .pool .roster) id (v .ok .long) can)))
@@ -338,7 +363,7 @@ paid-state : (st : State) → isRemoving st ≡ true → (P : State → Type 0) 
 paid-state State.Free e P f g = clash e refl
 paid-state State.Created e P f g = clash e refl
 paid-state State.Normal e P f g = clash e refl
-paid-state State.Failed e P f g = clash e refl
+paid-state (State.Failed cause) e P f g = clash e refl
 paid-state State.Reconnecting e P f g = clash e refl
 paid-state (State.Removing Mode.Delete true) e P f g = f Mode.Delete refl
 paid-state (State.Removing Mode.Disassemble true) e P f g = f Mode.Disassemble refl

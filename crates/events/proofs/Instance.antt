@@ -10,6 +10,7 @@ use Rattle.refusals.specs.Limits.{versionLimit, versionTop}
 use Rattle.sets.specs.Sets.{has, with, without, size, lowest}
 use Rattle.maps.specs.Map.{sound, cleanFrom, spare, room}
 use Rattle.state.specs.declared.Mode.{Mode}
+use Rattle.state.specs.declared.Answer.{Answer}
 use Rattle.state.specs.declared.Brought.{Brought}
 use Rattle.state.specs.declared.Reply.{Reply}
 use Rattle.roster.specs.declared.Kind.{Kind}
@@ -22,7 +23,7 @@ use Rattle.recovery.specs.Recovery.{posted, tried}
 use Rattle.rules.specs.Rules.{rosterOk, allAsked, oneAsked, runOk, validPool}
 use Rattle.joins.specs.Joins.{joinTold, createRefusal, created, createDone, joinCreate, setBars, assembleRefusal, assembled, assembleDone, joinAssemble}
 use Rattle.enables.specs.Enables.{enables, enableRefusal, enableDone, enable, maintenanceRefusal, maintenanceDone, maintenance}
-use Rattle.links.specs.Links.{drops, downRefusal, dropped, downDone, linkDown, checks, checkRefusal, checkDone, storeCheck}
+use Rattle.links.specs.Links.{drops, downRefusal, dropped, downDone, linkDown, checks, checkRefusal, checkDone, storeCheck, rejoinRefusal, rejoin}
 use Rattle.writes.specs.Writes.{reachBars, writeRefusal, missStep, missed, marks, writeDone, writeEnded}
 use Rattle.removal.specs.Removal.{due, freedFrom, onward, departed, started}
 use Rattle.removal.specs.Remove.{removeRefusal, remove}
@@ -91,6 +92,14 @@ tight =
     Event.joinCreate 15 ∷ Event.remove zeros 15 Mode.Disassemble ∷ good 1
     ∷ (each Event.joinCreate 15 ++ (each Event.enable 15 ++ (Event.joinAssemble 15 65535 versionLimit ∷ good 2 ∷ good 3 ∷ good 4 ∷ [])))
 
+-- the link of 0 goes down, 0 rejoins and is brought back
+abbrev rejoins : List Event
+rejoins = three ++ (Event.linkDown 0 ∷ Event.rejoin 0 ∷ good 1 ∷ good 2 ∷ good 3 ∷ [])
+
+-- a write does not reach 0, which can't rejoin
+abbrev misses : List Event
+misses = three ++ (Event.write zeros 7 6 ∷ [])
+
 -- What they leave: the version, and who is NORMAL, marked, flagged or present.
 abbrev Left : Type 0
 Left = ℕ × ℕ × ℕ × ℕ × ℕ
@@ -118,5 +127,9 @@ worked :
     × (left-by tight ≡ (2 ^ 63 - 33, 65535, 0, 0, 65535))
     × (versionOf (after tight pool) + countOf (after tight pool) ≡ versionTop)
     × (validPool (after tight pool .pool) ≡ true)
-unfolding bit has with without size lowest sound cleanFrom spare room idsOf entered left failed went removing run.receiver run.failedAnswer run.good run.awaitedIn possible cases.caseOf cases.begun posted tried rosterOk allAsked oneAsked runOk validPool joinTold createRefusal created createDone joinCreate setBars assembleRefusal assembled assembleDone joinAssemble enables enableRefusal enableDone enable maintenanceRefusal maintenanceDone maintenance drops downRefusal dropped downDone linkDown checks checkRefusal checkDone storeCheck reachBars writeRefusal missStep missed marks writeDone writeEnded due freedFrom onward departed started removeRefusal remove answerRefusal movedOn answer removeTurn writeTurn answerTurn
-worked = (refl, refl, refl, refl, refl, refl, refl, refl, refl, refl, refl, refl, refl)
+    × (accepted rejoins pool ≡ true)
+    × (left-by rejoins ≡ (3, 7, 0, 0, 7))
+    × (accepted misses pool ≡ true)
+    × (outOf (Event.rejoin 0) (after misses pool) .answer ≡ Answer.Refused 9)
+unfolding bit has with without size lowest sound cleanFrom spare room idsOf entered left failed went removing run.receiver run.failedAnswer run.good run.awaitedIn possible cases.caseOf cases.begun posted tried rosterOk allAsked oneAsked runOk validPool joinTold createRefusal created createDone joinCreate setBars assembleRefusal assembled assembleDone joinAssemble enables enableRefusal enableDone enable maintenanceRefusal maintenanceDone maintenance drops downRefusal dropped downDone linkDown checks checkRefusal checkDone storeCheck rejoinRefusal rejoin reachBars writeRefusal missStep missed marks writeDone writeEnded due freedFrom onward departed started removeRefusal remove answerRefusal movedOn answer removeTurn writeTurn answerTurn
+worked = (refl, refl, refl, refl, refl, refl, refl, refl, refl, refl, refl, refl, refl, refl, refl, refl, refl)

@@ -25,8 +25,8 @@ use Rattle.joins.proofs.Kept.{create-keeps, assemble-keeps}
 use Rattle.joins.specs.Joins.{createRefusal, createDone, joinCreate, assembleRefusal, assembleDone, joinAssemble}
 use Rattle.enables.proofs.Kept.{enable-keeps, maintenance-keeps}
 use Rattle.enables.specs.Enables.{enableRefusal, enable, maintenance, maintenanceRefusal, maintenanceDone, enableDone}
-use Rattle.links.proofs.Kept.{down-keeps, check-keeps, try-keeps}
-use Rattle.links.specs.Links.{downRefusal, downDone, linkDown, checkRefusal, storeCheck, checkDone, tryRefusal, tryRun}
+use Rattle.links.proofs.Kept.{down-keeps, check-keeps, rejoin-keeps, as-check, try-keeps}
+use Rattle.links.specs.Links.{downRefusal, downDone, linkDown, checkRefusal, storeCheck, checkDone, rejoinRefusal, rejoin, tryRefusal, tryRun}
 use Rattle.removal.proofs.Kept.{remove-keeps}
 use Rattle.removal.specs.Remove.{removeRefusal, remove, removeBegun, gone}
 use Rattle.writes.proofs.Kept.{write-keeps, synced-keeps}
@@ -36,16 +36,16 @@ use Rattle.answers.specs.Answers.{answerRefusal, answered, answer, awaits}
 use Rattle.client.specs.Client.{carried, soundFor, removeTurn, writeTurn, answerTurn, syncedTurn, cleanTo}
 use Rattle.client.specs.declared.Client.{Client}
 use Rattle.events.specs.Demand2.{Kept, soundLent}
-use Rattle.events.specs.Events.{Event, turnOf, isAccepted, Lent, lentTo, mapLeft, testsOf, outOf, next, stateOf, concerns, partOf, touches, raises, isAnswer, isDown}
+use Rattle.events.specs.Events.{Event, turnOf, isAccepted, Lent, lentTo, mapLeft, testsOf, outOf, next, stateOf, keeps, concerns, partOf, touches, raises, isAnswer, isDown}
 use Rattle.events.specs.Said.{membersOf, frees, takesOut}
-use Rattle.events.proofs.Fates.{isPart, Fate, create-fate, assemble-fate, enable-fate, maintenance-fate, down-fate, check-fate, remove-fate, write-fate, answer-fate}
+use Rattle.events.proofs.Fates.{isPart, Fate, create-fate, assemble-fate, enable-fate, maintenance-fate, down-fate, check-fate, rejoin-fate, remove-fate, write-fate, answer-fate}
 use Rattle.events.proofs.Others.{create-others, assemble-others, enable-others, maintenance-others, down-others, check-others, try-others, remove-others, write-others, synced-others, answer-others}
 use Rattle.events.proofs.Removals.{remove-frees, answer-frees, create-stays, assemble-stays, enable-stays, maintenance-stays, down-stays, check-stays, try-stays, write-stays, synced-stays, answer-stays, remove-takes-out, answer-takes-out}
 use Rattle.events.proofs.Shape.{whyNot, down-done, answer-done, off}
 use Rattle.events.proofs.Sound.{create-count, assemble-count, enable-count, maintenance-count, down-count, check-count, try-count, remove-count, write-count, synced-count, answer-count, removal-inside, answer-inside, write-inside, left-sound}
 use Rattle.events.proofs.Touches.{create-touches, assemble-touches, enable-touches, maintenance-touches, down-touches, check-touches, try-touches, remove-touches, write-touches, synced-touches, answer-touches}
 use Rattle.events.proofs.Tries.{Tries, create-trial, assemble-trial, enable-trial, maintenance-trial, down-trial, check-trial, try-trial, remove-trial, write-trial, synced-trial}
-use Rattle.events.proofs.Versions.{Level, create-level, enable-level, check-level, try-level, synced-level, Loud, loud-of, assemble-loud, maintenance-rises, down-rises, remove-rises, write-rises, answer-rises}
+use Rattle.events.proofs.Versions.{Level, as-was, create-level, enable-level, check-level, try-level, synced-level, Loud, loud-of, assemble-loud, maintenance-rises, down-rises, remove-rises, write-rises, answer-rises}
 
 -- does, same, plain: an event is what it does where nothing refuses it, else it is refused by the first that applies. one, six: what its first and sixth test say. rules: the
 -- state rules. count: the chunk count. touch, same-map, left: the lent map. others, fate: the sessions that it is not about, and those that it is. level, loud: the version.
@@ -71,7 +71,7 @@ pub record Law (e : Event) (c : Client) : Type 0 where
   pub tries : isAnswer e ≡ false → isAccepted (outOf e c .answer) ≡ true → Tries (c .pool) (turnOf e c)
 
 pub law : (e : Event) (c : Client) → Law e c
-unfolding joinCreate createRefusal createDone joinAssemble assembleRefusal assembleDone enable enableRefusal enableDone maintenance maintenanceRefusal maintenanceDone linkDown downRefusal downDone storeCheck checkRefusal checkDone tryRun tryRefusal remove removeRefusal removeTurn writeEnded writeRefusal writeDone marks writeTurn synced syncRefusal syncDone syncedTurn answer answerRefusal answerTurn
+unfolding joinCreate createRefusal createDone joinAssemble assembleRefusal assembleDone enable enableRefusal enableDone maintenance maintenanceRefusal maintenanceDone linkDown downRefusal downDone storeCheck checkRefusal checkDone rejoin rejoinRefusal tryRun tryRefusal remove removeRefusal removeTurn writeEnded writeRefusal writeDone marks writeTurn synced syncRefusal syncDone syncedTurn answer answerRefusal answerTurn
 law (Event.joinCreate id) c =
     record {
       does = createDone (c .pool) id;
@@ -197,6 +197,27 @@ law (Event.storeCheck id) c =
       stays = check-stays id c;
       taking = λ v d p id was. clash p refl;
       tries = check-trial id c;
+    }
+law (Event.rejoin id) c =
+    record {
+      does = checkDone (c .pool) id;
+      same = refl;
+      plain = λ e. either (λ (t : Turn). isAccepted (t .answer) ≡ true) (c .pool .roster .sync) _ _ refl refl;
+      one = refl;
+      six = λ r q a d. ap (λ (j : Job). not (isIdle j)) q;
+      rules = rejoin-keeps (c .pool) id;
+      count = as-check (λ t. t .pool .chunks ≡ c .pool .chunks) (c .pool) id (λ n. refl) (check-count id c);
+      touch = λ v. as-check (λ t. keeps (t .effect) ≡ true) (c .pool) id (λ n. refl) (check-touches id c v);
+      same-map = λ q. refl;
+      left = λ v s. refl;
+      others = λ j v f. as-check (λ t. Kept c (record { pool = t .pool }) j) (c .pool) id (λ n. Kept.equal refl) (check-others id c j v f);
+      fate = λ j v n. rw (eqb-true j id n) (rejoin-fate c id v);
+      level = λ v f. as-check (λ t. Level c (t .pool)) (c .pool) id (λ n. as-was c (c .pool) refl) (check-level id c v f);
+      loud = λ v f. clash f refl;
+      freeing = λ v d p id was. clash p refl;
+      stays = λ v p j was. as-check (λ t. has (t .pool .roster .members) j ≡ true) (c .pool) id (λ n. was) (check-stays id c v p j was);
+      taking = λ v d p id was. clash p refl;
+      tries = λ a d. as-check (λ t. isAccepted (t .answer) ≡ true → Tries (c .pool) t) (c .pool) id (λ n z. clash z refl) (λ z. check-trial id c a z) d;
     }
 law Event.tryRun c =
     record {

@@ -15,6 +15,7 @@ pub mod Marks
 pub mod Sessions
 pub mod Written
 pub mod Demand2
+pub mod Causes
 pub mod Said
 pub mod Instance
 pub mod Unique

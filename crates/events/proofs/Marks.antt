@@ -92,8 +92,8 @@ module _ (c : Client) (e : Event) (c′ : Client) (id : ℕ) (v : Valid (c .pool
   mark-stays z (Fate.kept (Kept.cleared r w)) = clash (w .after) (none-normal c′ v′ plain′ over (w .who))
   mark-stays z (Fate.begins x st r) = mark-is c′ id _ (markOf c id) r (sym (rw (nobodys c id v st .0) (and-false (bears (pick (isSync c) State.Normal State.Created)))))
   mark-stays z (Fate.joins set version x p st r) = mark-is c′ id _ (markOf c id) r (sym (nobodys c id v st .0))
-  mark-stays z (Fate.goes to l n b r) = mark-is c′ id _ (markOf c id) r (and-swap (markOf c id) (bears to))
-  mark-stays z (Fate.fails last x n b r) = clash n (none-normal c v plain z id)
+  mark-stays z (Fate.goes to l n b w r) = mark-is c′ id _ (markOf c id) r (and-swap (markOf c id) (bears to))
+  mark-stays z (Fate.fails cause last w x n b r) = clash n (none-normal c v plain z id)
   mark-stays z (Fate.maintained last x p n b r) = clash n (none-normal c v plain z id)
   mark-stays z (Fate.unflagged x is r) = mark-is c′ id _ (markOf c id) r (borne c id v .0 ∙ and-swap (markOf c id) (bears (stateOf c id)))
   mark-stays z (Fate.paid mode st r) = mark-is c′ id _ (markOf c id) r refl
@@ -108,10 +108,10 @@ module _ (c : Client) (e : Event) (c′ : Client) (id : ℕ) (v : Valid (c .pool
   mark-appears z (Fate.kept (Kept.cleared r w)) = clash (w .after) (none-normal c′ v′ plain′ over (w .who))
   mark-appears z (Fate.begins x st r) = mark-is c′ id _ (lastNormal c id) r (sym (rw st (and-false (bears (pick (isSync c) State.Normal State.Created)))))
   mark-appears z (Fate.joins set version x p st r) = mark-is c′ id _ (lastNormal c id) r (rw st refl)
-  mark-appears z (Fate.goes to l n b r) =
+  mark-appears z (Fate.goes to l n b w r) =
       mark-is c′ id _ (lastNormal c id) r
       (rw (none-marked c v plain z id) (by-cases (isNormal (stateOf c id)) (λ k. rw (unborne to (n k .0)) refl) (λ k. rw k (sym (and-false (bears to))))))
-  mark-appears z (Fate.fails last x n b r) = mark-is c′ id _ (lastNormal c id) r (b plain over ∙ rw n refl)
+  mark-appears z (Fate.fails cause last w x n b r) = mark-is c′ id _ (lastNormal c id) r (b plain over ∙ rw n refl)
   mark-appears z (Fate.maintained last x p n b r) = mark-is c′ id _ (lastNormal c id) r (b over ∙ rw n refl)
   mark-appears z (Fate.unflagged x is r) =
       mark-is c′ id _ (lastNormal c id) r (none-marked c v plain z id ∙ sym (rw (reconnecting-not (stateOf c id) is) (and-false (bears (stateOf c id)))))
@@ -140,8 +140,8 @@ flag-after c e c′ id v m n (Fate.kept (Kept.equal r)) = flag-is c′ id _ (fla
 flag-after c e c′ id v m n (Fate.kept (Kept.cleared r w)) = flag-is c′ id _ (flagOf c id) r (borne c id v .1)
 flag-after c e c′ id v m n (Fate.begins x st r) = flag-is c′ id _ (flagOf c id) r (rw (nobodys c id v st .1) refl)
 flag-after c e c′ id v m n (Fate.joins set version x p st r) = flag-is c′ id _ (flagOf c id) r (rw (nobodys c id v st .1) refl)
-flag-after c e c′ id v m n (Fate.goes to l k b r) = flag-is c′ id _ (flagOf c id) r refl
-flag-after c e c′ id v m n (Fate.fails last x k b r) = flag-is c′ id _ (flagOf c id) r refl
+flag-after c e c′ id v m n (Fate.goes to l k b w r) = flag-is c′ id _ (flagOf c id) r refl
+flag-after c e c′ id v m n (Fate.fails cause last w x k b r) = flag-is c′ id _ (flagOf c id) r refl
 flag-after c e c′ id v m n (Fate.maintained last x p k b r) = absurd (m x)
 flag-after c e c′ id v m n (Fate.unflagged x is r) = absurd (n x)
 flag-after c e c′ id v m n (Fate.paid mode st r) = flag-is c′ id _ (flagOf c id) r (sym (and-false (flagOf c id)))

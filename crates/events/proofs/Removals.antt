@@ -286,12 +286,12 @@ legal-some sync from State.Free e = clash e (none from)
     none State.Free = refl
     none State.Created = refl
     none State.Normal = refl
-    none State.Failed = refl
+    none (State.Failed cause) = refl
     none State.Reconnecting = refl
     none (State.Removing m owed) = refl
 legal-some sync from State.Created e = refl
 legal-some sync from State.Normal e = refl
-legal-some sync from State.Failed e = refl
+legal-some sync from (State.Failed cause) e = refl
 legal-some sync from State.Reconnecting e = refl
 legal-some sync from (State.Removing m owed) e = refl
 
@@ -303,8 +303,8 @@ pub unfreed : (c : Client) (e : Event) (c′ : Client) (id : ℕ) → isPart (pa
 unfreed c e c′ id p was (Fate.kept k) = ap isFree (kept-stands c c′ id k) ∙ was
 unfreed c e c′ id p was (Fate.begins x st r) = clash (ap isFree st) was
 unfreed c e c′ id p was (Fate.joins set version x plain st r) = clash (ap isFree st) was
-unfreed c e c′ id p was (Fate.goes to l n b r) = lives c′ id _ r (legal-some (isSync c) (stateOf c id) to l)
-unfreed c e c′ id p was (Fate.fails last x n b r) = lives c′ id _ r refl
+unfreed c e c′ id p was (Fate.goes to l n b w r) = lives c′ id _ r (legal-some (isSync c) (stateOf c id) to l)
+unfreed c e c′ id p was (Fate.fails cause last w x n b r) = lives c′ id _ r refl
 unfreed c e c′ id p was (Fate.maintained last x plain n b r) = lives c′ id _ r refl
 unfreed c e c′ id p was (Fate.unflagged x is r) = lives c′ id _ r was
 unfreed c e c′ id p was (Fate.paid mode st r) = lives c′ id _ r refl

@@ -14,6 +14,7 @@ use Rattle.state.specs.declared.Removal.{Removal}
 use Rattle.state.specs.declared.Roster.{Roster}
 use Rattle.state.specs.declared.Run.{Run}
 use Rattle.state.specs.declared.Session.{Session}
+use Rattle.state.specs.declared.Cause.{Cause}
 use Rattle.state.specs.declared.State.{State}
 use Rattle.state.specs.declared.Told.{Told}
 use Rattle.state.specs.declared.Turn.{Turn}
@@ -78,8 +79,8 @@ pub becomes : (c : Client) (e : Event) (c′ : Client) (id : ℕ) → isSync c �
 becomes c e c′ id plain was is (Fate.kept k) = clash (after-normal c′ id _ (kept-stands c c′ id k) is) was
 becomes c e c′ id plain was is (Fate.begins x st r) = clash (after-normal c′ id _ (state-of c′ id _ r) is) (rw plain refl)
 becomes c e c′ id plain was is (Fate.joins set version x p st r) = clash (after-normal c′ id _ (state-of c′ id _ r) is) refl
-becomes c e c′ id plain was is (Fate.goes to l n b r) = b (after-normal c′ id _ (state-of c′ id _ r) is) plain
-becomes c e c′ id plain was is (Fate.fails last x n b r) = clash n was
+becomes c e c′ id plain was is (Fate.goes to l n b w r) = b (after-normal c′ id _ (state-of c′ id _ r) is) plain
+becomes c e c′ id plain was is (Fate.fails cause last w x n b r) = clash n was
 becomes c e c′ id plain was is (Fate.maintained last x p n b r) = clash n was
 becomes c e c′ id plain was is (Fate.unflagged x k r) = clash (after-normal c′ id _ (state-of c′ id _ r) is) was
 becomes c e c′ id plain was is (Fate.paid mode st r) = clash (after-normal c′ id _ (state-of c′ id _ r) is) refl
@@ -88,7 +89,7 @@ becomes c e c′ id plain was is (Fate.removed xs mode x l r) = clash (after-nor
 
 -- ---- the job in hand
 
-idle-is : (j : Job) → isIdle j ≡ true → j ≡ Job.Idle
+pub idle-is : (j : Job) → isIdle j ≡ true → j ≡ Job.Idle
 idle-is Job.Idle e = refl
 idle-is (Job.Running r) e = clash e refl
 idle-is (Job.Removing m) e = clash e refl
@@ -180,7 +181,7 @@ down-jobs (Job.Removing m) p id e =
 abbrev Downed : Client → ℕ → Turn → Type 0
 Downed c id t =
     Jobs id (jobOf c) t
-    × (sessionAt (t .pool .roster) id .state ≡ pick (isRemoving (stateOf c id)) (stateOf c id) State.Failed)
+    × (sessionAt (t .pool .roster) id .state ≡ pick (isRemoving (stateOf c id)) (stateOf c id) (State.Failed Cause.Link))
     × ((m : Removal) → jobOf c ≡ Job.Removing m → sessionAt (t .pool .roster) (m .id) ≡ recordOf c (m .id))
 
 downed : (c : Client) (id : ℕ) → Valid (c .pool) → downRefusal (c .pool) id ≡ 0 → Downed c id (downDone (c .pool) id)

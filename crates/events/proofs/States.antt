@@ -18,7 +18,7 @@ pub free-is : (st : State) → isFree st ≡ true → st ≡ State.Free
 free-is State.Free e = refl
 free-is State.Created e = clash e refl
 free-is State.Normal e = clash e refl
-free-is State.Failed e = clash e refl
+free-is (State.Failed cause) e = clash e refl
 free-is State.Reconnecting e = clash e refl
 free-is (State.Removing m owed) e = clash e refl
 
@@ -26,7 +26,7 @@ pub created-is : (st : State) → isCreated st ≡ true → st ≡ State.Created
 created-is State.Free e = clash e refl
 created-is State.Created e = refl
 created-is State.Normal e = clash e refl
-created-is State.Failed e = clash e refl
+created-is (State.Failed cause) e = clash e refl
 created-is State.Reconnecting e = clash e refl
 created-is (State.Removing m owed) e = clash e refl
 
@@ -34,7 +34,7 @@ pub normal-is : (st : State) → isNormal st ≡ true → st ≡ State.Normal
 normal-is State.Free e = clash e refl
 normal-is State.Created e = clash e refl
 normal-is State.Normal e = refl
-normal-is State.Failed e = clash e refl
+normal-is (State.Failed cause) e = clash e refl
 normal-is State.Reconnecting e = clash e refl
 normal-is (State.Removing m owed) e = clash e refl
 
@@ -42,7 +42,7 @@ pub reconnecting-is : (st : State) → isReconnecting st ≡ true → st ≡ Sta
 reconnecting-is State.Free e = clash e refl
 reconnecting-is State.Created e = clash e refl
 reconnecting-is State.Normal e = clash e refl
-reconnecting-is State.Failed e = clash e refl
+reconnecting-is (State.Failed cause) e = clash e refl
 reconnecting-is State.Reconnecting e = refl
 reconnecting-is (State.Removing m owed) e = clash e refl
 
@@ -50,7 +50,7 @@ pub created-not : (st : State) → isCreated st ≡ true → isNormal st ≡ fal
 created-not State.Free e = refl
 created-not State.Created e = refl
 created-not State.Normal e = clash e refl
-created-not State.Failed e = refl
+created-not (State.Failed cause) e = refl
 created-not State.Reconnecting e = refl
 created-not (State.Removing m owed) e = refl
 
@@ -58,7 +58,7 @@ pub reconnecting-not : (st : State) → isReconnecting st ≡ true → isNormal 
 reconnecting-not State.Free e = refl
 reconnecting-not State.Created e = refl
 reconnecting-not State.Normal e = clash e refl
-reconnecting-not State.Failed e = refl
+reconnecting-not (State.Failed cause) e = refl
 reconnecting-not State.Reconnecting e = refl
 reconnecting-not (State.Removing m owed) e = refl
 
@@ -66,7 +66,7 @@ pub normal-not-failed : (st : State) → (isNormal st && isFailed st) ≡ false
 normal-not-failed State.Free = refl
 normal-not-failed State.Created = refl
 normal-not-failed State.Normal = refl
-normal-not-failed State.Failed = refl
+normal-not-failed (State.Failed cause) = refl
 normal-not-failed State.Reconnecting = refl
 normal-not-failed (State.Removing m owed) = refl
 
@@ -74,7 +74,7 @@ pub normal-lives : (st : State) → isNormal st ≡ true → isRemoving st ≡ f
 normal-lives State.Free e = refl
 normal-lives State.Created e = refl
 normal-lives State.Normal e = refl
-normal-lives State.Failed e = refl
+normal-lives (State.Failed cause) e = refl
 normal-lives State.Reconnecting e = refl
 normal-lives (State.Removing m owed) e = clash e refl
 
@@ -82,7 +82,7 @@ pub removing-not-failed : (st : State) → isRemoving st ≡ true → isFailed s
 removing-not-failed State.Free e = refl
 removing-not-failed State.Created e = refl
 removing-not-failed State.Normal e = refl
-removing-not-failed State.Failed e = clash e refl
+removing-not-failed (State.Failed cause) e = clash e refl
 removing-not-failed State.Reconnecting e = refl
 removing-not-failed (State.Removing m owed) e = refl
 
@@ -90,7 +90,7 @@ pub removing-lives : (st : State) → isRemoving st ≡ true → isFree st ≡ f
 removing-lives State.Free z = clash z refl
 removing-lives State.Created z = refl
 removing-lives State.Normal z = refl
-removing-lives State.Failed z = refl
+removing-lives (State.Failed cause) z = refl
 removing-lives State.Reconnecting z = refl
 removing-lives (State.Removing mode owed) z = refl
 
@@ -98,7 +98,7 @@ pub not-told : (st : State) → isRemoving st ≡ true → isTold st ≡ false
 not-told State.Free e = refl
 not-told State.Created e = clash e refl
 not-told State.Normal e = clash e refl
-not-told State.Failed e = refl
+not-told (State.Failed cause) e = refl
 not-told State.Reconnecting e = clash e refl
 not-told (State.Removing m owed) e = refl
 
@@ -106,7 +106,7 @@ pub unborne : (st : State) → isRemoving st ≡ true → (isFailed st || isReco
 unborne State.Free e = refl
 unborne State.Created e = refl
 unborne State.Normal e = refl
-unborne State.Failed e = clash e refl
+unborne (State.Failed cause) e = clash e refl
 unborne State.Reconnecting e = clash e refl
 unborne (State.Removing m owed) e = refl
 
@@ -114,7 +114,7 @@ pub owes-is : (st : State) → owes st ≡ not (notOwed st)
 owes-is State.Free = refl
 owes-is State.Created = refl
 owes-is State.Normal = refl
-owes-is State.Failed = refl
+owes-is (State.Failed cause) = refl
 owes-is State.Reconnecting = refl
 owes-is (State.Removing mode true) = refl
 owes-is (State.Removing mode false) = refl

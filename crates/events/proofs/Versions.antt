@@ -19,6 +19,7 @@ use Rattle.state.specs.declared.Reply.{Reply}
 use Rattle.state.specs.declared.Roster.{Roster}
 use Rattle.state.specs.declared.Session.{Session}
 use Rattle.state.specs.declared.Stage.{Stage}
+use Rattle.state.specs.declared.Cause.{Cause}
 use Rattle.state.specs.declared.State.{State}
 use Rattle.state.specs.declared.Turn.{Turn}
 use Rattle.roster.specs.Roster.{sessionAt}
@@ -120,8 +121,8 @@ pub unleft : (c : Client) (e : Event) (c′ : Client) (id : ℕ) → raises e �
 unleft c e c′ id f (Fate.kept k) = same-state c c′ id (kept-stands c c′ id k)
 unleft c e c′ id f (Fate.begins x st r) = was-not c c′ id (rw st refl)
 unleft c e c′ id f (Fate.joins set version x plain st r) = was-not c c′ id (rw st refl)
-unleft c e c′ id f (Fate.goes to l n b r) = was-not c c′ id (by-cases (isNormal (stateOf c id)) (λ z. clash (n z .1) f) (λ z. z))
-unleft c e c′ id f (Fate.fails last x n b r) = clash x f
+unleft c e c′ id f (Fate.goes to l n b w r) = was-not c c′ id (by-cases (isNormal (stateOf c id)) (λ z. clash (n z .1) f) (λ z. z))
+unleft c e c′ id f (Fate.fails cause last w x n b r) = clash x f
 unleft c e c′ id f (Fate.maintained last x plain n b r) = clash (ap raises x) f
 unleft c e c′ id f (Fate.unflagged x is r) = same-state c c′ id (state-of c′ id _ r)
 unleft c e c′ id f (Fate.paid mode st r) = was-not c c′ id (rw st refl)
@@ -280,7 +281,7 @@ down-rises id c v =
           (ap (λ (ro : Roster). ro .version) same ∙ down-version (jobOf c) c id refl v h)),
     ))
   where
-    down-not : (s : Session) (b : Bool) → isNormal (pick (isRemoving (s .state)) s (marked (moved s State.Failed) b) .state) ≡ false
+    down-not : (s : Session) (b : Bool) → isNormal (pick (isRemoving (s .state)) s (marked (moved s (State.Failed Cause.Link)) b) .state) ≡ false
     down-not s b = by-cases (isRemoving (s .state)) (λ z. rw z (removing-not (s .state) z)) (λ z. rw z refl)
 
 write-risen : (c : Client) (reached : ℕ) → Valid (c .pool) → isSync c ≡ false → (q : Pool) → q .roster ≡ wroteIn (c .pool) reached → RisenBy c q false

@@ -19,6 +19,7 @@ use Rattle.state.specs.declared.Pool.{Pool}
 use Rattle.state.specs.declared.Roster.{Roster}
 use Rattle.state.specs.declared.Session.{Session}
 use Rattle.state.specs.declared.Stage.{Stage}
+use Rattle.state.specs.declared.Cause.{Cause}
 use Rattle.state.specs.declared.State.{State}
 use Rattle.state.specs.declared.Told.{Told}
 use Rattle.state.specs.declared.Turn.{Turn}
@@ -68,12 +69,12 @@ wrote c chunk reached v w =
           (halted-job (loses (c .pool .job) (c .pool .roster) reached) (withRoster (c .pool) (wroteIn (c .pool) reached)) ∙ ap (λ (b : Bool). pick b Job.Idle (jobOf c)) (lost-is (c .pool .job) c reached v (v .job)));
     }
   where
-    spared : (id : ℕ) → isNormal (stateOf c id) ≡ true → has reached id ≡ true → sessionAt (missed (c .pool .roster) reached) id .state ≡ pick (has reached id) State.Normal State.Failed
+    spared : (id : ℕ) → isNormal (stateOf c id) ≡ true → has reached id ≡ true → sessionAt (missed (c .pool .roster) reached) id .state ≡ pick (has reached id) State.Normal (State.Failed Cause.Io)
     spared id n h =
         let d = missed-does (c .pool .roster) reached (v .ok) (w .plain) in
         ap (λ (s : Session). s .state) (d .spares id (rw h (and-false (isNormal (stateOf c id))))) ∙ rw h (normal-is (stateOf c id) n)
 
-    failed : (id : ℕ) → isNormal (stateOf c id) ≡ true → has reached id ≡ false → sessionAt (missed (c .pool .roster) reached) id .state ≡ pick (has reached id) State.Normal State.Failed
+    failed : (id : ℕ) → isNormal (stateOf c id) ≡ true → has reached id ≡ false → sessionAt (missed (c .pool .roster) reached) id .state ≡ pick (has reached id) State.Normal (State.Failed Cause.Io)
     failed id n h =
         let d = missed-does (c .pool .roster) reached (v .ok) (w .plain) in
         ap (λ (s : Session). s .state) (d .fails id (normal-below (c .pool .roster) id (v .ok .long) n) (rw (n, h) refl)) ∙ rw h refl

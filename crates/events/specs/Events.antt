@@ -40,6 +40,7 @@ pub data Event : Type 0 where
   maintenance : ℕ → Event
   linkDown : ℕ → Event
   storeCheck : ℕ → Event
+  rejoin : ℕ → Event
   tryRun : Event
   remove : List ℕ → ℕ → Mode → Event
   write : List ℕ → ℕ → ℕ → Event
@@ -175,6 +176,7 @@ caseOf (Event.enable id) = ofSession id (λ c. Enables.enableTests (c .pool) id)
 caseOf (Event.maintenance id) = ofSession id (λ c. Enables.maintenanceTests (c .pool) id) (λ c. Enables.maintenance (c .pool) id) Sort.barred true
 caseOf (Event.linkDown id) = ofSession id (λ c. Links.downTests (c .pool) id) (λ c. Links.linkDown (c .pool) id) Sort.down true
 caseOf (Event.storeCheck id) = ofSession id (λ c. Links.checkTests (c .pool) id) (λ c. Links.storeCheck (c .pool) id) Sort.barred false
+caseOf (Event.rejoin id) = ofSession id (λ c. Links.rejoinTests (c .pool) id) (λ c. Links.rejoin (c .pool) id) Sort.barred false
 caseOf Event.tryRun =
     record {
       tests = λ c. Links.tryTests (c .pool);

@@ -11,6 +11,7 @@ use Rattle.sets.specs.Sets.{has, countTo}
 use Rattle.chunks.specs.Chunk.{markedFor}
 use Rattle.maps.specs.Map.{zeroRow, zeroed}
 use Rattle.state.specs.declared.Mode.{Mode}
+use Rattle.state.specs.declared.Cause.{Cause}
 use Rattle.state.specs.declared.State.{State}
 use Rattle.state.specs.declared.Stage.{Stage}
 use Rattle.state.specs.declared.Removal.{Removal}
@@ -132,7 +133,7 @@ missesPeer (Job.Removing m) c reached = isNormal (stateOf c (peerAt (m .stage) (
 
 -- the sessions and the job after a write
 pub record Wrote (c : Client) (reached : ℕ) (c′ : Client) : Type 0 where
-  pub fails : (id : ℕ) → isNormal (stateOf c id) ≡ true → stateOf c′ id ≡ pick (has reached id) State.Normal State.Failed
+  pub fails : (id : ℕ) → isNormal (stateOf c id) ≡ true → stateOf c′ id ≡ pick (has reached id) State.Normal (State.Failed Cause.Io)
   pub halts : jobOf c′ ≡ pick (missesPeer (jobOf c) c reached) Job.Idle (jobOf c)
 
 -- what a write that reached any marks, and whom it tells
@@ -203,7 +204,7 @@ reported (Answer.Done s) = s .outcome
 
 -- the session, the run and the removal after a link down
 pub record Dropped (c : Client) (id : ℕ) (e : Event) : Type 0 where
-  pub fails : stateOf (next e c) id ≡ pick (isRemoving (stateOf c id)) (stateOf c id) State.Failed
+  pub fails : stateOf (next e c) id ≡ pick (isRemoving (stateOf c id)) (stateOf c id) (State.Failed Cause.Link)
   pub idle : jobOf c ≡ Job.Idle → jobOf (next e c) ≡ Job.Idle
   pub ends : (r : Run) → jobOf c ≡ Job.Running r → (reported (outOf e c .answer) ≡ Outcome.Taken (r .taken)) × (jobOf (next e c) ≡ recoveryIn (next e c))
   pub halts : (m : Removal) → jobOf c ≡ Job.Removing m → (jobOf (next e c) ≡ pick (eqb (peerAt (m .stage) (m .id)) id) Job.Idle (Job.Removing m)) × (recordOf (next e c) (m .id) ≡ recordOf c (m .id))
@@ -213,6 +214,49 @@ pub record Dropped (c : Client) (id : ℕ) (e : Event) : Type 0 where
 -- where there was no run; a removal that goes on without its peer, or a LEAVE_POOL no longer owed.
 abbrev pub LinkDown : Type 0
 LinkDown = (c : Client) (id : ℕ) → Accepts c (Event.linkDown id) → Dropped c id (Event.linkDown id)
+
+-- ---- why a session failed
+
+-- the event that brings a cause to id's session: a link down of it, if it is not REMOVING; a write that did not reach it, if it is NORMAL
+pub data Brings (c : Client) (id : ℕ) : Event → Cause → Type 0 where
+  link : isRemoving (stateOf c id) ≡ false → Brings c id (Event.linkDown id) Cause.Link
+  io : (xs : List ℕ) (chunk reached : ℕ) → isNormal (stateOf c id) ≡ true → has reached id ≡ false → Brings c id (Event.write xs chunk reached) Cause.Io
+
+-- "Link down sets link; a write that did not reach it sets IO." Refused: another cause, or a cause that was forgotten.
+abbrev pub CauseSet : Type 0
+CauseSet = (c : Client) (e : Event) → Accepts c e → (id : ℕ) (cause : Cause) → Brings c id e cause → stateOf (next e c) id ≡ State.Failed cause
+
+-- Where id's session is FAILED after an event: it was, with this cause; or it was not, and the event, accepted, brought this cause.
+pub data Caused (c : Client) (e : Event) (id : ℕ) (cause : Cause) : Type 0 where
+  stood : stateOf c id ≡ State.Failed cause → Caused c e id cause
+  brought : isFailed (stateOf c id) ≡ false → isAccepted (outOf e c .answer) ≡ true → Brings c id e cause → Caused c e id cause
+
+-- From any reached client, by any event. Refused: a cause that changes while it stands, or that another event brings.
+abbrev pub CauseOnly : Type 0
+CauseOnly = (c : Client) → Reached c → (e : Event) (id : ℕ) (cause : Cause) → stateOf (next e c) id ≡ State.Failed cause → Caused c e id cause
+
+-- How id's session got its cause: an accepted event brought it, and in each event since the session stayed FAILED.
+pub data Got (id : ℕ) (cause : Cause) : Client → Type 0 where
+  brought : (c : Client) (e : Event) → Accepts c e → Brings c id e cause → Got id cause (next e c)
+  kept : (c : Client) (e : Event) → Reached c → Got id cause c → isFailed (stateOf (next e c) id) ≡ true → Got id cause (next e c)
+
+-- "A cause stands exactly while the session is FAILED": FAILED has one, no other state has. At every reached client it is link exactly where a link down brought the
+-- session there, IO exactly where a write did. Refused: a cause that is left from an earlier fall.
+abbrev pub CauseTells : Type 0
+CauseTells = (c : Client) → Reached c → (id : ℕ) (cause : Cause) → (stateOf c id ≡ State.Failed cause → Got id cause c) × (Got id cause c → stateOf c id ≡ State.Failed cause)
+
+-- "A good rejoin .. brings back, exactly as a good store check does in either kind of pool, a session with cause link only; a good store check serves both, as before. A
+-- rejoin on cause IO, or of a session that is not FAILED, is refusal 9." Refused: a rejoin that does less or more than a store check, one from CREATED; a store check that
+-- looks at the cause.
+pub record Rejoins (c : Client) (id : ℕ) : Type 0 where
+  pub taken : jobOf c ≡ Job.Idle → stateOf c id ≡ State.Failed Cause.Link → isAccepted (outOf (Event.rejoin id) c .answer) ≡ true
+  pub only : isAccepted (outOf (Event.rejoin id) c .answer) ≡ true → (jobOf c ≡ Job.Idle) × (stateOf c id ≡ State.Failed Cause.Link)
+  pub same : isAccepted (outOf (Event.rejoin id) c .answer) ≡ true → outOf (Event.rejoin id) c ≡ outOf (Event.storeCheck id) c
+  pub nine : jobOf c ≡ Job.Idle → isFree (stateOf c id) ≡ false → stateOf c id ≢ State.Failed Cause.Link → outOf (Event.rejoin id) c .answer ≡ Answer.Refused 9
+  pub both : (cause : Cause) → jobOf c ≡ Job.Idle → stateOf c id ≡ State.Failed cause → isAccepted (outOf (Event.storeCheck id) c .answer) ≡ true
+
+abbrev pub Rejoin : Type 0
+Rejoin = (c : Client) → Reached c → (id : ℕ) → Rejoins c id
 
 -- ---- removal
 

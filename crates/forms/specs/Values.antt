@@ -7,6 +7,7 @@ use Rattle.state.specs.declared.Mode.{Mode}
 use Rattle.state.specs.declared.Reply.{Reply}
 use Rattle.state.specs.declared.Brought.{Brought}
 use Rattle.state.specs.declared.Op.{Op}
+use Rattle.state.specs.declared.Cause.{Cause}
 use Rattle.state.specs.declared.State.{State}
 use Rattle.state.specs.declared.Session.{Session}
 
@@ -22,15 +23,16 @@ replyOf kind version = pick (eqb kind 0) Reply.Failed (pick (eqb kind 1) (Reply.
 abbrev pub opOf : ℕ → Op
 opOf x = pick (eqb x 0) Op.AddCreate (pick (eqb x 1) Op.AddAssemble (pick (eqb x 2) Op.RemoveDelete Op.RemoveDisassemble))
 
--- 0 none, 1 CREATED, 2 NORMAL, 3 FAILED, 4 RECONNECTING, 5 REMOVING
+-- 0 none, 1 CREATED, 2 NORMAL, 3 FAILED with cause link, 4 RECONNECTING, 5 REMOVING, 6 FAILED with cause IO
 abbrev pub stateOf : ℕ → Mode → Bool → State
 stateOf x mode owed =
     pick (eqb x 0) State.Free
     (pick (eqb x 1) State.Created
     (pick (eqb x 2) State.Normal
-    (pick (eqb x 3) State.Failed
+    (pick (eqb x 3) (State.Failed Cause.Link)
     (pick (eqb x 4) State.Reconnecting
-    (State.Removing mode owed)))))
+    (pick (eqb x 6) (State.Failed Cause.Io)
+    (State.Removing mode owed))))))
 
 abbrev pub sessionOf : ℕ → ℕ → ℕ → ℕ → ℕ → Session
 sessionOf x maint mark mode owed = record { state = stateOf x (modeOf mode) (eqb owed 1); maintenance = eqb maint 1; mark = eqb mark 1 }
@@ -38,5 +40,5 @@ sessionOf x maint mark mode owed = record { state = stateOf x (modeOf mode) (eqb
 -- All in range; of a session that is not REMOVING, mode and owed are 0; of none, all four.
 abbrev pub maybeSession : ℕ → ℕ → ℕ → ℕ → ℕ → Bool
 maybeSession x maint mark mode owed =
-    (ltb x 6 && (ltb maint 2 && (ltb mark 2 && (ltb mode 2 && ltb owed 2))))
+    (ltb x 7 && (ltb maint 2 && (ltb mark 2 && (ltb mode 2 && ltb owed 2))))
     && ((eqb x 5 || (eqb mode 0 && eqb owed 0)) && (not (eqb x 0) || (eqb maint 0 && eqb mark 0)))

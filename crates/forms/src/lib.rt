@@ -5,6 +5,7 @@ ghost use Rattle.forms.specs.Forms.{formOf, plain as Forms·plain, pair 
 ghost use Rattle.forms.specs.Values.{modeOf, replyOf, opOf, stateOf, sessionOf, maybeSession};
 use lines::Line;
 use state::Brought;
+use state::Cause;
 use state::Mode;
 use state::Op;
 use state::Reply;
@@ -19,6 +20,7 @@ pub enum Event {
     Maintenance(u64),
     LinkDown(u64),
     StoreCheck(u64),
+    Rejoin(u64),
     Try,
     Remove(u64, Mode),
     Write(u64, u64),
@@ -208,10 +210,13 @@ fn state_of(x: u64, mode: Mode, owed: bool) -> State
         return State::Normal;
     }
     if x == 3 {
-        return State::Failed;
+        return State::Failed(Cause::Link);
     }
     if x == 4 {
         return State::Reconnecting;
+    }
+    if x == 6 {
+        return State::Failed(Cause::Io);
     }
     State::Removing(mode, owed)
 }
@@ -232,7 +237,7 @@ pub fn session_of(x: u64, maint: u64, mark: u64, md: u64, owed: u64) -> Session
 pub fn maybe(x: u64, maint: u64, mark: u64, md: u64, owed: u64) -> bool
     ensures { λ r. ⌜ r ≡ maybeSession x maint mark md owed ⌝ }
 {
-    let range = (x < 6) & ((maint < 2) & ((mark < 2) & ((md < 2) & (owed < 2))));
+    let range = (x < 7) & ((maint < 2) & ((mark < 2) & ((md < 2) & (owed < 2))));
     let removing = (x == 5) | ((md == 0) & (owed == 0));
     let none = !(x == 0) | ((maint == 0) & (mark == 0));
     range & (removing & none)

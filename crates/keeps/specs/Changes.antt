@@ -78,7 +78,7 @@ normal-owes : (st : State) → isNormal st ≡ true → owes st ≡ true
 normal-owes State.Free e = refl
 normal-owes State.Created e = refl
 normal-owes State.Normal e = refl
-normal-owes State.Failed e = clash e refl
+normal-owes (State.Failed cause) e = clash e refl
 normal-owes State.Reconnecting e = refl
 normal-owes (State.Removing m owed) e = clash e refl
 

@@ -148,7 +148,7 @@ free-plain : (st : State) → isFree st ≡ true → isNormal st ≡ false
 free-plain State.Free e = refl
 free-plain State.Created e = refl
 free-plain State.Normal e = sym e
-free-plain State.Failed e = refl
+free-plain (State.Failed cause) e = refl
 free-plain State.Reconnecting e = refl
 free-plain (State.Removing m owed) e = refl
 

@@ -10,12 +10,12 @@ use Rattle.laws.specs.Tests.{by-cases, clash, and-left}
 use Rattle.refusals.specs.Limits.{versionLimit, versionTop}
 use Rattle.sets.specs.Sets.{has, with}
 use Rattle.sets.proofs.Laws.{size-le, size-with, size-some}
+use Rattle.state.specs.declared.Cause.{Cause}
 use Rattle.state.specs.declared.State.{State}
 use Rattle.state.specs.declared.Session.{Session}
 use Rattle.state.specs.declared.Roster.{Roster}
 use Rattle.state.specs.Session.{isFree, isNormal, isFailed, isReconnecting, isRemoving, moved, marked, flagged}
 use Rattle.roster.specs.declared.Kind.{Kind}
-use Rattle.changes.specs.declared.Cause.{Cause}
 use Rattle.changes.specs.declared.Way.{Way}
 use Rattle.roster.specs.Roster.{sessionAt, stored, odd, idsOf}
 use Rattle.changes.specs.Changes.{more, numbered, entered, arrived, left, failed, went, flaggedAt}
@@ -46,8 +46,8 @@ bear-parts : (x y member : Bool) → member ≡ true → ((x && false) || ((fals
 bear-parts true y member e = rw e refl
 bear-parts false y member e = rw e refl
 
-failed-bears : (member maint mark : Bool) → member ≡ true → oddBy false member State.Failed maint mark ≡ false
-failed-bears member maint mark e = bear-parts (mark || maint) (mark || (maint || false)) member e
+failed-bears : (cause : Cause) (member maint mark : Bool) → member ≡ true → oddBy false member (State.Failed cause) maint mark ≡ false
+failed-bears cause member maint mark e = bear-parts (mark || maint) (mark || (maint || false)) member e
 
 pub reconnecting-bears : (member maint mark : Bool) → member ≡ true → oddBy false member State.Reconnecting maint mark ≡ false
 reconnecting-bears member maint mark e = bear-parts (mark || maint) (mark || (maint || true)) member e
@@ -67,11 +67,11 @@ sync-plain st member maint mark e =
     sync-parts (not (isFailed st || isReconnecting st)) (isReconnecting st) (not true && (not (isFree st || isRemoving st) && not member)) maint mark e
 
 -- what becomes FAILED keeps its flag and its mark
-failed-even : (st : State) (sync member maint mark mark′ : Bool) → isLive st ≡ true → oddBy sync member st maint mark ≡ false → (sync ≡ true → mark′ ≡ false) → oddBy sync member State.Failed (maint && true) mark′ ≡ false
-failed-even st true member maint mark mark′ l e z =
+failed-even : (cause : Cause) (st : State) (sync member maint mark mark′ : Bool) → isLive st ≡ true → oddBy sync member st maint mark ≡ false → (sync ≡ true → mark′ ≡ false) → oddBy sync member (State.Failed cause) (maint && true) mark′ ≡ false
+failed-even cause st true member maint mark mark′ l e z =
     let q = sync-plain st member maint mark e in
     rw (z refl, q .1) refl
-failed-even st false member maint mark mark′ l e z = failed-bears member (maint && true) mark′ (live-member st member maint mark l e)
+failed-even cause st false member maint mark mark′ l e z = failed-bears cause member (maint && true) mark′ (live-member st member maint mark l e)
 
 -- ---- numbers
 
@@ -85,7 +85,7 @@ pub normal-live : (st : State) → isNormal st ≡ true → isLive st ≡ true
 normal-live State.Free e = e
 normal-live State.Created e = refl
 normal-live State.Normal e = refl
-normal-live State.Failed e = refl
+normal-live (State.Failed cause) e = refl
 normal-live State.Reconnecting e = refl
 normal-live (State.Removing m owed) e = e
 
@@ -106,7 +106,7 @@ arrived-mark Way.Maintenance s last e = refl
 arrived-mark (Way.Removing mode owed) s last e = clash refl (sym e)
 
 arrived-even : (w : Way) (members id : ℕ) (s : Session) (last : Bool) → stays w ≡ true → has members id ≡ true → odd false members id (arrived s w last) ≡ false
-arrived-even (Way.Failed cause) members id s last e m = failed-bears (has members id) (s .maintenance && true) last m
+arrived-even (Way.Failed cause) members id s last e m = failed-bears cause (has members id) (s .maintenance && true) last m
 arrived-even Way.Maintenance members id s last e m = reconnecting-bears (has members id) true last m
 arrived-even (Way.Removing mode owed) members id s last e m = clash refl (sym e)
 
@@ -130,7 +130,7 @@ away-keeps ro id w v h sync was st =
 -- ---- a session enters FAILED
 
 -- in a sync pool: only the state
-sync-away : (ro : Roster) (id : ℕ) (cause : Cause) → ro .sync ≡ true → left ro id (Way.Failed cause) ≡ stored ro id (marked (moved (sessionAt ro id) State.Failed) false)
+sync-away : (ro : Roster) (id : ℕ) (cause : Cause) → ro .sync ≡ true → left ro id (Way.Failed cause) ≡ stored ro id (marked (moved (sessionAt ro id) (State.Failed cause)) false)
 unfolding left
 sync-away ro id cause e = rw e refl
 
@@ -138,15 +138,15 @@ normal-fails : (ro : Roster) (id : ℕ) (cause : Cause) → Ok ro → id < 16 �
 normal-fails ro id cause v h was true sync =
     let e : odd true (ro .members) id (sessionAt ro id) ≡ false = rw sync at (v .even id h) in
     subst Ok (sym (sync-away ro id cause sync))
-    (sync-keeps ro id (marked (moved (sessionAt ro id) State.Failed) false) v h sync
-    (failed-even (sessionAt ro id .state) true (has (ro .members) id) (sessionAt ro id .maintenance) (sessionAt ro id .mark) false (normal-live (sessionAt ro id .state) was) e (λ _. refl)))
+    (sync-keeps ro id (marked (moved (sessionAt ro id) (State.Failed cause)) false) v h sync
+    (failed-even cause (sessionAt ro id .state) true (has (ro .members) id) (sessionAt ro id .maintenance) (sessionAt ro id .mark) false (normal-live (sessionAt ro id .state) was) e (λ _. refl)))
 normal-fails ro id cause v h was false sync = away-keeps ro id (Way.Failed cause) v h sync was refl
 
-other-fails : (ro : Roster) (id : ℕ) → Ok ro → id < 16 → isNormal (sessionAt ro id .state) ≡ false → isLive (sessionAt ro id .state) ≡ true → Ok (stored ro id (moved (sessionAt ro id) State.Failed))
-other-fails ro id v h was live =
-    quiet-keeps ro id (moved (sessionAt ro id) State.Failed) v h was refl
+other-fails : (ro : Roster) (id : ℕ) (cause : Cause) → Ok ro → id < 16 → isNormal (sessionAt ro id .state) ≡ false → isLive (sessionAt ro id .state) ≡ true → Ok (stored ro id (moved (sessionAt ro id) (State.Failed cause)))
+other-fails ro id cause v h was live =
+    quiet-keeps ro id (moved (sessionAt ro id) (State.Failed cause)) v h was refl
     (λ e. and-left (sessionAt ro id .mark) true e)
-    (failed-even (sessionAt ro id .state) (ro .sync) (has (ro .members) id) (sessionAt ro id .maintenance) (sessionAt ro id .mark) (sessionAt ro id .mark && true) live (v .even id h)
+    (failed-even cause (sessionAt ro id .state) (ro .sync) (has (ro .members) id) (sessionAt ro id .maintenance) (sessionAt ro id .mark) (sessionAt ro id .mark && true) live (v .even id h)
     (λ z. let e : odd true (ro .members) id (sessionAt ro id) ≡ false = rw z at (v .even id h) in
     rw (sync-plain (sessionAt ro id .state) (has (ro .members) id) (sessionAt ro id .maintenance) (sessionAt ro id .mark) e .0) refl))
 
@@ -154,8 +154,8 @@ pub failed-keeps : (ro : Roster) (id : ℕ) (cause : Cause) → Ok ro → id < 1
 unfolding failed
 failed-keeps ro id cause v h live =
     by-cases (isNormal (sessionAt ro id .state))
-    (λ e. subst Ok (sym (ap (λ (b : Bool). pick b (left ro id (Way.Failed cause)) (stored ro id (moved (sessionAt ro id) State.Failed))) e)) (normal-fails ro id cause v h e (ro .sync) refl))
-    (λ e. subst Ok (sym (ap (λ (b : Bool). pick b (left ro id (Way.Failed cause)) (stored ro id (moved (sessionAt ro id) State.Failed))) e)) (other-fails ro id v h e live))
+    (λ e. subst Ok (sym (ap (λ (b : Bool). pick b (left ro id (Way.Failed cause)) (stored ro id (moved (sessionAt ro id) (State.Failed cause)))) e)) (normal-fails ro id cause v h e (ro .sync) refl))
+    (λ e. subst Ok (sym (ap (λ (b : Bool). pick b (left ro id (Way.Failed cause)) (stored ro id (moved (sessionAt ro id) (State.Failed cause)))) e)) (other-fails ro id cause v h e live))
 
 -- ---- a session that is not NORMAL enters RECONNECTING, or leaves maintenance
 
@@ -172,7 +172,7 @@ reconnecting-is : (st : State) → isReconnecting st ≡ true → (isNormal st �
 reconnecting-is State.Free e = clash refl (sym e)
 reconnecting-is State.Created e = clash refl (sym e)
 reconnecting-is State.Normal e = clash refl (sym e)
-reconnecting-is State.Failed e = clash refl (sym e)
+reconnecting-is (State.Failed cause) e = clash refl (sym e)
 reconnecting-is State.Reconnecting e = (refl, refl, refl)
 reconnecting-is (State.Removing m owed) e = clash refl (sym e)
 

@@ -7,10 +7,10 @@ use native.Mathlib.Omega.{arith}
 use lib.Dec.{eqb}
 use Rattle.laws.specs.Words.{pick}
 use Rattle.laws.specs.Tests.{by-cases, clash, and-false}
+use Rattle.state.specs.declared.Cause.{Cause}
 use Rattle.state.specs.declared.State.{State}
 use Rattle.state.specs.declared.Roster.{Roster}
 use Rattle.state.specs.Session.{isNormal, isFailed, isReconnecting, newSession, moved, marked}
-use Rattle.changes.specs.declared.Cause.{Cause}
 use Rattle.changes.specs.declared.Way.{Way}
 use Rattle.roster.specs.Roster.{sessionAt, outside, unsynced}
 use Rattle.changes.specs.Changes.{more, numbered, allUnmarked, entered, arrived, left, failed}
@@ -108,19 +108,19 @@ left-long ro id w l =
 -- ---- a session enters FAILED: it keeps its flag, and its mark unless it was NORMAL; the last NORMAL one is marked
 
 pub failed-at : (ro : Roster) (id : ℕ) (cause : Cause) → Long ro → id < 16
-    → sessionAt (failed ro id cause) id ≡ marked (moved (sessionAt ro id) State.Failed) (pick (isNormal (sessionAt ro id .state)) (isLast ro) (sessionAt ro id .mark))
+    → sessionAt (failed ro id cause) id ≡ marked (moved (sessionAt ro id) (State.Failed cause)) (pick (isNormal (sessionAt ro id .state)) (isLast ro) (sessionAt ro id .mark))
 unfolding failed
 failed-at ro id cause l h =
     by-cases (isNormal (sessionAt ro id .state))
     (λ e. rw e (left-at ro id (Way.Failed cause) l h))
-    (λ e. rw e (stored-same ro id (moved (sessionAt ro id) State.Failed) l h ∙ ap (λ (b : Bool). marked (moved (sessionAt ro id) State.Failed) b) (and-true (sessionAt ro id .mark))))
+    (λ e. rw e (stored-same ro id (moved (sessionAt ro id) (State.Failed cause)) l h ∙ ap (λ (b : Bool). marked (moved (sessionAt ro id) (State.Failed cause)) b) (and-true (sessionAt ro id .mark))))
 
 pub failed-other : (ro : Roster) (id : ℕ) (cause : Cause) (j : ℕ) → j ≢ id → sessionAt (failed ro id cause) j ≡ sessionAt ro j
 unfolding failed
 failed-other ro id cause j p =
     by-cases (isNormal (sessionAt ro id .state))
     (λ e. rw e (left-other ro id (Way.Failed cause) j p))
-    (λ e. rw e (stored-other ro id (moved (sessionAt ro id) State.Failed) j p))
+    (λ e. rw e (stored-other ro id (moved (sessionAt ro id) (State.Failed cause)) j p))
 
 -- in a pool that counts, one that was NORMAL
 pub normal-failed : (ro : Roster) (id : ℕ) (cause : Cause) → ro .sync ≡ false → isNormal (sessionAt ro id .state) ≡ true → Numbers ro (failed ro id cause) (ro .count - 1) (more (ro .version)) (ro .members)

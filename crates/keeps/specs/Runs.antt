@@ -92,7 +92,7 @@ reconnecting-parts : (st : State) (maint mark member : Bool) → (isReconnecting
 reconnecting-parts State.Free maint mark member c e = clash c refl
 reconnecting-parts State.Created maint mark member c e = clash c refl
 reconnecting-parts State.Normal maint mark member c e = clash c refl
-reconnecting-parts State.Failed maint mark member c e = clash c refl
+reconnecting-parts (State.Failed cause) maint mark member c e = clash c refl
 reconnecting-parts State.Reconnecting maint true true c e = refl
 reconnecting-parts State.Reconnecting true false true c e = refl
 reconnecting-parts State.Reconnecting false false true c e = refl
@@ -112,7 +112,7 @@ candidate-parts : (st : State) (b : Bool) → (isReconnecting st && b) ≡ true 
 candidate-parts State.Free b e = refl
 candidate-parts State.Created b e = refl
 candidate-parts State.Normal b e = clash e refl
-candidate-parts State.Failed b e = refl
+candidate-parts (State.Failed cause) b e = refl
 candidate-parts State.Reconnecting b e = refl
 candidate-parts (State.Removing m owed) b e = refl
 

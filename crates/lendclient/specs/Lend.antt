@@ -17,6 +17,7 @@ lender (forms.Event.Enable id) = 16
 lender (forms.Event.Maintenance id) = 16
 lender (forms.Event.LinkDown id) = 16
 lender (forms.Event.StoreCheck id) = 16
+lender (forms.Event.Rejoin id) = 16
 lender forms.Event.Try = 16
 lender (forms.Event.Remove id mode) = 16
 lender (forms.Event.Write chunk reached) = 16

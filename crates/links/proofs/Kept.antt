@@ -1,27 +1,28 @@
--- Link down, store check and try, accepted or refused, keep the state rules; and what they leave of the sessions.
-use mathlib.Core.Path.{_≡_, refl, sym, ap, _∙_}
+-- Link down, store check, rejoin and try, accepted or refused, keep the state rules; and what they leave of the sessions.
+use mathlib.Core.Path.{_≡_, refl, sym, ap, _∙_, subst}
 use mathlib.Core.Bool.{Bool, true, false, not, _&&_, _||_}
 use mathlib.Core.Logic.{_≢_}
 use Prim.Native.Nat.{ℕ, _+_, _-_, _<_}
 use native.Mathlib.Decide.{ℕ-discrete}
 use native.Mathlib.Omega.{arith}
 use lib.Dec.{eqb, ltb}
-use borrow.Author.Tests.{eqb-true, ltb-false, not-false}
+use borrow.Author.Tests.{eqb-true, eq-eqb, ltb-false, not-false}
 use Rattle.laws.specs.Words.{pick}
-use Rattle.laws.specs.Tests.{by-cases, clash, passed, and-left, and-right}
+use Rattle.laws.specs.Tests.{by-cases, clash, passed, and-left, and-right, all-at}
 use Rattle.refusals.specs.Limits.{versionTop}
+use Rattle.state.specs.declared.Cause.{Cause}
 use Rattle.state.specs.declared.State.{State}
 use Rattle.state.specs.declared.Roster.{Roster}
 use Rattle.state.specs.declared.Job.{Job}
 use Rattle.state.specs.declared.Pool.{Pool}
-use Rattle.state.specs.Session.{isFree, isCreated, isNormal, isFailed, isReconnecting, isRemoving, moved, marked}
-use Rattle.changes.specs.declared.Cause.{Cause}
+use Rattle.state.specs.declared.Turn.{Turn}
+use Rattle.state.specs.Session.{isFree, isCreated, isNormal, isFailed, isCut, isReconnecting, isRemoving, moved, marked}
 use Rattle.roster.specs.Roster.{sessionAt}
 use Rattle.changes.specs.Changes.{more, entered, went}
 use Rattle.recovery.specs.Recovery.{withRoster, runEnded}
-use Rattle.exits.specs.Exit.{haltedIf}
-use Rattle.exits.proofs.Laws.{pools, turned, halts}
-use Rattle.rules.specs.Rules.{validPool}
+use Rattle.exits.specs.Exit.{refused, haltedIf}
+use Rattle.exits.proofs.Laws.{pools, turned, refuses, halts}
+use Rattle.rules.specs.Rules.{validPool, runRules, runOk}
 use Rattle.rules.specs.Jobs.{isIdle, isRunning, isPeer}
 use Rattle.keeps.specs.Ids.{Long, stored-same, stored-other}
 use Rattle.keeps.specs.Rosters.{Ok, more-le}
@@ -30,13 +31,13 @@ use Rattle.keeps.specs.Runs.{run-facts, run-room}
 use Rattle.keeps.specs.Links.{isLive, counted, failed-keeps, reconnects-keeps, sync-enters}
 use Rattle.keeps.specs.Tried.{idle-valid, ended-keeps, tried-keeps, tried-roster}
 use Rattle.keeps.specs.Records.{Numbers, isLast, entered-at, sync-entered-other, entered-numbers, failed-at, failed-other, normal-failed, other-failed, raisedIf}
-use Rattle.links.specs.Links.{drops, downRefusal, dropped, downAt, downDone, linkDown, checks, checkRefusal, checkDone, storeCheck, tryRefusal, tryRun}
+use Rattle.links.specs.Links.{drops, downRefusal, dropped, downAt, downDone, linkDown, backRefusal, checks, checkRefusal, checkDone, storeCheck, rejoinRefusal, rejoin, tryRefusal, tryRun}
 
 checks-are : (st : State) (sync : Bool) → (isFailed st || (isCreated st && not sync)) ≡ true → (isNormal st ≡ false) × (isLive st ≡ true)
 checks-are State.Free sync e = clash refl (sym e)
 checks-are State.Created sync e = (refl, refl)
 checks-are State.Normal sync e = clash refl (sym e)
-checks-are State.Failed sync e = (refl, refl)
+checks-are (State.Failed cause) sync e = (refl, refl)
 checks-are State.Reconnecting sync e = clash refl (sym e)
 checks-are (State.Removing m owed) sync e = clash refl (sym e)
 
@@ -72,7 +73,7 @@ normal-lives : (st : State) → isNormal st ≡ true → isRemoving st ≡ false
 normal-lives State.Free e = refl
 normal-lives State.Created e = refl
 normal-lives State.Normal e = refl
-normal-lives State.Failed e = refl
+normal-lives (State.Failed cause) e = refl
 normal-lives State.Reconnecting e = refl
 normal-lives (State.Removing m owed) e = clash e refl
 
@@ -93,7 +94,7 @@ dropped-keeps p id v h =
 -- What link down leaves of the sessions: it is FAILED, with its flag, and with its mark unless it was NORMAL; a REMOVING one stays, and so do the others.
 pub dropped-at : (ro : Roster) (id : ℕ) → Long ro → id < 16
     → sessionAt (dropped ro id) id
-    ≡ pick (isRemoving (sessionAt ro id .state)) (sessionAt ro id) (marked (moved (sessionAt ro id) State.Failed) (pick (isNormal (sessionAt ro id .state)) (isLast ro) (sessionAt ro id .mark)))
+    ≡ pick (isRemoving (sessionAt ro id .state)) (sessionAt ro id) (marked (moved (sessionAt ro id) (State.Failed Cause.Link)) (pick (isNormal (sessionAt ro id .state)) (isLast ro) (sessionAt ro id .mark)))
 unfolding dropped
 dropped-at ro id l h = by-cases (isRemoving (sessionAt ro id .state)) (λ e. rw e refl) (λ e. rw e (failed-at ro id Cause.Link l h))
 
@@ -166,22 +167,50 @@ down-roster Job.Idle p id = refl
 down-roster (Job.Running r) p id = tried-roster (runEnded (withRoster p (dropped (p .roster) id)))
 down-roster (Job.Removing m) p id = halted-roster (isPeer (Job.Removing m) id) (withRoster p (dropped (p .roster) id))
 
--- ---- store check good
+-- ---- store check good, rejoin good
 
-pub record Checks (p : Pool) (id : ℕ) : Type 0 where
+-- an event that brings a session back, not refused
+pub record Backs (p : Pool) (id : ℕ) (allowed : Bool) : Type 0 where
   pub below : id < 16
   pub idle : isIdle (p .job) ≡ true
-  pub may : checks (p .roster .sync) (sessionAt (p .roster) id .state) ≡ true
+  pub may : allowed ≡ true
 
-pub check-passed : (p : Pool) (id : ℕ) → checkRefusal p id ≡ 0 → Checks p id
-unfolding checkRefusal
-check-passed p id e =
+back-passed : (p : Pool) (id : ℕ) (may : Bool) → backRefusal p id may ≡ 0 → Backs p id may
+unfolding backRefusal
+back-passed p id may e =
     let a = passed (not (validPool p)) 1 _ (λ h. omega arith) e in
     let b = passed (ltb 15 id) 3 _ (λ h. omega arith) (a .1) in
     let c = passed (not (isIdle (p .job))) 6 _ (λ h. omega arith) (b .1) in
     let d = passed (isFree (sessionAt (p .roster) id .state)) 7 _ (λ h. omega arith) (c .1) in
-    let f = passed (not (checks (p .roster .sync) (sessionAt (p .roster) id .state))) 9 _ (λ h. omega arith) (d .1) in
-    record { below = omega (arith, ltb-false 15 id (b .0)); idle = not-false _ (c .0); may = not-false _ (f .0) }
+    let f = passed (not may) 9 _ (λ h. omega arith) (d .1) in
+    record { below = omega (arith, ltb-false 15 id (b .0)); idle = not-false _ (c .0); may = not-false may (f .0) }
+
+abbrev pub Checks : Pool → ℕ → Type 0
+Checks p id = Backs p id (checks (p .roster .sync) (sessionAt (p .roster) id .state))
+
+pub check-passed : (p : Pool) (id : ℕ) → checkRefusal p id ≡ 0 → Checks p id
+unfolding checkRefusal backRefusal
+check-passed p id e = back-passed p id (checks (p .roster .sync) (sessionAt (p .roster) id .state)) e
+
+pub rejoin-passed : (p : Pool) (id : ℕ) → rejoinRefusal p id ≡ 0 → Backs p id (isCut (sessionAt (p .roster) id .state))
+unfolding rejoinRefusal backRefusal
+rejoin-passed p id e = back-passed p id (isCut (sessionAt (p .roster) id .state)) e
+
+-- a session with cause link may be checked
+cut-checks : (sync : Bool) (st : State) → isCut st ≡ true → checks sync st ≡ true
+unfolding checks
+cut-checks sync State.Free e = clash e refl
+cut-checks sync State.Created e = clash e refl
+cut-checks sync State.Normal e = clash e refl
+cut-checks sync (State.Failed cause) e = refl
+cut-checks sync State.Reconnecting e = clash e refl
+cut-checks sync (State.Removing m owed) e = clash e refl
+
+-- so where a rejoin is not refused a store check is not refused either
+pub rejoin-checks : (p : Pool) (id : ℕ) → rejoinRefusal p id ≡ 0 → Checks p id
+rejoin-checks p id e =
+    let h = rejoin-passed p id e in
+    record { below = h .below; idle = h .idle; may = cut-checks (p .roster .sync) (sessionAt (p .roster) id .state) (h .may) }
 
 went-sync : (ro : Roster) (id : ℕ) → ro .sync ≡ false → went ro id State.Reconnecting .sync ≡ false
 unfolding went
@@ -201,7 +230,31 @@ pub check-keeps : (p : Pool) (id : ℕ) → Valid p → Valid (storeCheck p id .
 unfolding storeCheck
 check-keeps p id v = turned Valid (checkRefusal p id) (checkDone p id) p v (λ e. check-does p id v (check-passed p id e))
 
--- What a good store check leaves of the sessions: it is RECONNECTING, never NORMAL, save in a sync pool; the others stay.
+pub rejoin-keeps : (p : Pool) (id : ℕ) → Valid p → Valid (rejoin p id .pool)
+unfolding rejoin
+rejoin-keeps p id v = turned Valid (rejoinRefusal p id) (checkDone p id) p v (λ e. check-does p id v (rejoin-checks p id e))
+
+-- a rejoin that is not refused is the store check
+check-taken : (p : Pool) (id : ℕ) → rejoinRefusal p id ≡ 0 → checkRefusal p id ≡ 0
+unfolding rejoinRefusal checkRefusal backRefusal
+check-taken p id e = ap (λ (b : Bool). backRefusal p id b) (rejoin-checks p id e .may ∙ sym (rejoin-passed p id e .may)) ∙ e
+
+pub rejoin-same : (p : Pool) (id : ℕ) → rejoinRefusal p id ≡ 0 → rejoin p id ≡ storeCheck p id
+unfolding rejoin storeCheck
+rejoin-same p id e = rw (eq-eqb (rejoinRefusal p id) 0 e, eq-eqb (checkRefusal p id) 0 (check-taken p id e)) refl
+
+rejoin-refused : (p : Pool) (id : ℕ) → eqb (rejoinRefusal p id) 0 ≡ false → rejoin p id ≡ refused p (rejoinRefusal p id)
+unfolding rejoin
+rejoin-refused p id z = refuses (rejoinRefusal p id) (checkDone p id) p z
+
+-- so what holds of a refusal and of the store check holds of the rejoin
+pub as-check : (P : Turn → Type 0) (p : Pool) (id : ℕ) → ((n : ℕ) → P (refused p n)) → P (storeCheck p id) → P (rejoin p id)
+as-check P p id r s =
+    by-cases (eqb (rejoinRefusal p id) 0)
+    (λ z. subst P (sym (rejoin-same p id (eqb-true (rejoinRefusal p id) 0 z))) s)
+    (λ z. subst P (sym (rejoin-refused p id z)) (r (rejoinRefusal p id)))
+
+-- What a good store check or a good rejoin leaves of the sessions: it is RECONNECTING, never NORMAL, save in a sync pool; the others stay.
 pub checked-at : (p : Pool) (id : ℕ) → Long (p .roster) → id < 16
     → sessionAt (checkDone p id .pool .roster) id ≡ moved (sessionAt (p .roster) id) (pick (p .roster .sync) State.Normal State.Reconnecting)
 unfolding checkDone went

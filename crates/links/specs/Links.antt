@@ -1,10 +1,11 @@
--- Link down, store check good, try.
+-- Link down, store check good, rejoin good, try.
 use mathlib.Core.Bool.{Bool, _&&_, _||_, not}
 use mathlib.Core.List.{List, [], _∷_}
 use Prim.Native.Nat.{ℕ}
 use lib.Dec.{eqb, ltb}
 use Rattle.laws.specs.Words.{pick}
 use Rattle.refusals.specs.Refusals.{Test, test, refusal}
+use Rattle.state.specs.declared.Cause.{Cause}
 use Rattle.state.specs.declared.State.{State}
 use Rattle.state.specs.declared.Roster.{Roster}
 use Rattle.state.specs.declared.Job.{Job}
@@ -14,8 +15,7 @@ use Rattle.state.specs.declared.Told.{Told}
 use Rattle.state.specs.declared.Outcome.{Outcome}
 use Rattle.state.specs.declared.Effect.{Effect}
 use Rattle.state.specs.declared.Turn.{Turn}
-use Rattle.state.specs.Session.{isFree, isCreated, isNormal, isFailed, isReconnecting, isRemoving}
-use Rattle.changes.specs.declared.Cause.{Cause}
+use Rattle.state.specs.Session.{isFree, isCreated, isNormal, isFailed, isCut, isReconnecting, isRemoving}
 use Rattle.roster.specs.Roster.{sessionAt}
 use Rattle.changes.specs.Changes.{entered, failed, went}
 use Rattle.run.specs.Run.{receiver}
@@ -64,6 +64,21 @@ downDone p id = downAt (p .job) p id
 unfoldable pub linkDown : Pool → ℕ → Turn
 linkDown p id = pick (eqb (downRefusal p id) 0) (downDone p id) (refused p (downRefusal p id))
 
+-- ---- a session is brought back: store check good, rejoin good
+
+-- the tests of either event, where `may` says that the transition is allowed
+abbrev pub backTests : Pool → ℕ → Bool → List Test
+backTests p id may =
+    test 1 (not (validPool p))
+    ∷ test 3 (ltb 15 id)
+    ∷ test 6 (not (isIdle (p .job)))
+    ∷ test 7 (isFree (sessionAt (p .roster) id .state))
+    ∷ test 9 (not may)
+    ∷ []
+
+unfoldable pub backRefusal : Pool → ℕ → Bool → ℕ
+backRefusal p id may = refusal (backTests p id may)
+
 -- ---- store check good
 
 -- FAILED; in a non-sync pool CREATED too
@@ -71,13 +86,7 @@ unfoldable pub checks : Bool → State → Bool
 checks sync st = isFailed st || (isCreated st && not sync)
 
 abbrev pub checkTests : Pool → ℕ → List Test
-checkTests p id =
-    test 1 (not (validPool p))
-    ∷ test 3 (ltb 15 id)
-    ∷ test 6 (not (isIdle (p .job)))
-    ∷ test 7 (isFree (sessionAt (p .roster) id .state))
-    ∷ test 9 (not (checks (p .roster .sync) (sessionAt (p .roster) id .state)))
-    ∷ []
+checkTests p id = backTests p id (checks (p .roster .sync) (sessionAt (p .roster) id .state))
 
 unfoldable pub checkRefusal : Pool → ℕ → ℕ
 checkRefusal p id = refusal (checkTests p id)
@@ -91,6 +100,19 @@ checkDone p id =
 
 unfoldable pub storeCheck : Pool → ℕ → Turn
 storeCheck p id = pick (eqb (checkRefusal p id) 0) (checkDone p id) (refused p (checkRefusal p id))
+
+-- ---- rejoin good
+
+-- FAILED with cause link, in either kind of pool
+abbrev pub rejoinTests : Pool → ℕ → List Test
+rejoinTests p id = backTests p id (isCut (sessionAt (p .roster) id .state))
+
+unfoldable pub rejoinRefusal : Pool → ℕ → ℕ
+rejoinRefusal p id = refusal (rejoinTests p id)
+
+-- it brings back exactly as a good store check does
+unfoldable pub rejoin : Pool → ℕ → Turn
+rejoin p id = pick (eqb (rejoinRefusal p id) 0) (checkDone p id) (refused p (rejoinRefusal p id))
 
 -- ---- try
 

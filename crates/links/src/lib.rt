@@ -1,8 +1,8 @@
-// Link down, store check good, try.
+// Link down, store check good, rejoin good, try.
 ghost use mathlib.Core.Path.{_≡_};
-ghost use Rattle.links.specs.Links.{drops, downRefusal, dropped, downAt, downDone, linkDown, checks, checkRefusal, checkDone, storeCheck, tryRefusal, tryRun};
-use changes::Cause;
+ghost use Rattle.links.specs.Links.{drops, downRefusal, dropped, downAt, downDone, linkDown, backRefusal, checks, checkRefusal, checkDone, storeCheck, rejoinRefusal, rejoin, tryRefusal, tryRun};
 use refusals::first;
+use state::Cause;
 use state::Effect;
 use state::Job;
 use state::Message;
@@ -101,8 +101,9 @@ fn may_check(sync: bool, st: State) -> bool
     state::is_failed(st) | (state::is_created(st) & !sync)
 }
 
-fn check_refusal(p: Pool, id: u64) -> u64
-    ensures { λ r. ⌜ r ≡ checkRefusal p id ⌝ }
+// The refusal of an event that brings a session back, told whether the transition is allowed.
+fn back_refusal(p: Pool, id: u64, may: bool) -> u64
+    ensures { λ r. ⌜ r ≡ backRefusal p id may ⌝ }
 {
     let ok = rules::valid(p);
     let ro = p.roster;
@@ -111,7 +112,6 @@ fn check_refusal(p: Pool, id: u64) -> u64
     let st = s.state;
     let idle = rules::jobs::is_idle(j);
     let free = state::is_free(st);
-    let may = may_check(ro.sync, st);
     first(
         !ok,
         1,
@@ -121,6 +121,16 @@ fn check_refusal(p: Pool, id: u64) -> u64
             first(!idle, 6, first(free, 7, first(!may, 9, 0))),
         ),
     )
+}
+
+fn check_refusal(p: Pool, id: u64) -> u64
+    ensures { λ r. ⌜ r ≡ checkRefusal p id ⌝ }
+{
+    let ro = p.roster;
+    let s = roster::session(ro, id);
+    let st = s.state;
+    let may = may_check(ro.sync, st);
+    back_refusal(p, id, may)
 }
 
 fn check_done(p: Pool, id: u64) -> Turn
@@ -140,6 +150,26 @@ pub fn store_check(p: Pool, id: u64) -> Turn
     ensures { λ r. ⌜ r ≡ storeCheck p id ⌝ }
 {
     let why = check_refusal(p, id);
+    if why != 0 {
+        return exits::refuse(p, why);
+    }
+    check_done(p, id)
+}
+
+fn rejoin_refusal(p: Pool, id: u64) -> u64
+    ensures { λ r. ⌜ r ≡ rejoinRefusal p id ⌝ }
+{
+    let ro = p.roster;
+    let s = roster::session(ro, id);
+    let st = s.state;
+    let cut = state::is_cut(st);
+    back_refusal(p, id, cut)
+}
+
+pub fn rejoin(p: Pool, id: u64) -> Turn
+    ensures { λ r. ⌜ r ≡ rejoin p id ⌝ }
+{
+    let why = rejoin_refusal(p, id);
     if why != 0 {
         return exits::refuse(p, why);
     }

@@ -155,6 +155,9 @@ WRITTEN = 49
 abbrev pub ASSEMBLED : ℕ
 ASSEMBLED = 50
 
+abbrev pub REJOIN : ℕ
+REJOIN = 51
+
 -- the code of what is no word
 abbrev pub UNKNOWN : ℕ
 UNKNOWN = 255
@@ -239,7 +242,8 @@ unfoldable pub namesG : List ℕ → ℕ → ℕ
 namesG w rest =
     word w "written" WRITTEN
     (word w "assembled" ASSEMBLED
-    rest)
+    (word w "rejoin" REJOIN
+    rest))
 
 -- The code of a word, UNKNOWN for any other bytes.
 unfoldable pub nameOf : List ℕ → ℕ

@@ -105,6 +105,8 @@ pub const WRITTEN: u64 = 49;
 
 pub const ASSEMBLED: u64 = 50;
 
+pub const REJOIN: u64 = 51;
+
 // The code of what is no word.
 pub const UNKNOWN: u64 = 255;
 
@@ -348,7 +350,7 @@ fn names_g(s: &[u8], rest: u64) -> u64
         s,
         b"written",
         WRITTEN,
-        word(s, b"assembled", ASSEMBLED, rest),
+        word(s, b"assembled", ASSEMBLED, word(s, b"rejoin", REJOIN, rest)),
     )
 }
 

@@ -50,7 +50,7 @@ not-normal : (st : State) → isRemoving st ≡ true → isNormal st ≡ false
 not-normal State.Free e = refl
 not-normal State.Created e = refl
 not-normal State.Normal e = clash e refl
-not-normal State.Failed e = refl
+not-normal (State.Failed cause) e = refl
 not-normal State.Reconnecting e = refl
 not-normal (State.Removing m owed) e = refl
 
@@ -77,7 +77,7 @@ told-lives : (st : State) → isTold st ≡ true → isRemoving st ≡ false
 told-lives State.Free e = refl
 told-lives State.Created e = refl
 told-lives State.Normal e = refl
-told-lives State.Failed e = refl
+told-lives (State.Failed cause) e = refl
 told-lives State.Reconnecting e = refl
 told-lives (State.Removing m owed) e = clash e refl
 

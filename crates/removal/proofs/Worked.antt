@@ -5,6 +5,7 @@ use mathlib.Core.List.{_∷_}
 use Prim.Native.Nat.{ℕ}
 use lib.ListN.{replicate}
 use Rattle.state.specs.declared.Mode.{Mode}
+use Rattle.state.specs.declared.Cause.{Cause}
 use Rattle.state.specs.declared.State.{State}
 use Rattle.state.specs.declared.Stage.{Stage}
 use Rattle.state.specs.declared.Job.{Job}
@@ -37,7 +38,7 @@ three =
     record {
       roster =
           record {
-            sessions = newSession State.Normal ∷ newSession State.Normal ∷ newSession State.Failed ∷ replicate 13 (newSession State.Free);
+            sessions = newSession State.Normal ∷ newSession State.Normal ∷ newSession (State.Failed Cause.Link) ∷ replicate 13 (newSession State.Free);
             count = 2;
             version = 1;
             members = 7;
@@ -54,7 +55,7 @@ lone =
     record {
       roster =
           record {
-            sessions = newSession State.Failed ∷ replicate 15 (newSession State.Free);
+            sessions = newSession (State.Failed Cause.Link) ∷ replicate 15 (newSession State.Free);
             count = 0;
             version = 1;
             members = 1;
@@ -71,7 +72,7 @@ synced =
     record {
       roster =
           record {
-            sessions = newSession State.Failed ∷ replicate 15 (newSession State.Free);
+            sessions = newSession (State.Failed Cause.Link) ∷ replicate 15 (newSession State.Free);
             count = 0;
             version = 1;
             members = 0;

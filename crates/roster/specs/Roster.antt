@@ -8,7 +8,7 @@ use Rattle.laws.specs.Gather.{gather}
 use Rattle.sets.specs.Sets.{has}
 use Rattle.state.specs.declared.Session.{Session}
 use Rattle.state.specs.declared.Roster.{Roster}
-use Rattle.state.specs.Session.{isFree, isNormal, isFailed, isReconnecting, isRemoving, isDeleting, isOwed, isTold, candidate, free}
+use Rattle.state.specs.Session.{isFree, isNormal, isFailed, isCut, isReconnecting, isRemoving, isDeleting, isOwed, isTold, candidate, free}
 use Rattle.roster.specs.declared.Kind.{Kind}
 
 -- ---- one record
@@ -64,6 +64,8 @@ isKind (Kind.Unreached ids) sync members i s = isNormal (s .state) && not (has i
 isKind (Kind.Abnormal ids) sync members i s = has ids i && not (isNormal (s .state))
 isKind Kind.Listed sync members i s = has members i && (not (isNormal (s .state)) && not (isDeleting (s .state)))
 isKind Kind.Odd sync members i s = odd sync members i s
+isKind Kind.Link sync members i s = isCut (s .state)
+isKind Kind.Io sync members i s = isFailed (s .state) && not (isCut (s .state))
 
 -- the set of the ids whose record is of the kind
 unfoldable pub idsOf : Kind → Roster → ℕ

@@ -10,7 +10,7 @@ use state::State;
 
 // What a set of ids is made of. Present: has a session. Maintained: flagged. Owed: REMOVING, and LEAVE_POOL is owed. Told: POOL_INFO goes there; Later: and the id is above the given one. Strays: of the set, no
 // candidate. Reached, Unreached: NORMAL, in the set or not. Abnormal: of the set, not NORMAL. Listed: on the mark list of a write. Odd: the record alone
-// breaks a state rule.
+// breaks a state rule. Link, Io: FAILED with this cause.
 pub enum Kind {
     Present,
     Normals,
@@ -27,6 +27,8 @@ pub enum Kind {
     Abnormal(u64),
     Listed,
     Odd,
+    Link,
+    Io,
 }
 
 pub fn session(ro: Roster, id: u64) -> Session
@@ -105,6 +107,8 @@ fn is_kind(k: Kind, sync: bool, members: u64, i: u64, s: Session) -> bool
         Kind::Abnormal(ids) => sets::has(ids, i) & !state::is_normal(st),
         Kind::Listed => is_listed(members, i, s),
         Kind::Odd => is_odd(sync, members, i, s),
+        Kind::Link => state::is_cut(st),
+        Kind::Io => state::is_failed(st) & !state::is_cut(st),
     }
 }
 

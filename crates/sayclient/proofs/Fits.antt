@@ -125,9 +125,9 @@ client-length p s e =
     rw (joined-length (rosterText (p .roster) ∷ flagsText (p .roster) ∷ jobText (p .job) ∷ outcomeText (s .outcome) ∷ toldText (s .told) ∷ awaitedText (s .awaited) (s .number) ∷ []))
     (omega (arith, roster-length (p .roster) e, flags-length (p .roster), job-length (p .job), outcome-length (s .outcome), told-length (s .told), awaited-length (s .awaited) (s .number)))
 
--- The line of the pool's further fields is at most 64 bytes.
-pub look-length : (p : Pool) → length (lookText p) ≤ 64
+-- The line of the pool's further fields is at most 114 bytes.
+pub look-length : (p : Pool) → length (lookText p) ≤ 114
 unfolding lookText
 look-length p =
-    rw (joined-length (paired (bytes "look written=") (one (p .roster .past .written)) ∷ paired (bytes " assembled=") (one (p .roster .past .assembled)) ∷ []))
-    (omega (arith, pair-length (bytes "look written=") (one (p .roster .past .written)), pair-length (bytes " assembled=") (one (p .roster .past .assembled))))
+    rw (joined-length (paired (bytes "look written=") (one (p .roster .past .written)) ∷ paired (bytes " assembled=") (one (p .roster .past .assembled)) ∷ paired (bytes " link=") (idsOf Kind.Link (p .roster)) ∷ paired (bytes " io=") (idsOf Kind.Io (p .roster)) ∷ []))
+    (omega (arith, pair-length (bytes "look written=") (one (p .roster .past .written)), pair-length (bytes " assembled=") (one (p .roster .past .assembled)), pair-length (bytes " link=") (idsOf Kind.Link (p .roster)), pair-length (bytes " io=") (idsOf Kind.Io (p .roster))))

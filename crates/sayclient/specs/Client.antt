@@ -21,7 +21,7 @@ abbrev pub letterOf : State → ℕ
 letterOf State.Free = 46
 letterOf State.Created = 67
 letterOf State.Normal = 78
-letterOf State.Failed = 70
+letterOf (State.Failed cause) = 70
 letterOf State.Reconnecting = 82
 letterOf (State.Removing mode owed) = 88
 
@@ -74,10 +74,12 @@ clientText p s =
     (rosterText (p .roster) ∷ flagsText (p .roster) ∷ jobText (p .job)
     ∷ outcomeText (s .outcome) ∷ toldText (s .told) ∷ awaitedText (s .awaited) (s .number) ∷ [])
 
--- The further fields: what the pool went through.
+-- The further fields: what the pool went through, and the FAILED sessions by their cause.
 unfoldable pub lookText : Pool → List ℕ
 lookText p =
     joined
     (paired (bytes "look written=") (one (p .roster .past .written))
     ∷ paired (bytes " assembled=") (one (p .roster .past .assembled))
+    ∷ paired (bytes " link=") (idsOf Kind.Link (p .roster))
+    ∷ paired (bytes " io=") (idsOf Kind.Io (p .roster))
     ∷ [])

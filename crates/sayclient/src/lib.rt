@@ -21,7 +21,7 @@ fn letter_of(s: Session) -> u8
         State::Free => 46,
         State::Created => 67,
         State::Normal => 78,
-        State::Failed => 70,
+        State::Failed(cause) => 70,
         State::Reconnecting => 82,
         State::Removing(mode, owed) => 88,
     }
@@ -130,6 +130,12 @@ pub fn put_look(out: &mut [u8], at: usize, p: Pool) -> usize
 {
     let ro = p.roster;
     let past = ro.past;
-    let to = say::put_pair(out, at, b"look written=", numbers::one(past.written));
-    say::put_pair(out, to, b" assembled=", numbers::one(past.assembled))
+    let written = numbers::one(past.written);
+    let assembled = numbers::one(past.assembled);
+    let link = roster::ids(Kind::Link, ro);
+    let io = roster::ids(Kind::Io, ro);
+    let to = say::put_pair(out, at, b"look written=", written);
+    let to = say::put_pair(out, to, b" assembled=", assembled);
+    let to = say::put_pair(out, to, b" link=", link);
+    say::put_pair(out, to, b" io=", io)
 }

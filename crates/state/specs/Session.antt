@@ -1,6 +1,7 @@
 -- One session record: the tests on its state, and the ways to change it; the test on a message.
 use mathlib.Core.Bool.{Bool, true, false, _&&_, _||_, not}
 use Rattle.state.specs.declared.Mode.{Mode}
+use Rattle.state.specs.declared.Cause.{Cause}
 use Rattle.state.specs.declared.State.{State}
 use Rattle.state.specs.declared.Session.{Session}
 use Rattle.state.specs.declared.Message.{Message}
@@ -10,7 +11,7 @@ abbrev pub isFree : State → Bool
 isFree State.Free = true
 isFree State.Created = false
 isFree State.Normal = false
-isFree State.Failed = false
+isFree (State.Failed cause) = false
 isFree State.Reconnecting = false
 isFree (State.Removing m owed) = false
 
@@ -18,7 +19,7 @@ abbrev pub isCreated : State → Bool
 isCreated State.Free = false
 isCreated State.Created = true
 isCreated State.Normal = false
-isCreated State.Failed = false
+isCreated (State.Failed cause) = false
 isCreated State.Reconnecting = false
 isCreated (State.Removing m owed) = false
 
@@ -26,7 +27,7 @@ abbrev pub isNormal : State → Bool
 isNormal State.Free = false
 isNormal State.Created = false
 isNormal State.Normal = true
-isNormal State.Failed = false
+isNormal (State.Failed cause) = false
 isNormal State.Reconnecting = false
 isNormal (State.Removing m owed) = false
 
@@ -34,15 +35,28 @@ abbrev pub isFailed : State → Bool
 isFailed State.Free = false
 isFailed State.Created = false
 isFailed State.Normal = false
-isFailed State.Failed = true
+isFailed (State.Failed cause) = true
 isFailed State.Reconnecting = false
 isFailed (State.Removing m owed) = false
+
+abbrev pub isLink : Cause → Bool
+isLink Cause.Link = true
+isLink Cause.Io = false
+
+-- FAILED with cause link
+abbrev pub isCut : State → Bool
+isCut State.Free = false
+isCut State.Created = false
+isCut State.Normal = false
+isCut (State.Failed cause) = isLink cause
+isCut State.Reconnecting = false
+isCut (State.Removing m owed) = false
 
 abbrev pub isReconnecting : State → Bool
 isReconnecting State.Free = false
 isReconnecting State.Created = false
 isReconnecting State.Normal = false
-isReconnecting State.Failed = false
+isReconnecting (State.Failed cause) = false
 isReconnecting State.Reconnecting = true
 isReconnecting (State.Removing m owed) = false
 
@@ -50,7 +64,7 @@ abbrev pub isRemoving : State → Bool
 isRemoving State.Free = false
 isRemoving State.Created = false
 isRemoving State.Normal = false
-isRemoving State.Failed = false
+isRemoving (State.Failed cause) = false
 isRemoving State.Reconnecting = false
 isRemoving (State.Removing m owed) = true
 
@@ -63,7 +77,7 @@ abbrev pub isDeleting : State → Bool
 isDeleting State.Free = false
 isDeleting State.Created = false
 isDeleting State.Normal = false
-isDeleting State.Failed = false
+isDeleting (State.Failed cause) = false
 isDeleting State.Reconnecting = false
 isDeleting (State.Removing m owed) = isDelete m
 
@@ -72,7 +86,7 @@ abbrev pub isOwed : State → Bool
 isOwed State.Free = false
 isOwed State.Created = false
 isOwed State.Normal = false
-isOwed State.Failed = false
+isOwed (State.Failed cause) = false
 isOwed State.Reconnecting = false
 isOwed (State.Removing m owed) = owed
 
@@ -81,7 +95,7 @@ abbrev pub isTold : State → Bool
 isTold State.Free = false
 isTold State.Created = true
 isTold State.Normal = true
-isTold State.Failed = false
+isTold (State.Failed cause) = false
 isTold State.Reconnecting = true
 isTold (State.Removing m owed) = false
 

@@ -8,6 +8,6 @@ abbrev pub legal : Bool → State → State → Bool
 legal sync State.Free to = false
 legal sync State.Created to = isNormal to || ((isReconnecting to && not sync) || (isFailed to || isRemoving to))
 legal sync State.Normal to = isFailed to || ((isReconnecting to && not sync) || isRemoving to)
-legal sync State.Failed to = (isReconnecting to && not sync) || ((isNormal to && sync) || isRemoving to)
+legal sync (State.Failed cause) to = (isReconnecting to && not sync) || ((isNormal to && sync) || isRemoving to)
 legal sync State.Reconnecting to = (isNormal to && not sync) || (isFailed to || isRemoving to)
 legal sync (State.Removing m owed) to = false

@@ -2,7 +2,7 @@
 // what is left is tested by the state rules.
 ghost use mathlib.Core.Path.{_≡_};
 ghost use Rattle.state.specs.Past.{noPast, inService, pastWritten, pastTakenOver, pastKept};
-ghost use Rattle.state.specs.Session.{isFree, isCreated, isNormal, isFailed, isReconnecting, isRemoving, isDelete, isDeleting, isOwed, isTold, candidate, newSession, moved, flagged, marked, isNothing};
+ghost use Rattle.state.specs.Session.{isFree, isCreated, isNormal, isFailed, isLink, isCut, isReconnecting, isRemoving, isDelete, isDeleting, isOwed, isTold, candidate, newSession, moved, flagged, marked, isNothing};
 
 // Delete takes the member out for good; disassemble leaves it a member.
 pub enum Mode {
@@ -10,12 +10,19 @@ pub enum Mode {
     Disassemble,
 }
 
-// A session's state. Free: the id has no session. REMOVING carries its mode, and whether LEAVE_POOL is still owed.
+// Why a session is FAILED: its link went down, or a write did not reach it.
+pub enum Cause {
+    Link,
+    Io,
+}
+
+// A session's state. Free: the id has no session. FAILED carries its cause, so that a cause stands exactly while a session is FAILED. REMOVING carries its
+// mode, and whether LEAVE_POOL is still owed.
 pub enum State {
     Free,
     Created,
     Normal,
-    Failed,
+    Failed(Cause),
     Reconnecting,
     Removing(Mode, bool),
 }
@@ -179,7 +186,7 @@ pub fn is_free(s: State) -> bool
         State::Free => true,
         State::Created => false,
         State::Normal => false,
-        State::Failed => false,
+        State::Failed(cause) => false,
         State::Reconnecting => false,
         State::Removing(m, owed) => false,
     }
@@ -192,7 +199,7 @@ pub fn is_created(s: State) -> bool
         State::Free => false,
         State::Created => true,
         State::Normal => false,
-        State::Failed => false,
+        State::Failed(cause) => false,
         State::Reconnecting => false,
         State::Removing(m, owed) => false,
     }
@@ -205,7 +212,7 @@ pub fn is_normal(s: State) -> bool
         State::Free => false,
         State::Created => false,
         State::Normal => true,
-        State::Failed => false,
+        State::Failed(cause) => false,
         State::Reconnecting => false,
         State::Removing(m, owed) => false,
     }
@@ -218,7 +225,30 @@ pub fn is_failed(s: State) -> bool
         State::Free => false,
         State::Created => false,
         State::Normal => false,
-        State::Failed => true,
+        State::Failed(cause) => true,
+        State::Reconnecting => false,
+        State::Removing(m, owed) => false,
+    }
+}
+
+fn is_link(cause: Cause) -> bool
+    ensures { λ r. ⌜ r ≡ isLink cause ⌝ }
+{
+    match cause {
+        Cause::Link => true,
+        Cause::Io => false,
+    }
+}
+
+// FAILED with cause link.
+pub fn is_cut(s: State) -> bool
+    ensures { λ r. ⌜ r ≡ isCut s ⌝ }
+{
+    match s {
+        State::Free => false,
+        State::Created => false,
+        State::Normal => false,
+        State::Failed(cause) => is_link(cause),
         State::Reconnecting => false,
         State::Removing(m, owed) => false,
     }
@@ -231,7 +261,7 @@ pub fn is_reconnecting(s: State) -> bool
         State::Free => false,
         State::Created => false,
         State::Normal => false,
-        State::Failed => false,
+        State::Failed(cause) => false,
         State::Reconnecting => true,
         State::Removing(m, owed) => false,
     }
@@ -244,7 +274,7 @@ pub fn is_removing(s: State) -> bool
         State::Free => false,
         State::Created => false,
         State::Normal => false,
-        State::Failed => false,
+        State::Failed(cause) => false,
         State::Reconnecting => false,
         State::Removing(m, owed) => true,
     }
@@ -258,7 +288,7 @@ pub fn is_deleting(s: State) -> bool
         State::Free => false,
         State::Created => false,
         State::Normal => false,
-        State::Failed => false,
+        State::Failed(cause) => false,
         State::Reconnecting => false,
         State::Removing(m, owed) => is_delete(m),
     }
@@ -281,7 +311,7 @@ pub fn is_owed(s: State) -> bool
         State::Free => false,
         State::Created => false,
         State::Normal => false,
-        State::Failed => false,
+        State::Failed(cause) => false,
         State::Reconnecting => false,
         State::Removing(m, owed) => owed,
     }
@@ -295,7 +325,7 @@ pub fn is_told(s: State) -> bool
         State::Free => false,
         State::Created => true,
         State::Normal => true,
-        State::Failed => false,
+        State::Failed(cause) => false,
         State::Reconnecting => true,
         State::Removing(m, owed) => false,
     }

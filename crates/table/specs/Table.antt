@@ -4,6 +4,7 @@ use mathlib.Core.Bool.{true, false}
 use mathlib.Core.List.{List, [], _∷_, _++_}
 use Prim.Native.Nat.{ℕ, zero, suc}
 use lib.ListN.{getD, replicate}
+use Rattle.state.specs.declared.Cause.{Cause}
 use Rattle.state.specs.declared.State.{State}
 use Rattle.state.specs.declared.Job.{Job}
 use Rattle.state.specs.declared.Op.{Op}
@@ -159,9 +160,9 @@ rows =
     -- 0 and 1 created, enabled: count 2, version 1
     ∷ Row.stands both (record { count = 2; version = 1; normal = 3; first = State.Normal; second = State.Normal; mark = 0 })
     -- link 0 down: version 2, 0 unmarked
-    ∷ Row.stands oneDown (record { count = 1; version = 2; normal = 2; first = State.Failed; second = State.Normal; mark = 0 })
+    ∷ Row.stands oneDown (record { count = 1; version = 2; normal = 2; first = State.Failed Cause.Link; second = State.Normal; mark = 0 })
     -- link 1 down: version 3, 1 marked
-    ∷ Row.stands bothDown (record { count = 0; version = 3; normal = 0; first = State.Failed; second = State.Failed; mark = 2 })
+    ∷ Row.stands bothDown (record { count = 0; version = 3; normal = 0; first = State.Failed Cause.Link; second = State.Failed Cause.Link; mark = 2 })
     -- store check 0: no run
     ∷ Row.idle oneChecked
     -- then store check 1: ENABLE 1, READY 0, SEND 1, DONE 0; 4 answers
@@ -172,10 +173,10 @@ rows =
     ∷ Row.leaves oneChecked (Event.storeCheck 1) (wells 4 []) (record { count = 2; version = 4; normal = 3; first = State.Normal; second = State.Normal; mark = 0 })
     -- both NORMAL, write reached {1}: 0 FAILED, list {0}
     ∷ Row.answer both (Event.write zeros 7 2) (sent (Outcome.Written true 1) (Told.Marks 2 7 1 2))
-    ∷ Row.stands (written 2) (record { count = 1; version = 2; normal = 2; first = State.Failed; second = State.Normal; mark = 0 })
+    ∷ Row.stands (written 2) (record { count = 1; version = 2; normal = 2; first = State.Failed Cause.Io; second = State.Normal; mark = 0 })
     -- reached {}: both FAILED, 1 marked, not acknowledged
     ∷ Row.answer both (Event.write zeros 7 0) (sent (Outcome.Written false 0) Told.Nothing)
-    ∷ Row.stands (written 0) (record { count = 0; version = 3; normal = 0; first = State.Failed; second = State.Failed; mark = 2 })
+    ∷ Row.stands (written 0) (record { count = 0; version = 3; normal = 0; first = State.Failed Cause.Io; second = State.Failed Cause.Io; mark = 2 })
     -- case 3, versions 2 and 3: GET 0, GET 1, READY 0, SEND 1, DONE 0, LAST_IO 0, LAST_IO 1, READY 1 (keep), SEND 0, DONE 1, ENABLE 1, READY 0, SEND 1,
     -- DONE 0 (enable); 14 answers
     ∷ Row.asks (Event.joinAssemble 0 3 3 ∷ []) (Event.joinAssemble 1 3 3) (has 2 ∷ has 3 ∷ wells 12 [])

@@ -14,6 +14,7 @@ use Rattle.laws.specs.Loops.{runAt}
 use Rattle.laws.specs.Tests.{by-cases, clash, passed, and-left, and-false}
 use Rattle.sets.specs.Sets.{has, countTo}
 use Rattle.sets.proofs.Laws.{has-below, countTo-none}
+use Rattle.state.specs.declared.Cause.{Cause}
 use Rattle.state.specs.declared.State.{State}
 use Rattle.state.specs.declared.Session.{Session}
 use Rattle.state.specs.declared.Roster.{Roster}
@@ -21,7 +22,6 @@ use Rattle.state.specs.declared.Job.{Job}
 use Rattle.state.specs.declared.Pool.{Pool}
 use Rattle.state.specs.Session.{isNormal, isRemoving, moved, marked}
 use Rattle.roster.specs.declared.Kind.{Kind}
-use Rattle.changes.specs.declared.Cause.{Cause}
 use Rattle.roster.specs.Roster.{sessionAt, idsOf}
 use Rattle.changes.specs.Changes.{more, failed, written}
 use Rattle.recovery.specs.Recovery.{withRoster}
@@ -54,7 +54,7 @@ stepped P f m step (suc n) k ro h p =
 abbrev pub misses : ℕ → ℕ → Roster → Bool
 misses reached i ro = isNormal (sessionAt ro i .state) && not (has reached i)
 
-step-does : (P : Roster → Type 0) (reached i : ℕ) (ro : Roster) → (misses reached i ro ≡ true → P (failed ro i Cause.Write)) → (misses reached i ro ≡ false → P ro) → P (missStep reached i ro)
+step-does : (P : Roster → Type 0) (reached i : ℕ) (ro : Roster) → (misses reached i ro ≡ true → P (failed ro i Cause.Io)) → (misses reached i ro ≡ false → P ro) → P (missStep reached i ro)
 unfolding missStep
 step-does P reached i ro f g = by-cases (misses reached i ro) (λ e. rw e (f e)) (λ e. rw e (g e))
 
@@ -71,7 +71,7 @@ pub record Missed (reached : ℕ) (ro : Roster) (i : ℕ) (q : Roster) : Type 0 
   pub members : q .members ≡ ro .members
   pub spares : (j : ℕ) → misses reached j ro ≡ false → sessionAt q j ≡ sessionAt ro j
   pub ahead : (j : ℕ) → i ≤ j → sessionAt q j ≡ sessionAt ro j
-  pub fails : (j : ℕ) → j < i → misses reached j ro ≡ true → sessionAt q j ≡ marked (moved (sessionAt ro j) State.Failed) (eqb (q .count) 0 && eqb (countTo (above ro j) i) 0)
+  pub fails : (j : ℕ) → j < i → misses reached j ro ≡ true → sessionAt q j ≡ marked (moved (sessionAt ro j) (State.Failed Cause.Io)) (eqb (q .count) 0 && eqb (countTo (above ro j) i) 0)
 
 none-above : (ro : Roster) (j i : ℕ) → i ≤ j + 1 → countTo (above ro j) i ≡ 0
 none-above ro j i h = countTo-none (above ro j) i (λ k hk. rw (le-ltb j k (omega arith)) (and-false (isNormal (sessionAt ro k .state))))
@@ -85,15 +85,15 @@ some-counted q v plain i h e = omega (arith, counted q i v h plain e)
 
 module _ (reached : ℕ) (ro : Roster) (i : ℕ) (q : Roster) (h : i < 16) (m : Missed reached ro i q) where
   -- session i is NORMAL and was not reached
-  fails-one : misses reached i ro ≡ true → Missed reached ro (suc i) (failed q i Cause.Write)
+  fails-one : misses reached i ro ≡ true → Missed reached ro (suc i) (failed q i Cause.Io)
   fails-one miss =
       record {
-        ok = failed-keeps q i Cause.Write (m .ok) h (normal-live (sessionAt q i .state) was);
+        ok = failed-keeps q i Cause.Io (m .ok) h (normal-live (sessionAt q i .state) was);
         plain = n .kind ∙ m .plain;
         version = n .versioned ∙ (rises q (m .ok) some ∙ rw (m .version, miss) (omega arith));
         members = n .held ∙ m .members;
-        spares = λ j e. failed-other q i Cause.Write j (λ p. clash miss (rw p at e)) ∙ m .spares j e;
-        ahead = λ j l. failed-other q i Cause.Write j (λ p. absurd (let z : ⊥ = omega arith in z)) ∙ m .ahead j (omega arith);
+        spares = λ j e. failed-other q i Cause.Io j (λ p. clash miss (rw p at e)) ∙ m .spares j e;
+        ahead = λ j l. failed-other q i Cause.Io j (λ p. absurd (let z : ⊥ = omega arith in z)) ∙ m .ahead j (omega arith);
         fails = λ j l e. elim (ℕ-discrete j i) [
           | yes p ↦ rw p here
           | no p ↦ there j (omega (arith, p)) p e
@@ -106,28 +106,28 @@ module _ (reached : ℕ) (ro : Roster) (i : ℕ) (q : Roster) (h : i < 16) (m : 
       some : 1 ≤ q .count
       some = some-counted q (m .ok) (m .plain) i h was
 
-      n : Numbers q (failed q i Cause.Write) (q .count - 1) (more (q .version)) (q .members)
-      n = normal-failed q i Cause.Write (m .plain) was
+      n : Numbers q (failed q i Cause.Io) (q .count - 1) (more (q .version)) (q .members)
+      n = normal-failed q i Cause.Io (m .plain) was
 
-      here : sessionAt (failed q i Cause.Write) i ≡ marked (moved (sessionAt ro i) State.Failed) (eqb (failed q i Cause.Write .count) 0 && eqb (countTo (above ro i) (suc i)) 0)
+      here : sessionAt (failed q i Cause.Io) i ≡ marked (moved (sessionAt ro i) (State.Failed Cause.Io)) (eqb (failed q i Cause.Io .count) 0 && eqb (countTo (above ro i) (suc i)) 0)
       here =
-          failed-at q i Cause.Write (m .ok .long) h
-          ∙ (ap (λ (b : Bool). marked (moved (sessionAt q i) State.Failed) (pick b (isLast q) (sessionAt q i .mark))) was
-          ∙ (ap (λ (b : Bool). marked (moved (sessionAt q i) State.Failed) (not b && eqb (q .count - 1) 0)) (m .plain)
-          ∙ (ap (λ (s : Session). marked (moved s State.Failed) (eqb (q .count - 1) 0)) (m .ahead i (omega arith))
-          ∙ ap (λ (b : Bool). marked (moved (sessionAt ro i) State.Failed) b) (sym (rw (n .counted, none-above ro i (suc i) (omega arith)) (and-true (eqb (q .count - 1) 0)))))))
+          failed-at q i Cause.Io (m .ok .long) h
+          ∙ (ap (λ (b : Bool). marked (moved (sessionAt q i) (State.Failed Cause.Io)) (pick b (isLast q) (sessionAt q i .mark))) was
+          ∙ (ap (λ (b : Bool). marked (moved (sessionAt q i) (State.Failed Cause.Io)) (not b && eqb (q .count - 1) 0)) (m .plain)
+          ∙ (ap (λ (s : Session). marked (moved s (State.Failed Cause.Io)) (eqb (q .count - 1) 0)) (m .ahead i (omega arith))
+          ∙ ap (λ (b : Bool). marked (moved (sessionAt ro i) (State.Failed Cause.Io)) b) (sym (rw (n .counted, none-above ro i (suc i) (omega arith)) (and-true (eqb (q .count - 1) 0)))))))
 
       -- of those below none is the last one
-      there : (j : ℕ) → j < i → j ≢ i → misses reached j ro ≡ true → sessionAt (failed q i Cause.Write) j ≡ marked (moved (sessionAt ro j) State.Failed) (eqb (failed q i Cause.Write .count) 0 && eqb (countTo (above ro j) (suc i)) 0)
+      there : (j : ℕ) → j < i → j ≢ i → misses reached j ro ≡ true → sessionAt (failed q i Cause.Io) j ≡ marked (moved (sessionAt ro j) (State.Failed Cause.Io)) (eqb (failed q i Cause.Io .count) 0 && eqb (countTo (above ro j) (suc i)) 0)
       there j l p e =
-          failed-other q i Cause.Write j p
+          failed-other q i Cause.Io j p
           ∙ (m .fails j l e
-          ∙ ap (λ (b : Bool). marked (moved (sessionAt ro j) State.Failed) b)
+          ∙ ap (λ (b : Bool). marked (moved (sessionAt ro j) (State.Failed Cause.Io)) b)
           (rw (
             ne-eqb (q .count) 0 (λ z. absurd (let y : ⊥ = omega (arith, some) in y)),
             not-none (countTo (above ro j) i) (above ro j i) (rw (and-left (isNormal (sessionAt ro i .state)) (not (has reached i)) miss) (lt-ltb j i l)),
           )
-          (sym (and-false (eqb (failed q i Cause.Write .count) 0)))))
+          (sym (and-false (eqb (failed q i Cause.Io .count) 0)))))
 
   -- it is not, or was
   spares-one : misses reached i ro ≡ false → Missed reached ro (suc i) q
@@ -141,7 +141,7 @@ module _ (reached : ℕ) (ro : Roster) (i : ℕ) (q : Roster) (h : i < 16) (m : 
         ahead = λ j l. m .ahead j (omega arith);
         fails = λ j l e. elim (ℕ-discrete j i) [
           | yes p ↦ clash e (rw p miss)
-          | no p ↦ m .fails j (omega (arith, p)) e ∙ ap (λ (b : Bool). marked (moved (sessionAt ro j) State.Failed) b) (same j)
+          | no p ↦ m .fails j (omega (arith, p)) e ∙ ap (λ (b : Bool). marked (moved (sessionAt ro j) (State.Failed Cause.Io)) b) (same j)
         ];
       }
     where
@@ -173,7 +173,7 @@ removing-not : (st : State) → isRemoving st ≡ true → isNormal st ≡ false
 removing-not State.Free e = refl
 removing-not State.Created e = refl
 removing-not State.Normal e = sym e
-removing-not State.Failed e = refl
+removing-not (State.Failed cause) e = refl
 removing-not State.Reconnecting e = refl
 removing-not (State.Removing m owed) e = refl
 

@@ -7,6 +7,7 @@ use lib.ListN.{replicate}
 use Rattle.laws.specs.Words.{bit}
 use Rattle.sets.specs.Sets.{has, with, without, size, lowest}
 use Rattle.state.specs.declared.Mode.{Mode}
+use Rattle.state.specs.declared.Cause.{Cause}
 use Rattle.state.specs.declared.State.{State}
 use Rattle.state.specs.declared.Session.{Session}
 use Rattle.state.specs.declared.Job.{Job}
@@ -60,7 +61,7 @@ done o t = Answer.Done (record { outcome = o; told = t; awaited = Message.Nothin
 worked :
     (writeEnded both true 7 2 .answer ≡ done (Outcome.Written true 1) (Told.Marks 2 7 1 4))
     × (writeEnded both true 7 2 .effect ≡ Effect.Mark 1 7)
-    × (writeEnded both true 7 2 .pool .roster .sessions ≡ newSession State.Failed ∷ newSession State.Normal ∷ replicate 14 nobody)
+    × (writeEnded both true 7 2 .pool .roster .sessions ≡ newSession (State.Failed Cause.Io) ∷ newSession State.Normal ∷ replicate 14 nobody)
     × (writeEnded both true 7 0 .answer ≡ done (Outcome.Written false 0) Told.Nothing)
     × (idsOf Kind.Marked (writeEnded both true 7 0 .pool .roster) ≡ 2)
     × (writeEnded both true 7 0 .pool .roster .version ≡ 5)

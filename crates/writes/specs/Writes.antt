@@ -7,6 +7,7 @@ use Rattle.laws.specs.Words.{pick}
 use Rattle.laws.specs.Loops.{runAt}
 use Rattle.refusals.specs.Refusals.{Test, test, refusal}
 use Rattle.sets.specs.Sets.{has}
+use Rattle.state.specs.declared.Cause.{Cause}
 use Rattle.state.specs.declared.Roster.{Roster}
 use Rattle.state.specs.declared.Job.{Job}
 use Rattle.state.specs.declared.Pool.{Pool}
@@ -17,7 +18,6 @@ use Rattle.state.specs.declared.Effect.{Effect}
 use Rattle.state.specs.declared.Turn.{Turn}
 use Rattle.state.specs.Session.{isFree, isNormal}
 use Rattle.roster.specs.declared.Kind.{Kind}
-use Rattle.changes.specs.declared.Cause.{Cause}
 use Rattle.roster.specs.Roster.{sessionAt, idsOf}
 use Rattle.changes.specs.Changes.{failed, written}
 use Rattle.recovery.specs.Recovery.{withRoster}
@@ -47,7 +47,7 @@ writeRefusal p sound chunk reached = refusal (writeTests p sound chunk reached)
 
 -- NORMAL sessions not reached become FAILED, ascending.
 unfoldable pub missStep : ℕ → ℕ → Roster → Roster
-missStep reached i ro = pick (isNormal (sessionAt ro i .state) && not (has reached i)) (failed ro i Cause.Write) ro
+missStep reached i ro = pick (isNormal (sessionAt ro i .state) && not (has reached i)) (failed ro i Cause.Io) ro
 
 unfoldable pub missed : Roster → ℕ → Roster
 missed ro reached = runAt (missStep reached) 16 0 ro

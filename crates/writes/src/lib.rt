@@ -1,9 +1,9 @@
 // Write ended, synced.
 ghost use mathlib.Core.Path.{_≡_};
 ghost use Rattle.writes.specs.Writes.{reachBars, writeRefusal, missStep, missed, loses, marks, writeDone, writeEnded, syncs, syncRefusal, syncDone, synced};
-use changes::Cause;
 use refusals::first;
 use roster::Kind;
+use state::Cause;
 use state::Effect;
 use state::Job;
 use state::Message;
@@ -45,7 +45,7 @@ fn miss_step(reached: u64, i: u64, ro: Roster) -> Roster
     let s = roster::session(ro, i);
     let st = s.state;
     if state::is_normal(st) & !sets::has(reached, i) {
-        return changes::fail(ro, i, Cause::Write);
+        return changes::fail(ro, i, Cause::Io);
     }
     ro
 }

@@ -46,9 +46,15 @@ plain-requires-7 c κs = search needs
 first-requires-7 : tie.Need-first-requires-7
 first-requires-7 c κs = search needs
 
+plain-requires-8 : tie.Need-plain-requires-8
+plain-requires-8 c κs = search needs
+
+first-requires-8 : tie.Need-first-requires-8
+first-requires-8 c κs = search needs
+
 returns : tie.Need-returns
 unfolding clientEvents
-returns c = rw (c .first7 .ensures, c .before .plain7 .ensures, c .before .before .first6 .ensures, c .before .before .before .plain6 .ensures, c .before .before .before .before .first5 .ensures, c .before .before .before .before .before .plain5 .ensures, c .before .before .before .before .before .before .first4 .ensures, c .before .before .before .before .before .before .before .plain4 .ensures, c .before .before .before .before .before .before .before .before .first3 .ensures, c .before .before .before .before .before .before .before .before .before .plain3 .ensures, c .before .before .before .before .before .before .before .before .before .before .first2 .ensures, c .before .before .before .before .before .before .before .before .before .before .before .plain2 .ensures, c .before .before .before .before .before .before .before .before .before .before .before .before .first .ensures, c .before .before .before .before .before .before .before .before .before .before .before .before .before .plain .ensures) refl
+returns c = rw (c .first8 .ensures, c .before .plain8 .ensures, c .before .before .first7 .ensures, c .before .before .before .plain7 .ensures, c .before .before .before .before .first6 .ensures, c .before .before .before .before .before .plain6 .ensures, c .before .before .before .before .before .before .first5 .ensures, c .before .before .before .before .before .before .before .plain5 .ensures, c .before .before .before .before .before .before .before .before .first4 .ensures, c .before .before .before .before .before .before .before .before .before .plain4 .ensures, c .before .before .before .before .before .before .before .before .before .before .first3 .ensures, c .before .before .before .before .before .before .before .before .before .before .before .plain3 .ensures, c .before .before .before .before .before .before .before .before .before .before .before .before .first2 .ensures, c .before .before .before .before .before .before .before .before .before .before .before .before .before .plain2 .ensures, c .before .before .before .before .before .before .before .before .before .before .before .before .before .before .first .ensures, c .before .before .before .before .before .before .before .before .before .before .before .before .before .before .before .plain .ensures) refl
 
 pub client-events-spec : {M : Type 1} → statement M
 client-events-spec =
@@ -68,4 +74,6 @@ client-events-spec =
     first-requires-6
     plain-requires-7
     first-requires-7
+    plain-requires-8
+    first-requires-8
     returns)

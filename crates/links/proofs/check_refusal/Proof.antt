@@ -1,54 +1,20 @@
-use Rattle.links.specs.Links.{checkRefusal}
+use Rattle.links.specs.Links.{backRefusal, checkRefusal}
 use borrow.Author.Needs.{needs}
 use Rattle.links.proofs.check_refusal.Statement.{statement}
 use Rattle.links.proofs.check_refusal.Tie as tie
 
-valid-requires : tie.Need-valid-requires
-valid-requires c κs = search needs
-
 session-requires : tie.Need-session-requires
 session-requires c κs = search needs
-
-is-idle-requires : tie.Need-is-idle-requires
-is-idle-requires c κs = search needs
-
-is-free-requires : tie.Need-is-free-requires
-is-free-requires c κs = search needs
 
 may-check-requires : tie.Need-may-check-requires
 may-check-requires c κs = search needs
 
-first-requires : tie.Need-first-requires
-first-requires c κs = search needs
-
-first-requires-2 : tie.Need-first-requires-2
-first-requires-2 c κs = search needs
-
-first-requires-3 : tie.Need-first-requires-3
-first-requires-3 c κs = search needs
-
-first-requires-4 : tie.Need-first-requires-4
-first-requires-4 c κs = search needs
-
-first-requires-5 : tie.Need-first-requires-5
-first-requires-5 c κs = search needs
+back-refusal-requires : tie.Need-back-refusal-requires
+back-refusal-requires c κs = search needs
 
 returns : tie.Need-returns
-unfolding checkRefusal
+unfolding backRefusal checkRefusal
 returns c = cc
 
 pub check-refusal-spec : {M : Type 1} → statement M
-check-refusal-spec =
-    tie.close
-    (tie.spec
-    valid-requires
-    session-requires
-    is-idle-requires
-    is-free-requires
-    may-check-requires
-    first-requires
-    first-requires-2
-    first-requires-3
-    first-requires-4
-    first-requires-5
-    returns)
+check-refusal-spec = tie.close (tie.spec session-requires may-check-requires back-refusal-requires returns)

@@ -10,15 +10,21 @@ slice-aggregate-word c = search needs
 slice-aggregate-word-2 : tie.Need-slice-aggregate-word-2
 slice-aggregate-word-2 c = search needs
 
+slice-aggregate-word-3 : tie.Need-slice-aggregate-word-3
+slice-aggregate-word-3 c = search needs
+
 word-requires : tie.Need-word-requires
 word-requires c κs = search needs
 
 word-requires-2 : tie.Need-word-requires-2
 word-requires-2 c κs = search needs
 
+word-requires-3 : tie.Need-word-requires-3
+word-requires-3 c κs = search needs
+
 returns : tie.Need-returns
 unfolding namesG
-returns c = rw (c .word2 .ensures, c .before .word .ensures) refl
+returns c = rw (c .word3 .ensures, c .before .word2 .ensures, c .before .before .word .ensures) refl
 
 pub names-g-spec : {M : Type 1} → statement M
 names-g-spec =
@@ -26,6 +32,8 @@ names-g-spec =
     (tie.spec
     slice-aggregate-word
     slice-aggregate-word-2
+    slice-aggregate-word-3
     word-requires
     word-requires-2
+    word-requires-3
     returns)

@@ -98,6 +98,21 @@ enum-told-10 c = search needs
 is-odd-requires : tie.Need-is-odd-requires
 is-odd-requires c κs = search needs
 
+enum-told-11 : tie.Need-enum-told-11
+enum-told-11 c = search needs
+
+is-cut-requires : tie.Need-is-cut-requires
+is-cut-requires c κs = search needs
+
+enum-told-12 : tie.Need-enum-told-12
+enum-told-12 c = search needs
+
+is-failed-requires : tie.Need-is-failed-requires
+is-failed-requires c κs = search needs
+
+is-cut-requires-2 : tie.Need-is-cut-requires-2
+is-cut-requires-2 c κs = search needs
+
 returns : tie.Need-returns
 returns c = simp (c .is-free .ensures, c .before .enum-told .given .1)
 
@@ -143,6 +158,12 @@ returns-14 c = simp (c .is-listed .ensures, c .before .enum-told9 .given .1)
 returns-15 : tie.Need-returns-15
 returns-15 c = simp (c .is-odd .ensures, c .before .enum-told10 .given .1)
 
+returns-16 : tie.Need-returns-16
+returns-16 c = simp (c .is-cut .ensures, c .before .enum-told11 .given .1)
+
+returns-17 : tie.Need-returns-17
+returns-17 c = simp (c .is-cut2 .ensures, c .before .is-failed .ensures, c .before .before .enum-told12 .given .1)
+
 pub is-kind-spec : {M : Type 1} → statement M
 is-kind-spec =
     tie.close
@@ -179,6 +200,11 @@ is-kind-spec =
     is-listed-requires
     enum-told-10
     is-odd-requires
+    enum-told-11
+    is-cut-requires
+    enum-told-12
+    is-failed-requires
+    is-cut-requires-2
     returns
     returns-2
     returns-3
@@ -193,4 +219,6 @@ is-kind-spec =
     returns-12
     returns-13
     returns-14
-    returns-15)
+    returns-15
+    returns-16
+    returns-17)
