@@ -19,6 +19,8 @@ NONE, CREATED, NORMAL, FAILED, RECONNECTING, REMOVING, FAILED_IO = range(7)
 WRITTEN, ASSEMBLED = "written", "assembled"
 SESSIONS = [
     ("none, no member", (NONE, 0, 0, 0, 0), False, ()),
+    ("none, no member, the pool written", (NONE, 0, 0, 0, 0), False, (WRITTEN,)),
+    ("none, no member, the pool assembled", (NONE, 0, 0, 0, 0), False, (ASSEMBLED,)),
     ("none, a member", (NONE, 0, 0, 0, 0), True, ()),
     ("CREATED", (CREATED, 0, 0, 0, 0), True, ()),
     ("CREATED, the pool written", (CREATED, 0, 0, 0, 0), True, (WRITTEN,)),
@@ -73,6 +75,7 @@ def client_events(members, normals):
         ("write, none reached", "write %d 0" % CHUNK),
         ("synced, dirty for 1", "synced 1 %d 0" % CHUNK),
         ("try", "try"),
+        ("extend", "extend"),
         ("answer, failed", "answer 1 0 0"),
         ("answer, success", "answer 1 1 0"),
         ("answer, success with a version", "answer 1 2 1"),
@@ -151,6 +154,10 @@ NODE_EVENTS = [
     ("POOL_INFO, remove-delete", "pool_info 2 2"),
     ("POOL_INFO, remove-disassemble", "pool_info 3 2"),
     ("POOL_INFO about itself", "pool_info 0 1"),
+    ("fill", "fill 2 5"),
+    ("fill, a lower version", "fill 2 3"),
+    ("fill about itself", "fill 1 5"),
+    ("fill of no member", "fill 3 5"),
 ]
 
 
@@ -224,7 +231,7 @@ def cell(line, further=""):
                 words.append("%s=%s" % (k, fields[k]))
         if fields["job"] != "none":
             words.append(fields["job"])
-        for k in ("taken", "acked", "list"):
+        for k in ("id", "taken", "acked", "list"):
             if k in fields:
                 words.append("%s=%s" % (k, fields[k]))
     return " ".join(words) + further + "".join("; " + m for m in messages)
@@ -258,6 +265,8 @@ def row_fate(left, was, known):
         return "kept"
     if not left:
         return "zeroed"
+    if left == set(range(4096)):
+        return "full"
     for name, row in known.items():
         if left == row:
             return name
@@ -318,7 +327,7 @@ def page():
         "",
         "For the node (1, with the members 0, 1 and 2) also what became of its map and its staging. Looked at are row 0 (a member, the chosen of LAST_IO_TO_MAP), 1 (its own),",
         "2 (a member) and 3 (no member). Each held two dirty chunks, others in the map, in staging and in the map that is taken; the kept chunks are 9 and 16, of which 16 is",
-        "dirty for 0. `staging's` and `the map's` say that the row, or all of it, is now equal to the other's. A refusal left both as they were.",
+        "dirty for 0. `staging's` and `the map's` say that the row, or all of it, is now equal to the other's, `full` that every chunk is dirty. A refusal left both as they were.",
     ]
     for table, rows in tables.items():
         if table[0] == "client":

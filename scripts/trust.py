@@ -16,10 +16,10 @@ ROOT = os.path.dirname(os.path.dirname(os.path.abspath(__file__)))
 PAGE = os.path.join(ROOT, "docs", "TRUST.md")
 START, END = "| layer | files | lines, comments and imports with them |\n", "\n## What the definitions were compared with"
 LAYERS = {
-    "ground": "numbers refusals sets chunks maps parts rows versions",
-    "client": "state roster changes run recovery rules exits joins enables links writes removal answers client",
-    "node": "nodestate noderegister nodejoins nodeenables nodewrites nodeserve nodehand nodemaps node",
-    "theorems": "order events creation bounds table nodeevents commuting world honest demand3",
+    "ground": "numbers refusals sets chunks maps parts fills rows versions",
+    "client": "state roster changes run recovery rules exits joins extending enables links writes removal answers client",
+    "node": "nodestate noderegister nodejoins nodeenables nodewrites nodefills nodeserve nodehand nodemaps node",
+    "theorems": "order events creation bounds table nodeevents commuting world honest demand3 added",
     "lab": "text names lines forms eventlines commands say sayclient saynode sayrow saylab post lending anyclient anynode lendclient lendnode bench delivery reading arranging lab",
     "backup": "descriptors statuswriter statusreader statuslaws statustool status statusread statusrefused",
     "compare": "dumps differences saydifferences comparing compare comparesame comparelong",

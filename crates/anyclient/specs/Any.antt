@@ -4,7 +4,7 @@ use mathlib.Core.List.{List}
 use Prim.Native.Nat.{ℕ}
 use Rattle.forms.specs.declared.Event as forms
 use Rattle.client.specs.declared.Client.{Client}
-use Rattle.client.specs.Client.{carried, removeTurn, writeTurn, answerTurn}
+use Rattle.client.specs.Client.{carried, extendTurn, removeTurn, writeTurn, answerTurn}
 use Rattle.events.specs.Events.{Event, Lent}
 
 abbrev pub eventOf : forms.Event → List ℕ → List ℕ → Event
@@ -20,6 +20,7 @@ eventOf (forms.Event.Remove id mode) xs zs = Event.remove xs id mode
 eventOf (forms.Event.Write chunk reached) xs zs = Event.write xs chunk reached
 eventOf (forms.Event.Synced member chunk n) xs zs = Event.synced zs member chunk
 eventOf (forms.Event.Answer number a) xs zs = Event.answer xs number a
+eventOf forms.Event.Extend xs zs = Event.extend xs
 
 -- which of the two maps is lent
 abbrev pub lentOf : forms.Event → List ℕ → List ℕ → Lent
@@ -35,6 +36,7 @@ lentOf (forms.Event.Remove id mode) own other = Lent.some own
 lentOf (forms.Event.Write chunk reached) own other = Lent.some own
 lentOf (forms.Event.Synced member chunk n) own other = Lent.some other
 lentOf (forms.Event.Answer number a) own other = Lent.some own
+lentOf forms.Event.Extend own other = Lent.some own
 
 -- the client's map after the event: as it was where it is not lent
 abbrev pub ownLeft : forms.Event → Client → List ℕ → List ℕ
@@ -50,6 +52,7 @@ ownLeft (forms.Event.Remove id mode) c xs = carried (removeTurn (c .pool) xs id 
 ownLeft (forms.Event.Write chunk reached) c xs = carried (writeTurn (c .pool) xs chunk reached .effect) xs
 ownLeft (forms.Event.Synced member chunk n) c xs = xs
 ownLeft (forms.Event.Answer number a) c xs = carried (answerTurn (c .pool) xs number a .effect) xs
+ownLeft forms.Event.Extend c xs = carried (extendTurn (c .pool) xs .effect) xs
 
 -- every event of the theorems is that of a call
 pub record Called (e : Event) : Type 0 where

@@ -24,5 +24,6 @@ pub fn call(c: Client, e: Event, own: &mut [u8], other: &[u8]) -> Out
         Event::Write(chunk, reached) => c.write(own, chunk, reached),
         Event::Synced(member, chunk, n) => c.synced(other, member, chunk),
         Event::Answer(number, a) => c.answer(own, number, a),
+        Event::Extend => c.extend(own),
     }
 }

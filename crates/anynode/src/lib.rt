@@ -29,5 +29,6 @@ pub fn call(n: StorageNode, e: NodeEvent, map: &mut [u8], staging: &mut [u8], pa
         NodeEvent::MapDone(enable, version, set) => n.map_done(map, staging, enable, version, set),
         NodeEvent::MapDisable => n.map_disable(map, staging),
         NodeEvent::MapGetVer => n.map_get_ver(map, staging),
+        NodeEvent::Fill(member, version) => n.fill(map, staging, member, version),
     }
 }

@@ -257,6 +257,7 @@ accepted-course es rec Event.tryRun c r h z = barred-out c r (h .job) Event.tryR
 accepted-course es rec (Event.remove xs id mode) c r h z = barred-out c r (h .job) (Event.remove xs id mode) refl refl z
 accepted-course es rec (Event.write xs chunk reached) c r h z = barred-out c r (h .job) (Event.write xs chunk reached) refl refl z
 accepted-course es rec (Event.synced xs member chunk) c r h z = barred-out c r (h .job) (Event.synced xs member chunk) refl refl z
+accepted-course es rec (Event.extend xs) c r h z = barred-out c r (h .job) (Event.extend xs) refl refl z
 
 step : (es : List Event) → Ahead es → (e : Event) (c : Client) (r : Run) → InHand c r → (b : Bool) → eqb (whyNot e c) 0 ≡ b → Course (during (e ∷ es) c) c (r .taken) (possible (c .pool .roster .members) r)
 step es rec e c r h true z = accepted-course es rec e c r h z

@@ -60,6 +60,7 @@ no-answer c Event.tryRun r b = refl
 no-answer c (Event.remove xs id mode) r b = refl
 no-answer c (Event.write xs chunk reached) r b = refl
 no-answer c (Event.synced xs member chunk) r b = refl
+no-answer c (Event.extend xs) r b = refl
 no-answer c (Event.answer xs number a) r b =
     by-cases (isRunning (c .pool .job))
     (λ q. clash (b .new) (let z : (not (isRunning (c .pool .job)) || cutsOff (Event.answer xs number a) c) ≡ false = rw (q, and-false (isAccepted (outOf (Event.answer xs number a) c .answer))) refl in z))

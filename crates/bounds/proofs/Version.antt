@@ -135,6 +135,7 @@ accepted-keeps (Event.remove xs id mode) c r h z = other-keeps (Event.remove xs 
 accepted-keeps (Event.write xs chunk reached) c r h z = other-keeps (Event.write xs chunk reached) c r h refl refl z
 accepted-keeps (Event.synced xs member chunk) c r h z = other-keeps (Event.synced xs member chunk) c r h refl refl z
 accepted-keeps (Event.answer xs number a) c r h z = took-keeps xs number a c r h z
+accepted-keeps (Event.extend xs) c r h z = other-keeps (Event.extend xs) c r h refl refl z
 
 event-versioned : (e : Event) (c : Client) (r : Run) → InHand c r → Versioned (c .pool .roster .version) e c
 event-versioned e c r h = by-cases (eqb (whyNot e c) 0) (accepted-keeps e c r h) (refused-keeps e c r h)

@@ -55,6 +55,7 @@ abbrev pub countIn : Outcome → ℕ → ℕ
 countIn Outcome.Plain n = n
 countIn (Outcome.Taken k) n = k
 countIn (Outcome.Written acknowledged list) n = n
+countIn (Outcome.Picked id) n = n
 
 abbrev pub countOf : Answer → ℕ → ℕ
 countOf (Answer.Refused why) n = n

@@ -8,6 +8,7 @@ use Rattle.laws.specs.Words.{pick}
 use Rattle.sets.specs.Sets.{with}
 use Rattle.chunks.specs.Chunk.{dirty, markedFor}
 use Rattle.maps.specs.Map.{zeroRow, zeroed, sound}
+use Rattle.fills.specs.Fill.{rowFilled}
 use Rattle.state.specs.declared.Mode.{Mode}
 use Rattle.state.specs.declared.Reply.{Reply}
 use Rattle.state.specs.declared.Job.{Job}
@@ -19,6 +20,7 @@ use Rattle.state.specs.Session.{free}
 use Rattle.removal.specs.Remove.{remove}
 use Rattle.writes.specs.Writes.{writeEnded, synced}
 use Rattle.answers.specs.Answers.{answer}
+use Rattle.extending.specs.Extending.{extend}
 use Rattle.client.specs.declared.Client.{Client}
 use Rattle.client.specs.declared.Out.{Out}
 
@@ -45,11 +47,15 @@ carried Effect.Keep xs = xs
 carried (Effect.Mark s c) xs = markedFor xs s c
 carried (Effect.ZeroRow m) xs = zeroRow m xs
 carried Effect.ZeroAll xs = zeroed xs
+carried (Effect.FillRow m n) xs = rowFilled m n xs
 
 -- ---- the events that a map is lent to: what they do, judged by the lent map's soundness
 
 abbrev pub soundFor : Pool → List ℕ → Bool
 soundFor p xs = sound (p .chunks) xs
+
+unfoldable pub extendTurn : Pool → List ℕ → Turn
+extendTurn p xs = extend p (soundFor p xs)
 
 unfoldable pub removeTurn : Pool → List ℕ → ℕ → Mode → Turn
 removeTurn p xs id mode = remove p (soundFor p xs) id mode

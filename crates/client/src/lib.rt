@@ -5,7 +5,7 @@ ghost use Rattle.refusals.specs.Limits.{numbers};
 ghost use Rattle.joins.specs.Joins.{joinCreate, joinAssemble};
 ghost use Rattle.enables.specs.Enables.{enable, maintenance};
 ghost use Rattle.links.specs.Links.{linkDown, storeCheck, rejoin, tryRun};
-ghost use Rattle.client.specs.Client.{fresh, handed, carried, removeTurn, writeTurn, answerTurn, cleanTo, syncedTurn};
+ghost use Rattle.client.specs.Client.{fresh, handed, carried, extendTurn, removeTurn, writeTurn, answerTurn, cleanTo, syncedTurn};
 use refusals::Numbers;
 use state::Answer;
 use state::Effect;
@@ -144,6 +144,19 @@ impl Client {
         hand(links::try_run(p))
     }
 
+    // A leg is added; the answer says which id was picked.
+    pub fn extend(self, map: &mut [u8]) -> Out
+        ensures { λ r. ⌜ r ≡ handed (extendTurn (self .pool) (now (map .entry))) ⌝ }
+        ensures { λ r. ⌜ now (map .exit) ≡ carried (extendTurn (self .pool) (now (map .entry)) .effect) (now (map .entry)) ⌝ }
+    {
+        let p = self.pool;
+        let sound = maps::is_sound(map, p.chunks);
+        let t = extending::extend(p, sound);
+        let effect = t.effect;
+        carry(map, effect);
+        hand(t)
+    }
+
     pub fn remove(self, map: &mut [u8], id: u64, mode: Mode) -> Out
         ensures { λ r. ⌜ r ≡ handed (removeTurn (self .pool) (now (map .entry)) id mode) ⌝ }
         ensures { λ r. ⌜ now (map .exit) ≡ carried (removeTurn (self .pool) (now (map .entry)) id mode .effect) (now (map .entry)) ⌝ }
@@ -223,6 +236,7 @@ fn carry(map: &mut [u8], effect: Effect)
         Effect::Mark(set, chunk) => chunks::mark_for(map, set, chunk),
         Effect::ZeroRow(m) => maps::zero_row(map, m),
         Effect::ZeroAll => maps::zero(map),
+        Effect::FillRow(m, n) => fills::fill_row(map, m, n),
     }
 }
 

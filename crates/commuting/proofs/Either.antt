@@ -21,6 +21,7 @@ use Rattle.nodestate.specs.StateRules.{valid}
 use Rattle.nodestate.specs.Turns.{refused, settled}
 use Rattle.nodestate.proofs.Valid.{valid-of}
 use Rattle.nodewrites.specs.Write.{written}
+use Rattle.nodefills.specs.Fill.{filled}
 use Rattle.node.specs.declared.StorageNode.{StorageNode}
 use Rattle.node.specs.Events.{Event, testsAt}
 use Rattle.node.specs.Face.{lentTo, answers}
@@ -42,6 +43,10 @@ pub node-synced : (member chunk : ℕ) (w : Held) → Accepts (Event.synced memb
 unfolding law
 node-synced member chunk w a = ap (λ (t : Turn). t .node) (known (Event.synced member chunk) w a .turn)
 
+pub node-filled : (member version : ℕ) (w : Held) → Accepts (Event.fill member version) w → next (Event.fill member version) w .at .node ≡ filled (w .at .node) version
+unfolding law
+node-filled member version w a = ap (λ (t : Turn). t .node) (known (Event.fill member version) w a .turn)
+
 abbrev pub GoodAt : Held → Type 0
 GoodAt w = Good (w .at) (w .map) (w .staging)
 
@@ -61,8 +66,9 @@ lentAt w = lentTo (w .at .node) (w .map) (w .staging)
 
 pub record Alike (w v : Held) : Type 0 where
   id : v .at .node .id ≡ w .at .node .id
-  count : v .at .node .chunks ≡ w .at .node .chunks
+  pub count : v .at .node .chunks ≡ w .at .node .chunks
   state : v .at .node .state ≡ w .at .node .state
+  members : v .at .node .members ≡ w .at .node .members
   rules : valid (v .at .node) ≡ valid (w .at .node)
   lent : lentAt v ≡ lentAt w
 
@@ -70,21 +76,26 @@ pub record Alike (w v : Held) : Type 0 where
 not-lent : (w : Held) → GoodAt w → lentAt w ≡ 0
 not-lent w g = rw (g .map, g .staging) refl
 
-pub alike-good : (w v : Held) → GoodAt w → GoodAt v → v .at .node .id ≡ w .at .node .id → v .at .node .chunks ≡ w .at .node .chunks → v .at .node .state ≡ w .at .node .state → Alike w v
-alike-good w v g k i c s = record { id = i; count = c; state = s; rules = k .rules ∙ sym (g .rules); lent = not-lent v k ∙ sym (not-lent w g) }
+pub alike-good : (w v : Held) → GoodAt w → GoodAt v → v .at .node .id ≡ w .at .node .id → v .at .node .chunks ≡ w .at .node .chunks → v .at .node .state ≡ w .at .node .state → v .at .node .members ≡ w .at .node .members → Alike w v
+alike-good w v g k i c s m = record { id = i; count = c; state = s; members = m; rules = k .rules ∙ sym (g .rules); lent = not-lent v k ∙ sym (not-lent w g) }
 
 alike-accepted : (e : Event) (w : Held) → Marking e → Sized w → Accepts e w → Alike w (next e w)
-unfolding written keptChunk storedVersion
+unfolding written filled keptChunk storedVersion
 alike-accepted _ w (Marking.mark chunk set version) h a =
     let e : Event = Event.write chunk set version in
     let g = good e w h a in
     let q = node-wrote chunk set version w a in
-    alike-good w (next e w) g (good-next e w g) (ap (λ (n : Node). n .id) q) (ap (λ (n : Node). n .chunks) q) (ap (λ (n : Node). n .state) q)
+    alike-good w (next e w) g (good-next e w g) (ap (λ (n : Node). n .id) q) (ap (λ (n : Node). n .chunks) q) (ap (λ (n : Node). n .state) q) (ap (λ (n : Node). n .members) q)
 alike-accepted _ w (Marking.clear member chunk) h a =
     let e : Event = Event.synced member chunk in
     let g = good e w h a in
     let q = node-synced member chunk w a in
-    alike-good w (next e w) g (good-next e w g) (ap (λ (n : Node). n .id) q) (ap (λ (n : Node). n .chunks) q) (ap (λ (n : Node). n .state) q)
+    alike-good w (next e w) g (good-next e w g) (ap (λ (n : Node). n .id) q) (ap (λ (n : Node). n .chunks) q) (ap (λ (n : Node). n .state) q) (ap (λ (n : Node). n .members) q)
+alike-accepted _ w (Marking.fill member version) h a =
+    let e : Event = Event.fill member version in
+    let g = good e w h a in
+    let q = node-filled member version w a in
+    alike-good w (next e w) g (good-next e w g) (ap (λ (n : Node). n .id) q) (ap (λ (n : Node). n .chunks) q) (ap (λ (n : Node). n .state) q) (ap (λ (n : Node). n .members) q)
 
 -- a refused one leaves all as it was
 abbrev heldAs : StorageNode → List ℕ → List ℕ → Held
@@ -93,17 +104,18 @@ heldAs s xs ys = record { at = s; map = xs; staging = ys }
 pub same-held : {s s′ : StorageNode} {xs xs′ ys ys′ : List ℕ} → s ≡ s′ → xs ≡ xs′ → ys ≡ ys′ → heldAs s xs ys ≡ heldAs s′ xs′ ys′
 same-held p q r = rw (p, q, r) refl
 
-alike-next : (e : Event) (w : Held) → Marking e → Sized w → Alike w (next e w)
+pub alike-next : (e : Event) (w : Held) → Marking e → Sized w → Alike w (next e w)
 alike-next e w m h = at (demand-1 e (w .at) (w .map) (w .staging))
   where
     at : Verdict e (w .at) (w .map) (w .staging) → Alike w (next e w)
-    at (Verdict.refused k p r) = subst (Alike w) (sym (same-held (r .node) (r .map) (r .staging))) (record { id = refl; count = refl; state = refl; rules = refl; lent = refl })
+    at (Verdict.refused k p r) = subst (Alike w) (sym (same-held (r .node) (r .map) (r .staging))) (record { id = refl; count = refl; state = refl; members = refl; rules = refl; lent = refl })
     at (Verdict.done p r) = alike-accepted e w m h p
 
 -- the same tests hold
 same-why : (f : Event) (w v : Held) → Marking f → Alike w v → refusal (testsAt f (v .at .node) (lentAt v)) ≡ refusal (testsAt f (w .at .node) (lentAt w))
 same-why _ w v (Marking.mark chunk set version) a = rw (a .rules, a .lent, a .id, a .count, a .state) refl
 same-why _ w v (Marking.clear member chunk) a = rw (a .rules, a .lent, a .id, a .count, a .state) refl
+same-why _ w v (Marking.fill member version) a = rw (a .rules, a .lent, a .id, a .state, a .members) refl
 
 settled-answer : (why : ℕ) (n : Node) (t : Turn) → settled why n t .answer ≡ pick (eqb why 0) (t .answer) (Answer.Refused why)
 unfolding settled
@@ -121,6 +133,9 @@ answer-by _ w (Marking.mark chunk set version) =
     ap (λ (t : Turn). t .answer) (h .same) ∙ settled-answer _ (w .at .node) (h .done)
 answer-by _ w (Marking.clear member chunk) =
     let h = law (Event.synced member chunk) (w .at .node) (lentAt w) in
+    ap (λ (t : Turn). t .answer) (h .same) ∙ settled-answer _ (w .at .node) (h .done)
+answer-by _ w (Marking.fill member version) =
+    let h = law (Event.fill member version) (w .at .node) (lentAt w) in
     ap (λ (t : Turn). t .answer) (h .same) ∙ settled-answer _ (w .at .node) (h .done)
 
 pub same-answer : (f : Event) (w v : Held) → Marking f → Alike w v → answers f (v .at) (v .map) (v .staging) .answer ≡ answers f (w .at) (w .map) (w .staging) .answer
@@ -140,30 +155,30 @@ pub same-map : (n : ℕ) (xs ys : List ℕ) → sound n xs ≡ true → sound n 
 same-map n xs ys s r f = same-chunks n xs ys (sound-fact n xs s) (sound-fact n ys r) (λ m c a l b. f m c)
 
 -- the map after two, sound by the count before
-sound-two : (e f : Event) (w : Held) → Marking e → Marking f → Sized w → Accepts e w → Accepts f w → sound (w .at .node .chunks) (both e f w .map) ≡ true
+pub sound-two : (e f : Event) (w : Held) → Marking e → Marking f → Sized w → Accepts e w → Accepts f w → sound (w .at .node .chunks) (both e f w .map) ≡ true
 sound-two e f w m k h a b =
     let g = good-next e w (good e w h a) in
     let q = alike-next f (next e w) k (g .size) .count ∙ alike-next e w m h .count in
     subst (λ (n : ℕ). sound n (both e f w .map) ≡ true) q (good-next f (next e w) g .map)
 
 -- a member's chunk that is marked, or not
-marked-or : (set chunk m c : ℕ) → Dec (In set m × (c ≡ chunk))
+pub marked-or : (set chunk m c : ℕ) → Dec (In set m × (c ≡ chunk))
 marked-or set chunk m c = by-cases (has set m) yes-set (λ e. no (λ p. clash (p .0) e))
   where
     yes-set : has set m ≡ true → Dec (In set m × (c ≡ chunk))
     yes-set e = elim (ℕ-discrete c chunk) [ yes q ↦ yes (e, q) | no d ↦ no (λ p. d (p .1)) ]
 
-cleared-or : (member chunk m c : ℕ) → Dec ((m ≡ member) × (c ≡ chunk))
+pub cleared-or : (member chunk m c : ℕ) → Dec ((m ≡ member) × (c ≡ chunk))
 cleared-or member chunk m c = elim (ℕ-discrete m member) [
   | yes p ↦ elim (ℕ-discrete c chunk) [ yes q ↦ yes (p, q) | no d ↦ no (λ r. d (r .1)) ]
   | no d ↦ no (λ r. d (r .0))
 ]
 
 -- a bit after a mark
-bit-marked : (set chunk : ℕ) (from left : List ℕ) → Marked (In set) chunk from left → (m c : ℕ) → In set m × (c ≡ chunk) → dirty left m c ≡ 1
+pub bit-marked : (set chunk : ℕ) (from left : List ℕ) → Marked (In set) chunk from left → (m c : ℕ) → In set m × (c ≡ chunk) → dirty left m c ≡ 1
 bit-marked set chunk from left k m c (i, q) = rw q (k .those m i)
 
-bit-cleared : (member chunk : ℕ) (from left : List ℕ) → Cleared member chunk from left → (m c : ℕ) → (m ≡ member) × (c ≡ chunk) → dirty left m c ≡ 0
+pub bit-cleared : (member chunk : ℕ) (from left : List ℕ) → Cleared member chunk from left → (m c : ℕ) → (m ≡ member) × (c ≡ chunk) → dirty left m c ≡ 0
 bit-cleared member chunk from left k m c (p, q) = rw (p, q) (k .that)
 
 -- ---- two writes

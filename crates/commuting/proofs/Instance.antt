@@ -2,6 +2,7 @@
 use mathlib.Core.Path.{_≡_, refl, ap, _∙_}
 use mathlib.Core.List.{[], _∷_}
 use Prim.Native.Nat.{ℕ, max}
+use lib.Dec.{lit<}
 use Rattle.refusals.specs.Refusals.{refusal}
 use Rattle.sets.specs.Sets.{has}
 use Rattle.laws.specs.Words.{bit}
@@ -11,8 +12,10 @@ use Rattle.node.specs.Face.{answers, lentTo}
 use Rattle.node.proofs.Theorems.{accepted-by}
 use Rattle.nodeevents.specs.Said.{Accepts}
 use Rattle.nodeevents.proofs.Demand1.{not-refused}
-use Rattle.commuting.specs.Commuting.{Write, zeros, node1, here, write7, write9, synced7, Instance}
-use Rattle.commuting.proofs.Either.{stores-the-larger, last-one-wins, second}
+use Rattle.nodeevents.proofs.Said.{map-as-said}
+use Rattle.commuting.specs.Commuting.{Marking, Write, zeros, node1, here, write7, write9, synced7, fill0, Instance}
+use Rattle.commuting.proofs.Either.{stores-the-larger, last-one-wins, second, still}
+use Rattle.commuting.proofs.Fills.{fill-stores-the-larger}
 use Rattle.commuting.proofs.Arrival.{kept-follow-arrival}
 use Rattle.commuting.proofs.Maps.{zeros-sound}
 
@@ -35,6 +38,10 @@ clears : Accepts synced7 here
 unfolding valid keptOk has bit
 clears = taken synced7 refl
 
+fills : Accepts fill0 here
+unfolding valid keptOk has bit
+fills = taken fill0 refl
+
 pub instance : Instance
 unfolding valid keptOk has bit
 instance =
@@ -44,7 +51,10 @@ instance =
       marks = marks;
       marks-too = marks-too;
       clears = clears;
+      fills = fills;
       version = stores-the-larger 7 1 2 _ (second 9 1 5 7 1 2 here refl marks-too marks) ∙ ap (λ (v : ℕ). larger v) (stores-the-larger 9 1 5 here marks-too);
+      fill-version = fill-stores-the-larger 0 3 _ (still write9 fill0 here (Marking.mark 9 1 5) (Marking.fill 0 3) refl fills) ∙ ap (λ (v : ℕ). max v 3) (stores-the-larger 9 1 5 here marks-too);
+      full = map-as-said fill0 here fills .those 4095 (lit< tt);
       mark-last = last-one-wins 7 1 2 0 here refl marks clears refl .0;
       clear-last = last-one-wins 7 1 2 0 here refl marks clears refl .1;
       one-order = kept-follow-arrival (seven ∷ nine ∷ []) here refl (marks, (marks-too, tt));

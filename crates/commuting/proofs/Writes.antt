@@ -78,7 +78,7 @@ module _ (x : Write) (w v : Held) (g : GoodAt w) (k : GoodAt v) (s : SameButKept
   unfolding forgotten
   same-told =
       let q = sym (s .node) in
-      same-answer (eventOf x) w v (marks x) (alike-good w v g k (ap (λ (n : Node). n .id) q) (ap (λ (n : Node). n .chunks) q) (ap (λ (n : Node). n .state) q))
+      same-answer (eventOf x) w v (marks x) (alike-good w v g k (ap (λ (n : Node). n .id) q) (ap (λ (n : Node). n .chunks) q) (ap (λ (n : Node). n .state) q) (ap (λ (n : Node). n .members) q))
 
   same-next : SameButKept (next (eventOf x) w) (next (eventOf x) v)
   same-next = at (fate x w) (fate x v)

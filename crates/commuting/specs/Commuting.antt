@@ -1,10 +1,10 @@
--- Marks commute. A write is a mark, a synced is a clear; the transport may bring them in another order than they were sent in. What is the same then, and where the order is
+-- Marks commute. A write is a mark, a synced is a clear, a fill marks every chunk of one member; the transport may bring them in another order than they were sent in. What is the same then, and where the order is
 -- seen. Where a theorem says so, the node's array has its sixteen places (true of every value of the type).
 use mathlib.Core.Path.{_≡_}
 use mathlib.Core.Logic.{_≢_}
 use mathlib.Core.Bool.{Bool, true, false}
 use mathlib.Core.List.{List, [], _∷_, _++_}
-use Prim.Native.Nat.{ℕ, _≤_, max}
+use Prim.Native.Nat.{ℕ, _≤_, _<_, max}
 use lib.ListN.{length, replicate}
 use Rattle.refusals.specs.Limits.{versionLimit}
 use Rattle.sets.specs.Sets.{has}
@@ -84,8 +84,9 @@ AnyArrival = (xs ys : List Write) (w : Held) → Rearranged xs ys → Reached (w
 pub data Marking : Event → Type 0 where
   mark : (chunk set version : ℕ) → Marking (Event.write chunk set version)
   clear : (member chunk : ℕ) → Marking (Event.synced member chunk)
+  fill : (member version : ℕ) → Marking (Event.fill member version)
 
--- What a mark or a clear is answered, refusal or not, does not hang on one that came before it.
+-- What a mark, a clear or a fill is answered, refusal or not, does not hang on one that came before it.
 abbrev pub OrderFree : Type 0
 OrderFree = (e f : Event) (w : Held) → Marking e → Marking f → Sized w
     → answers f (next e w .at) (next e w .map) (next e w .staging) .answer ≡ answers f (w .at) (w .map) (w .staging) .answer
@@ -97,6 +98,35 @@ MarkAndClear = (chunk set version member cleared : ℕ) (w : Held) → Sized w
     → Accepts (Event.synced member cleared) w
     → ¬ (In set member × (cleared ≡ chunk))
     → both (Event.write chunk set version) (Event.synced member cleared) w ≡ both (Event.synced member cleared) (Event.write chunk set version) w
+
+-- ---- fills
+
+-- It "stores the pool's version as a write does".
+abbrev pub FillStoresTheLarger : Type 0
+FillStoresTheLarger = (member version : ℕ) (w : Held) → Accepts (Event.fill member version) w
+    → next (Event.fill member version) w .at .node .version ≡ max (w .at .node .version) version
+
+-- A fill and a mark leave the same in either order: map, staging and state, kept chunks with it, since a fill keeps none.
+abbrev pub FillAndMark : Type 0
+FillAndMark = (member filling chunk set version : ℕ) (w : Held) → Sized w
+    → Accepts (Event.fill member filling) w
+    → Accepts (Event.write chunk set version) w
+    → both (Event.fill member filling) (Event.write chunk set version) w ≡ both (Event.write chunk set version) (Event.fill member filling) w
+
+-- So do two fills.
+abbrev pub FillsCommute : Type 0
+FillsCommute = (member version member′ version′ : ℕ) (w : Held) → Sized w
+    → Accepts (Event.fill member version) w
+    → Accepts (Event.fill member′ version′) w
+    → both (Event.fill member version) (Event.fill member′ version′) w ≡ both (Event.fill member′ version′) (Event.fill member version) w
+
+-- So do a fill and a clear of another member.
+abbrev pub FillAndClear : Type 0
+FillAndClear = (member version other chunk : ℕ) (w : Held) → Sized w
+    → Accepts (Event.fill member version) w
+    → Accepts (Event.synced other chunk) w
+    → other ≢ member
+    → both (Event.fill member version) (Event.synced other chunk) w ≡ both (Event.synced other chunk) (Event.fill member version) w
 
 -- ---- taking maps into staging
 
@@ -159,6 +189,14 @@ LastOneWins = (chunk set version member : ℕ) (w : Held) → Sized w
     → (dirty (both (Event.synced member chunk) (Event.write chunk set version) w .map) member chunk ≡ 1)
     × (dirty (both (Event.write chunk set version) (Event.synced member chunk) w .map) member chunk ≡ 0)
 
+-- So it does of a fill and a clear of the same member.
+abbrev pub FillOrClear : Type 0
+FillOrClear = (member version chunk : ℕ) (w : Held) → Sized w → chunk < w .at .node .chunks
+    → Accepts (Event.fill member version) w
+    → Accepts (Event.synced member chunk) w
+    → (dirty (both (Event.synced member chunk) (Event.fill member version) w .map) member chunk ≡ 1)
+    × (dirty (both (Event.fill member version) (Event.synced member chunk) w .map) member chunk ≡ 0)
+
 -- The kept chunks follow arrival. Writes that the node accepts, and their chunks:
 abbrev pub AllTaken : List Write → Held → Type 0
 AllTaken [] w = Unit {0}
@@ -218,13 +256,20 @@ write9 = Event.write 9 1 5
 abbrev pub synced7 : Event
 synced7 = Event.synced 0 7
 
+-- a fill of node 0's row, at a version that is lower by then
+abbrev pub fill0 : Event
+fill0 = Event.fill 0 3
+
 pub record Instance : Type 0 where
   pub sized : Sized here
   pub able : Able here
   pub marks : Accepts write7 here
   pub marks-too : Accepts write9 here
   pub clears : Accepts synced7 here
+  pub fills : Accepts fill0 here
   pub version : both write9 write7 here .at .node .version ≡ 5
+  pub fill-version : both write9 fill0 here .at .node .version ≡ 5
+  pub full : dirty (next fill0 here .map) 0 4095 ≡ 1
   pub mark-last : dirty (both synced7 write7 here .map) 0 7 ≡ 1
   pub clear-last : dirty (both write7 synced7 here .map) 0 7 ≡ 0
   pub one-order : keptChunks (both write7 write9 here .at .node) ≡ 7 ∷ 9 ∷ []

@@ -42,6 +42,8 @@ use Rattle.keeps.specs.Pools.{Valid, removal-facts, RemovalOk}
 use Rattle.keeps.specs.Changes.{removing-at}
 use Rattle.keeps.specs.Tried.{tried-roster}
 use Rattle.joins.specs.Joins.{createRefusal, created, createDone, joinCreate, assembleRefusal, assembled, assembleDone, joinAssemble}
+use Rattle.extending.specs.Extending as extending
+use Rattle.extending.specs.Extending.{extendRefusal, extended, extendDone, extend}
 use Rattle.enables.specs.Enables.{enableRefusal, enableDone, enable, maintenanceRefusal, maintenanceDone, maintenance}
 use Rattle.links.specs.Links.{downRefusal, dropped, downAt, downDone, linkDown, checkRefusal, checkDone, storeCheck, rejoinRefusal, rejoin, tryRefusal, tryRun}
 use Rattle.removal.proofs.Steps.{isOut, paid-at, paid-numbers, remove-passed, removing-numbers}
@@ -51,7 +53,7 @@ use Rattle.removal.specs.Remove.{removeRefusal, removeBegun, gone, remove}
 use Rattle.writes.specs.Writes.{writeRefusal, missStep, missed, loses, marks, writeDone, writeEnded, syncRefusal, syncDone, synced}
 use Rattle.answers.specs.Answers.{answerRefusal, enteredBy, movedOn, answered, answer}
 use Rattle.client.specs.declared.Client.{Client}
-use Rattle.client.specs.Client.{soundFor, removeTurn, writeTurn, answerTurn, syncedTurn, cleanTo}
+use Rattle.client.specs.Client.{soundFor, extendTurn, removeTurn, writeTurn, answerTurn, syncedTurn, cleanTo}
 use Rattle.events.specs.Events.{Event, Part, answerPart, turnOf, outOf, next, stateOf, isSync, jobOf, partOf, isAccepted}
 use Rattle.events.specs.Said.{membersOf, versionOf, notOwed, isGood, isLeave}
 use Rattle.events.proofs.States.{and-true, owes-is, mode-same}
@@ -326,7 +328,7 @@ answer-law xs number a c v =
 -- ---- every event
 
 pub law : (e : Event) (c : Client) → Valid (c .pool) → Law e c
-unfolding joinCreate createDone created enable enableDone maintenance maintenanceDone linkDown downDone storeCheck checkDone rejoin tryRun synced syncDone syncedTurn went
+unfolding joinCreate createDone created enable enableDone maintenance maintenanceDone linkDown downDone storeCheck checkDone rejoin tryRun synced syncDone syncedTurn extendTurn extend extendDone extended went
 law (Event.joinCreate id) c v =
     calm (Event.joinCreate id) c
     (turn-of (Calm c) (createRefusal (c .pool) id) (createDone (c .pool) id) (c .pool) (refl, refl) (λ e. (refl, either (λ (ro : Roster). ro .past ≡ pastOf c) (isSync c) _ _ refl refl)))
@@ -356,3 +358,8 @@ law (Event.synced xs member chunk) c v =
     (turn-of (Calm c) (syncRefusal (c .pool) (soundFor (c .pool) xs) member chunk (cleanTo xs chunk 16)) (syncDone (c .pool) member chunk) (c .pool) (refl, refl) (λ e. (refl, refl)))
     refl refl
 law (Event.answer xs number a) c v = answer-law xs number a c v
+law (Event.extend xs) c v =
+    calm (Event.extend xs) c
+    (turn-of (Calm c) (extendRefusal (c .pool) (soundFor (c .pool) xs)) (extendDone (c .pool) (extending.picked (c .pool .roster))) (c .pool) (refl, refl)
+    (λ e. (refl, tried-calm c (withRoster (c .pool) (extended (c .pool .roster) (extending.picked (c .pool .roster)))) refl)))
+    refl refl

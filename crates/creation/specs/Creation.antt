@@ -19,6 +19,7 @@ abbrev pub isAcknowledged : Outcome → Bool
 isAcknowledged Outcome.Plain = false
 isAcknowledged (Outcome.Taken n) = false
 isAcknowledged (Outcome.Written acknowledged list) = acknowledged
+isAcknowledged (Outcome.Picked id) = false
 
 abbrev pub acknowledges : Answer → Bool
 acknowledges (Answer.Refused n) = false
@@ -38,6 +39,7 @@ takesOver (Event.remove xs id mode) c = false
 takesOver (Event.write xs chunk reached) c = false
 takesOver (Event.synced xs member chunk) c = false
 takesOver (Event.answer xs number a) c = false
+takesOver (Event.extend xs) c = false
 
 -- a delete takes out a member's entry, be it there or not; a sync pool has none
 abbrev pub takesOne : Part → Client → Bool

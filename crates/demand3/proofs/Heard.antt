@@ -10,7 +10,6 @@ use Rattle.maps.specs.Map.{sound, zeroed}
 use Rattle.maps.proofs.Sound.{sound-fact, sound-test, sound-zeroed}
 use Rattle.state.specs.declared.Told.{Told}
 use Rattle.state.specs.declared.Answer.{Answer}
-use Rattle.state.specs.declared.Effect.{Effect}
 use Rattle.state.specs.declared.Turn.{Turn}
 use Rattle.rules.specs.Jobs.{isRunning}
 use Rattle.client.specs.declared.Client.{Client}
@@ -18,6 +17,8 @@ use Rattle.events.specs.Events.{turnOf, isAccepted}
 use Rattle.events.proofs.Demand2.{sound-stays}
 use Rattle.bounds.specs.Demand3.{New}
 use Rattle.events.proofs.Law.{law}
+use Rattle.events.proofs.Sound.{left-sound}
+use Rattle.events.proofs.Tries.{ByTrial}
 use Rattle.bounds.proofs.Demand3.{afresh}
 use Rattle.nodestate.specs.Change.{endedTransfer, transferred}
 use Rattle.nodestate.specs.Turns.{settled}
@@ -74,6 +75,7 @@ tell-keeps P h (Told.Clears to member chunk) f j p = p
 tell-keeps P h (Told.Infos to op member) f j p = p
 tell-keeps P h (Told.Disable to) f j p = upd-keeps P f to (does (f to) node.Event.mapDisable .station) (λ q. h to (f to) q) j p
 tell-keeps P h (Told.Off to) f j p = p
+tell-keeps P h (Told.Extended others normals member version) f j p = p
 
 afterward-keeps : (P : ℕ → Station → Type 0) → ((j : ℕ) (s : Station) → P j s → P j (does s node.Event.mapDisable .station)) → (a : Answer) (f : ℕ → Station) (j : ℕ) → P j (f j) → P j (afterward a f j)
 afterward-keeps P h (Answer.Refused n) f j p = p
@@ -89,7 +91,7 @@ version-stays v = afterward-keeps (λ j s. s .node .version ≤ v) (λ j s p. rw
 
 pub heard-leaves : HeardLeaves
 heard-leaves w e r b snd = (
-  record { pool = refl; sent = rw (n .accepted) refl; map = rw (effect, sound-stays (of w) (b .reached) e .0) snd },
+  record { pool = refl; sent = rw (n .accepted) refl; map = rw (effect, sound-stays (of w) (b .reached) e .0) (left-sound (w .pool .chunks) (t .effect) (w .map) (t .fits) snd) },
   λ h. record {
     source = λ k. able-stays _ a (w .nodes) _ (h .source k);
     others = λ j q. able-stays _ a (w .nodes) j (h .others j q);
@@ -107,5 +109,8 @@ heard-leaves w e r b snd = (
     n : New (of w) e r
     n = afresh (of w) e r b
 
-    effect : turnOf e (of w) .effect ≡ Effect.Keep
-    effect = ap (λ (u : Turn). u .effect) (law e (of w) .tries (n .event) (ap isAccepted (n .accepted)) (ap isRunning (b .run)) .turn)
+    t : ByTrial (w .pool) (turnOf e (of w))
+    t = law e (of w) .tries (n .event) (ap isAccepted (n .accepted)) (ap isRunning (b .run))
+
+    effect : turnOf e (of w) .effect ≡ t .effect
+    effect = ap (λ (u : Turn). u .effect) (t .turn)

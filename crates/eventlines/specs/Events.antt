@@ -2,7 +2,7 @@
 use mathlib.Core.Bool.{_&&_}
 use lib.Dec.{ltb, eqb}
 use Rattle.laws.specs.Words.{pick}
-use Rattle.names.specs.Names.{POOL, AUTO, JOIN-CREATE, JOIN-ASSEMBLE, ENABLE, MAINTENANCE, LINK-DOWN, STORE-CHECK, REJOIN, TRY, REMOVE, WRITE, SYNCED, ANSWER, DELIVER, REGISTER-CREATE, REGISTER-ADD, UNREGISTER, LEAVE, ENABLE1, ENABLE0, FAULT, MAP-READY, GIVE-PART, TAKE, TAKE-PART, MAP-DONE, MAP-DISABLE, MAP-GET-VER, LAST-IO, POOL-INFO}
+use Rattle.names.specs.Names.{POOL, AUTO, JOIN-CREATE, JOIN-ASSEMBLE, ENABLE, MAINTENANCE, LINK-DOWN, STORE-CHECK, REJOIN, TRY, REMOVE, WRITE, SYNCED, ANSWER, DELIVER, REGISTER-CREATE, REGISTER-ADD, UNREGISTER, LEAVE, ENABLE1, ENABLE0, FAULT, MAP-READY, GIVE-PART, TAKE, TAKE-PART, MAP-DONE, MAP-DISABLE, MAP-GET-VER, LAST-IO, POOL-INFO, FILL, EXTEND}
 use Rattle.forms.specs.declared.Form.{Form}
 use Rattle.forms.specs.declared.Event.{Event}
 use Rattle.forms.specs.declared.NodeEvent.{NodeEvent}
@@ -21,7 +21,8 @@ clientEvents f rest =
     (pick (plain f STORE-CHECK 2) (Command.Client (Event.StoreCheck (f .x1)))
     (pick (plain f REJOIN 2) (Command.Client (Event.Rejoin (f .x1)))
     (pick (plain f TRY 1) (Command.Client Event.Try)
-    rest)))))))
+    (pick (plain f EXTEND 1) (Command.Client Event.Extend)
+    rest))))))))
 
 -- The other four, and what concerns the lab as a whole.
 unfoldable pub wholeEvents : Form → Command → Command
@@ -48,7 +49,7 @@ storeEvents f rest =
     (pick (node f ENABLE0 3) (Command.Node (f .x1) NodeEvent.Enable0)
     rest)))))))
 
--- A node's events: fault, write, synced, POOL_INFO, LAST_IO.
+-- A node's events: fault, write, synced, POOL_INFO, LAST_IO, fill.
 unfoldable pub serviceEvents : Form → Command → Command
 serviceEvents f rest =
     pick (node f FAULT 3) (Command.Node (f .x1) NodeEvent.Fault)
@@ -56,7 +57,8 @@ serviceEvents f rest =
     (pick (node f SYNCED 5) (Command.Node (f .x1) (NodeEvent.Synced (f .x3) (f .x4)))
     (pick (node f POOL-INFO 5 && ltb (f .x3) 4) (Command.Node (f .x1) (NodeEvent.PoolInfo (opOf (f .x3)) (f .x4)))
     (pick (node f LAST-IO 4) (Command.Node (f .x1) (NodeEvent.LastIo (f .x3)))
-    rest))))
+    (pick (node f FILL 5) (Command.Node (f .x1) (NodeEvent.Fill (f .x3) (f .x4)))
+    rest)))))
 
 -- A node's events: the map's way. A whole map is taken part by part.
 unfoldable pub transferEvents : Form → Command → Command

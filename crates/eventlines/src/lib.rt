@@ -16,8 +16,10 @@ pub fn client_events(f: Form, rest: Command) -> Command
     let x1 = f.x1;
     let x2 = f.x2;
     let x3 = f.x3;
+    let is = plain(f, names::EXTEND, 1);
+    let r = first(is, Command::Client(Event::Extend), rest);
     let is = plain(f, names::TRY, 1);
-    let r = first(is, Command::Client(Event::Try), rest);
+    let r = first(is, Command::Client(Event::Try), r);
     let is = plain(f, names::REJOIN, 2);
     let r = first(is, Command::Client(Event::Rejoin(x1)), r);
     let is = plain(f, names::STORE_CHECK, 2);
@@ -84,7 +86,7 @@ pub fn store_events(f: Form, rest: Command) -> Command
     first(is, Command::Node(x1, NodeEvent::RegisterCreate), r)
 }
 
-// A node's events: fault, write, synced, POOL_INFO, LAST_IO.
+// A node's events: fault, write, synced, POOL_INFO, LAST_IO, fill.
 pub fn service_events(f: Form, rest: Command) -> Command
     ensures { λ r. ⌜ r ≡ serviceEvents f rest ⌝ }
 {
@@ -93,8 +95,10 @@ pub fn service_events(f: Form, rest: Command) -> Command
     let x4 = f.x4;
     let x5 = f.x5;
     let o = forms::op_of(x3);
+    let is = node(f, names::FILL, 5);
+    let r = first(is, Command::Node(x1, NodeEvent::Fill(x3, x4)), rest);
     let is = node(f, names::LAST_IO, 4);
-    let r = first(is, Command::Node(x1, NodeEvent::LastIo(x3)), rest);
+    let r = first(is, Command::Node(x1, NodeEvent::LastIo(x3)), r);
     let is = node(f, names::POOL_INFO, 5) & (x3 < 4);
     let r = first(is, Command::Node(x1, NodeEvent::PoolInfo(o, x4)), r);
     let is = node(f, names::SYNCED, 5);

@@ -74,6 +74,7 @@ new-cause c e c′ id cause was is (Fate.unflagged x k r) = no-cause (stateOf c 
 new-cause c e c′ id cause was is (Fate.paid mode st r) = no-cause (State.Removing mode false) cause refl (sym (state-of c′ id _ r) ∙ is)
 new-cause c e c′ id cause was is (Fate.freed i m r) = no-cause State.Free cause refl (sym (state-of c′ id _ r) ∙ is)
 new-cause c e c′ id cause was is (Fate.removed xs mode x l r) = no-cause State.Free cause refl (sym (state-of c′ id _ r) ∙ is)
+new-cause c e c′ id cause was is (Fate.extends xs x plain st r) = no-cause State.Reconnecting cause refl (sym (state-of c′ id _ r) ∙ is)
 
 -- source document 001's table has no way from FAILED to FAILED
 leaves-failed : (sync : Bool) (cause : Cause) (to : State) → legal sync (State.Failed cause) to ≡ true → isFailed to ≡ false
@@ -97,6 +98,7 @@ old-cause c e c′ id cause was is (Fate.unflagged x k r) = state-of c′ id _ r
 old-cause c e c′ id cause was is (Fate.paid mode st r) = no-cause (State.Removing mode true) cause refl (sym st ∙ was)
 old-cause c e c′ id cause was is (Fate.freed i m r) = clash m (ap isRemoving was)
 old-cause c e c′ id cause was is (Fate.removed xs mode x l r) = clash is (ap isFailed (state-of c′ id _ r))
+old-cause c e c′ id cause was is (Fate.extends xs x plain st r) = no-cause State.Free cause refl (sym st ∙ was)
 
 pub cause-set : CauseSet
 cause-set c _ a id _ (Brings.link n) = down-said c id (reached-valid c (a .reached)) (a .done) .fails ∙ ap (λ (b : Bool). pick b (stateOf c id) (State.Failed Cause.Link)) n

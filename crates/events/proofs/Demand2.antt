@@ -54,6 +54,7 @@ by-fate c e c′ id (Fate.unflagged x is r) = Change.stays (state-of c′ id _ r
 by-fate c e c′ id (Fate.paid mode st r) = Change.paid mode st (state-of c′ id _ r)
 by-fate c e c′ id (Fate.freed i m r) = Change.freed m (state-of c′ id _ r)
 by-fate c e c′ id (Fate.removed xs mode x l r) = Change.removed xs mode x l (state-of c′ id _ r)
+by-fate c e c′ id (Fate.extends xs x plain st r) = Change.extended xs x plain st (state-of c′ id _ r)
 
 pub by-the-table : ByTheTable
 by-the-table c r e = let v = reached-valid c r in ((λ id. by-fate c e (next e c) id (event-fate e c id v)), event-kind e c v)

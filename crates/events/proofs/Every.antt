@@ -59,6 +59,7 @@ quiet-barred (Event.remove xs id mode) f = (refl, refl)
 quiet-barred (Event.write xs chunk reached) f = (refl, refl)
 quiet-barred (Event.synced xs member chunk) f = (refl, refl)
 quiet-barred (Event.answer xs number a) f = clash refl f
+quiet-barred (Event.extend xs) f = (refl, refl)
 
 -- only an answer and a link down end a run: it bars all other events
 barred-lasts : (e : Event) (c : Client) → isAnswer e ≡ false → isDown e ≡ false → endsRun e c ≡ false

@@ -88,6 +88,7 @@ pub data Fate (c : Client) (e : Event) (c′ : Client) (id : ℕ) : Type 0 where
   paid : (mode : Mode) → stateOf c id ≡ State.Removing mode true → recordOf c′ id ≡ newSession (State.Removing mode false) → Fate c e c′ id
   freed : isPart (partOf e c) ≡ true → isRemoving (stateOf c id) ≡ true → recordOf c′ id ≡ free → Fate c e c′ id
   removed : (xs : List ℕ) (mode : Mode) → e ≡ Event.remove xs id mode → legal (isSync c) (stateOf c id) (State.Removing mode true) ≡ true → recordOf c′ id ≡ free → Fate c e c′ id
+  extends : (xs : List ℕ) → e ≡ Event.extend xs → isSync c ≡ false → stateOf c id ≡ State.Free → recordOf c′ id ≡ newSession State.Reconnecting → Fate c e c′ id
 
 -- the fate of id in a pool that the event leaves
 abbrev Has : Client → Event → ℕ → Pool → Type 0

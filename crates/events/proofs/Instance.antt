@@ -1,5 +1,5 @@
 -- Histories of three members in which every hypothesis of the theorems is met, by computation.
-use mathlib.Core.Path.{_≡_, refl}
+use mathlib.Core.Path.{_≡_, refl, sym, _∙_}
 use mathlib.Core.Bool.{Bool, true, false, _&&_}
 use mathlib.Core.List.{List, [], _∷_, _++_}
 use Prim.Native.Nat.{ℕ, zero, suc, _+_, _-_, _^_}
@@ -13,6 +13,7 @@ use Rattle.state.specs.declared.Mode.{Mode}
 use Rattle.state.specs.declared.Answer.{Answer}
 use Rattle.state.specs.declared.Brought.{Brought}
 use Rattle.state.specs.declared.Reply.{Reply}
+use Rattle.state.specs.declared.Outcome.{Outcome}
 use Rattle.roster.specs.declared.Kind.{Kind}
 use Rattle.roster.specs.Roster.{idsOf}
 use Rattle.changes.specs.Changes.{entered, left, failed, went, removing}
@@ -21,6 +22,7 @@ use Rattle.run.specs.Still.{possible}
 use Rattle.recovery.specs.Cases as cases
 use Rattle.recovery.specs.Recovery.{posted, tried}
 use Rattle.rules.specs.Rules.{rosterOk, allAsked, oneAsked, runOk, validPool}
+use Rattle.extending.specs.Extending.{picked, extendRefusal, extended, extendDone, extend}
 use Rattle.joins.specs.Joins.{joinTold, createRefusal, created, createDone, joinCreate, setBars, assembleRefusal, assembled, assembleDone, joinAssemble}
 use Rattle.enables.specs.Enables.{enables, enableRefusal, enableDone, enable, maintenanceRefusal, maintenanceDone, maintenance}
 use Rattle.links.specs.Links.{drops, downRefusal, dropped, downDone, linkDown, checks, checkRefusal, checkDone, storeCheck, rejoinRefusal, rejoin}
@@ -29,10 +31,12 @@ use Rattle.removal.specs.Removal.{due, freedFrom, onward, departed, started}
 use Rattle.removal.specs.Remove.{removeRefusal, remove}
 use Rattle.answers.specs.Answers.{answerRefusal, movedOn, answer}
 use Rattle.client.specs.declared.Client.{Client}
-use Rattle.client.specs.Client.{fresh, removeTurn, writeTurn, answerTurn}
+use Rattle.client.specs.Client.{fresh, extendTurn, removeTurn, writeTurn, answerTurn}
 use Rattle.events.specs.Events.{Event, outOf, next, isAccepted}
+use Rattle.events.specs.Demand1.{Verdict}
 use Rattle.events.specs.Demand2.{Reached}
-use Rattle.events.specs.Said.{Accepts, countOf, membersOf, versionOf}
+use Rattle.events.specs.Said.{Accepts, countOf, membersOf, versionOf, reported}
+use Rattle.events.proofs.Demand1.{demand-1}
 
 -- ---- histories
 
@@ -133,3 +137,42 @@ worked :
     × (outOf (Event.rejoin 0) (after misses pool) .answer ≡ Answer.Refused 9)
 unfolding bit has with without size lowest sound cleanFrom spare room idsOf entered left failed went removing run.receiver run.failedAnswer run.good run.awaitedIn possible cases.caseOf cases.begun posted tried rosterOk allAsked oneAsked runOk validPool joinTold createRefusal created createDone joinCreate setBars assembleRefusal assembled assembleDone joinAssemble enables enableRefusal enableDone enable maintenanceRefusal maintenanceDone maintenance drops downRefusal dropped downDone linkDown checks checkRefusal checkDone storeCheck rejoinRefusal rejoin reachBars writeRefusal missStep missed marks writeDone writeEnded due freedFrom onward departed started removeRefusal remove answerRefusal movedOn answer removeTurn writeTurn answerTurn
 worked = (refl, refl, refl, refl, refl, refl, refl, refl, refl, refl, refl, refl, refl, refl, refl, refl, refl)
+
+-- ---- extend
+
+-- 1 is deleted, and a leg is added: the id that was freed comes again. Then the run that it begins ends well.
+abbrev deleted : List Event
+deleted = three ++ (Event.remove zeros 1 Mode.Delete ∷ good 1 ∷ good 2 ∷ good 3 ∷ [])
+
+abbrev again : List Event
+again = deleted ++ (Event.extend zeros ∷ good 4 ∷ good 5 ∷ good 6 ∷ [])
+
+-- sixteen legs
+abbrev sixteen : List Event
+sixteen =
+    Event.joinCreate 0 ∷ Event.joinCreate 1 ∷ Event.joinCreate 2 ∷ Event.joinCreate 3 ∷ Event.joinCreate 4 ∷ Event.joinCreate 5 ∷ Event.joinCreate 6 ∷ Event.joinCreate 7
+    ∷ Event.joinCreate 8 ∷ Event.joinCreate 9 ∷ Event.joinCreate 10 ∷ Event.joinCreate 11 ∷ Event.joinCreate 12 ∷ Event.joinCreate 13 ∷ Event.joinCreate 14 ∷ Event.joinCreate 15
+    ∷ Event.enable 0 ∷ []
+
+-- With 0, 1 and 2 there the lowest unused id is 3; with 1 deleted it is 1, and the leg becomes NORMAL. With sixteen legs extend is 19, and nothing changes.
+extends :
+    (reported (outOf (Event.extend zeros) (after three pool) .answer) ≡ Outcome.Picked 3)
+    × (reported (outOf (Event.extend zeros) (after deleted pool) .answer) ≡ Outcome.Picked 1)
+    × (accepted again pool ≡ true)
+    × (left-by again ≡ (3, 7, 0, 0, 7))
+    × (membersOf (after again pool) ≡ 7)
+    × (outOf (Event.extend zeros) (after sixteen pool) .answer ≡ Answer.Refused 19)
+unfolding bit has with without size lowest sound cleanFrom spare room idsOf entered left failed went removing run.receiver run.failedAnswer run.good run.awaitedIn possible cases.caseOf cases.begun posted tried rosterOk allAsked oneAsked runOk validPool joinTold createRefusal created createDone joinCreate enables enableRefusal enableDone enable due freedFrom onward departed started removeRefusal remove answerRefusal movedOn answer removeTurn answerTurn picked extendRefusal extended extendDone extend extendTurn
+extends = (refl, refl, refl, refl, refl, refl)
+
+-- a refusal changes nothing
+unchanged : (e : Event) (c : Client) (n : ℕ) → outOf e c .answer ≡ Answer.Refused n → next e c ≡ c
+unchanged e c n q = at (demand-1 e c)
+  where
+    at : Verdict e c → next e c ≡ c
+    at (Verdict.refused m p h) = h .client
+    at (Verdict.done s p h) = let z : Answer.Done s ≡ Answer.Refused n = sym p ∙ q in cc z
+
+-- with sixteen legs
+sixteen-stay : next (Event.extend zeros) (after sixteen pool) ≡ after sixteen pool
+sixteen-stay = unchanged (Event.extend zeros) (after sixteen pool) 19 (extends .5)

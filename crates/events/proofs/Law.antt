@@ -33,11 +33,14 @@ use Rattle.writes.proofs.Kept.{write-keeps, synced-keeps}
 use Rattle.writes.specs.Writes.{writeRefusal, writeEnded, marks, writeDone, syncRefusal, syncDone, synced}
 use Rattle.answers.proofs.Kept.{answer-keeps}
 use Rattle.answers.specs.Answers.{answerRefusal, answered, answer, awaits}
-use Rattle.client.specs.Client.{carried, soundFor, removeTurn, writeTurn, answerTurn, syncedTurn, cleanTo}
+use Rattle.client.specs.Client.{carried, soundFor, extendTurn, removeTurn, writeTurn, answerTurn, syncedTurn, cleanTo}
 use Rattle.client.specs.declared.Client.{Client}
 use Rattle.events.specs.Demand2.{Kept, soundLent}
 use Rattle.events.specs.Events.{Event, turnOf, isAccepted, Lent, lentTo, mapLeft, testsOf, outOf, next, stateOf, keeps, concerns, partOf, touches, raises, isAnswer, isDown}
 use Rattle.events.specs.Said.{membersOf, frees, takesOut}
+use Rattle.extending.proofs.Kept.{extend-keeps}
+use Rattle.extending.specs.Extending.{picked, extendRefusal, extend, extendDone}
+use Rattle.events.proofs.Extends.{extend-others, extend-fate, extend-level, extend-stays, extend-count, extend-touches, extend-inside, extend-trial}
 use Rattle.events.proofs.Fates.{isPart, Fate, create-fate, assemble-fate, enable-fate, maintenance-fate, down-fate, check-fate, rejoin-fate, remove-fate, write-fate, answer-fate}
 use Rattle.events.proofs.Others.{create-others, assemble-others, enable-others, maintenance-others, down-others, check-others, try-others, remove-others, write-others, synced-others, answer-others}
 use Rattle.events.proofs.Removals.{remove-frees, answer-frees, create-stays, assemble-stays, enable-stays, maintenance-stays, down-stays, check-stays, try-stays, write-stays, synced-stays, answer-stays, remove-takes-out, answer-takes-out}
@@ -71,7 +74,7 @@ pub record Law (e : Event) (c : Client) : Type 0 where
   pub tries : isAnswer e ≡ false → isAccepted (outOf e c .answer) ≡ true → Tries (c .pool) (turnOf e c)
 
 pub law : (e : Event) (c : Client) → Law e c
-unfolding joinCreate createRefusal createDone joinAssemble assembleRefusal assembleDone enable enableRefusal enableDone maintenance maintenanceRefusal maintenanceDone linkDown downRefusal downDone storeCheck checkRefusal checkDone rejoin rejoinRefusal tryRun tryRefusal remove removeRefusal removeTurn writeEnded writeRefusal writeDone marks writeTurn synced syncRefusal syncDone syncedTurn answer answerRefusal answerTurn
+unfolding joinCreate createRefusal createDone extend extendRefusal extendDone extendTurn joinAssemble assembleRefusal assembleDone enable enableRefusal enableDone maintenance maintenanceRefusal maintenanceDone linkDown downRefusal downDone storeCheck checkRefusal checkDone rejoin rejoinRefusal tryRun tryRefusal remove removeRefusal removeTurn writeEnded writeRefusal writeDone marks writeTurn synced syncRefusal syncDone syncedTurn answer answerRefusal answerTurn
 law (Event.joinCreate id) c =
     record {
       does = createDone (c .pool) id;
@@ -323,4 +326,25 @@ law (Event.answer xs number a) c =
       stays = answer-stays xs number a c;
       taking = answer-takes-out xs number a c;
       tries = clash refl;
+    }
+law (Event.extend xs) c =
+    record {
+      does = extendDone (c .pool) (picked (c .pool .roster));
+      same = refl;
+      plain = λ e. refl;
+      one = refl;
+      six = λ r q a d. ap (λ (j : Job). not (isIdle j)) q;
+      rules = extend-keeps (c .pool) (soundFor (c .pool) xs);
+      count = extend-count xs c;
+      touch = extend-touches xs c;
+      same-map = ap (λ (ef : Effect). Lent.some (carried ef xs));
+      left = λ v s. left-sound (c .pool .chunks) (extendTurn (c .pool) xs .effect) xs (extend-inside xs c) s;
+      others = extend-others xs c;
+      fate = λ j v n. rw (eqb-true j (picked (c .pool .roster)) n) (extend-fate c xs v);
+      level = extend-level xs c;
+      loud = λ v f. clash f refl;
+      freeing = λ v d p id was. clash p refl;
+      stays = extend-stays xs c;
+      taking = λ v d p id was. clash p refl;
+      tries = extend-trial xs c;
     }

@@ -8,11 +8,13 @@ pub mod Touches
 pub mod Sound
 pub mod Removals
 pub mod Tries
+pub mod Extends
 pub mod Law
 pub mod Every
 pub mod Demand1
 pub mod Marks
 pub mod Sessions
+pub mod Adds
 pub mod Written
 pub mod Demand2
 pub mod Causes

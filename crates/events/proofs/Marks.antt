@@ -99,6 +99,7 @@ module _ (c : Client) (e : Event) (c′ : Client) (id : ℕ) (v : Valid (c .pool
   mark-stays z (Fate.paid mode st r) = mark-is c′ id _ (markOf c id) r refl
   mark-stays z (Fate.freed i m r) = mark-is c′ id _ (markOf c id) r refl
   mark-stays z (Fate.removed xs mode x l r) = mark-is c′ id _ (markOf c id) r refl
+  mark-stays z (Fate.extends xs x p st r) = mark-is c′ id _ (markOf c id) r (sym (nobodys c id v st .0))
 
   -- somebody was: nobody was marked
   mark-appears : eqb (countOf c) 0 ≡ false → Fate c e c′ id → markOf c′ id ≡ (bears (stateOf c′ id) && lastNormal c id)
@@ -118,6 +119,7 @@ module _ (c : Client) (e : Event) (c′ : Client) (id : ℕ) (v : Valid (c .pool
   mark-appears z (Fate.paid mode st r) = mark-is c′ id _ (lastNormal c id) r refl
   mark-appears z (Fate.freed i m r) = mark-is c′ id _ (lastNormal c id) r refl
   mark-appears z (Fate.removed xs mode x l r) = mark-is c′ id _ (lastNormal c id) r refl
+  mark-appears z (Fate.extends xs x p st r) = mark-is c′ id _ (lastNormal c id) r (rw st refl)
 
 -- The mark after an event, by the fate of the session.
 pub mark-after : (c : Client) (e : Event) (c′ : Client) (id : ℕ) → Valid (c .pool) → Valid (c′ .pool) → isSync c ≡ false → isSync c′ ≡ false → Fate c e c′ id
@@ -147,3 +149,4 @@ flag-after c e c′ id v m n (Fate.unflagged x is r) = absurd (n x)
 flag-after c e c′ id v m n (Fate.paid mode st r) = flag-is c′ id _ (flagOf c id) r (sym (and-false (flagOf c id)))
 flag-after c e c′ id v m n (Fate.freed i k r) = flag-is c′ id _ (flagOf c id) r (sym (and-false (flagOf c id)))
 flag-after c e c′ id v m n (Fate.removed xs mode x l r) = flag-is c′ id _ (flagOf c id) r (sym (and-false (flagOf c id)))
+flag-after c e c′ id v m n (Fate.extends xs x p st r) = flag-is c′ id _ (flagOf c id) r (rw (nobodys c id v st .1) refl)

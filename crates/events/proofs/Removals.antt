@@ -310,6 +310,7 @@ unfreed c e c′ id p was (Fate.unflagged x is r) = lives c′ id _ r was
 unfreed c e c′ id p was (Fate.paid mode st r) = lives c′ id _ r refl
 unfreed c e c′ id p was (Fate.freed i m r) = clash i p
 unfreed c e c′ id p was (Fate.removed xs mode x l r) = clash (ap (λ (e : Event). isPart (partOf e c)) x) p
+unfreed c e c′ id p was (Fate.extends xs x plain st r) = clash (ap isFree st) was
 
 -- ---- the session
 

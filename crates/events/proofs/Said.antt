@@ -1,7 +1,8 @@
 -- What document 01 says of the client's events.
 use mathlib.Core.Path.{_∙_}
 use Rattle.events.specs.Events.{next}
-use Rattle.events.specs.Said.{JoinBegins, StoreCheck, NormalOnly, VersionRises, WriteMarks, LastAuthoritative, Maintenance, EnableDoes, LinkDown, RemoveBegins, Freed, DeleteTakesOut}
+use Rattle.events.specs.Said.{JoinBegins, StoreCheck, NormalOnly, VersionRises, WriteMarks, LastAuthoritative, Maintenance, EnableDoes, LinkDown, RemoveBegins, Freed, DeleteTakesOut, CreateEnds, ExtendAdds, ExtendNone}
+use Rattle.events.proofs.Adds.{create-ends, extend-said, extend-none}
 use Rattle.events.proofs.Demand2.{reached-valid}
 use Rattle.events.proofs.Every.{event-keeps, event-fate, event-kind, event-rises, freed-said, members-said}
 use Rattle.events.proofs.Marks.{mark-after, flag-after}
@@ -58,3 +59,12 @@ delete-takes-out = (
   (λ c xs id mode a plain. remove-rows c (reached-valid c (a .reached)) plain xs id mode (a .done)),
   λ c xs number r m a plain job. answer-rows c (reached-valid c (a .reached)) plain xs number r m job (a .done),
 )
+
+pub create-ends-said : CreateEnds
+create-ends-said c r id h idle free written = create-ends c id (reached-valid c r) h idle free written
+
+pub extend-adds : ExtendAdds
+extend-adds c xs a = extend-said c xs (reached-valid c (a .reached)) (a .done)
+
+pub extend-refused : ExtendNone
+extend-refused c xs r plain idle snd = extend-none c xs (reached-valid c r) plain idle snd

@@ -86,6 +86,7 @@ becomes c e c′ id plain was is (Fate.unflagged x k r) = clash (after-normal c�
 becomes c e c′ id plain was is (Fate.paid mode st r) = clash (after-normal c′ id _ (state-of c′ id _ r) is) refl
 becomes c e c′ id plain was is (Fate.freed i m r) = clash (after-normal c′ id _ (state-of c′ id _ r) is) refl
 becomes c e c′ id plain was is (Fate.removed xs mode x l r) = clash (after-normal c′ id _ (state-of c′ id _ r) is) refl
+becomes c e c′ id plain was is (Fate.extends xs x p st r) = clash (after-normal c′ id _ (state-of c′ id _ r) is) refl
 
 -- ---- the job in hand
 
@@ -95,7 +96,7 @@ idle-is (Job.Running r) e = clash e refl
 idle-is (Job.Removing m) e = clash e refl
 
 -- after recovery was tried with no job in hand
-tried-job : (p : Pool) → p .job ≡ Job.Idle → tried p .pool .job ≡ recoveryIn (record { pool = tried p .pool })
+pub tried-job : (p : Pool) → p .job ≡ Job.Idle → tried p .pool .job ≡ recoveryIn (record { pool = tried p .pool })
 unfolding tried posted
 tried-job p idle = at (begun (p .roster)) refl
   where

@@ -3,8 +3,8 @@ use mathlib.Core.Path.{_≡_, refl, ap}
 use mathlib.Core.Bool.{Bool, true, not, _&&_}
 use mathlib.Core.List.{List}
 use Prim.Native.Nat.{ℕ}
-use lib.Dec.{eqb, ltb}
-use borrow.Author.Tests.{ltb-true, not-false}
+use lib.Dec.{eqb, leb, ltb}
+use borrow.Author.Tests.{leb-true, ltb-true, not-false}
 use Rattle.laws.specs.Tests.{clash, either}
 use Rattle.order.proofs.Order.{none-applies}
 use Rattle.maps.specs.Map.{sound}
@@ -38,15 +38,16 @@ use Rattle.writes.specs.Writes.{writeRefusal, writeEnded, marks, writeDone, los
 use Rattle.answers.specs.Answers.{answerRefusal, enteredBy, answered, answer, movedOn}
 use Rattle.client.specs.Client.{carried, soundFor, removeTurn, writeTurn, answerTurn, syncedTurn, cleanTo}
 use Rattle.client.specs.declared.Client.{Client}
+use Rattle.fills.proofs.Laws.{sound-filled}
 use Rattle.maps.proofs.Sound.{Sound, sound-fact, sound-test, sound-zeroRow, sound-zeroed, sound-markedFor}
 use Rattle.events.specs.Events.{Event, testsOf, next, keeps, removalTouches, answerTouches}
 
 -- ---- the chunk count
 
-abbrev Same : Pool → Pool → Type 0
+abbrev pub Same : Pool → Pool → Type 0
 Same p q = q .chunks ≡ p .chunks
 
-tried-same : (p : Pool) → Same p (tried p .pool)
+pub tried-same : (p : Pool) → Same p (tried p .pool)
 unfolding tried posted
 tried-same p = at (begun (p .roster))
   where
@@ -154,30 +155,34 @@ answer-count xs number a c =
 
 -- ---- the lent map
 
--- what is marked is below the chunk count
-abbrev inside : ℕ → Effect → Bool
+-- what is marked is below the chunk count, and no row is set past it
+abbrev pub inside : ℕ → Effect → Bool
 inside n Effect.Keep = true
 inside n (Effect.Mark s k) = ltb k n
 inside n (Effect.ZeroRow m) = true
 inside n Effect.ZeroAll = true
+inside n (Effect.FillRow m k) = leb k n
 
 carried-sound : (n : ℕ) (ef : Effect) (xs : List ℕ) → inside n ef ≡ true → Sound n xs → Sound n (carried ef xs)
 carried-sound n Effect.Keep xs i s = s
 carried-sound n (Effect.Mark t k) xs i s = sound-markedFor n t k xs s (ltb-true k n i)
 carried-sound n (Effect.ZeroRow m) xs i s = sound-zeroRow n m xs s
 carried-sound n Effect.ZeroAll xs i s = sound-zeroed n xs s
+carried-sound n (Effect.FillRow m k) xs i s = sound-filled n m k xs s (leb-true k n i)
 
 kept-inside : (n : ℕ) (ef : Effect) → keeps ef ≡ true → inside n ef ≡ true
 kept-inside n Effect.Keep e = refl
 kept-inside n (Effect.Mark s k) e = clash e refl
 kept-inside n (Effect.ZeroRow m) e = refl
 kept-inside n Effect.ZeroAll e = refl
+kept-inside n (Effect.FillRow m k) e = clash e refl
 
 pub removal-inside : (n id : ℕ) (deletes : Bool) (ro : Roster) (ef : Effect) → removalTouches id deletes ro ef ≡ true → inside n ef ≡ true
 removal-inside n id deletes ro Effect.Keep e = refl
 removal-inside n id deletes ro (Effect.Mark s k) e = clash e refl
 removal-inside n id deletes ro (Effect.ZeroRow m) e = refl
 removal-inside n id deletes ro Effect.ZeroAll e = refl
+removal-inside n id deletes ro (Effect.FillRow m k) e = clash e refl
 
 pub answer-inside : (j : Job) (n : ℕ) (c : Client) (ro : Roster) (ef : Effect) → answerTouches j c ro ef ≡ true → inside n ef ≡ true
 answer-inside Job.Idle n c ro ef e = kept-inside n ef e

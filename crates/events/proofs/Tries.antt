@@ -24,7 +24,7 @@ use Rattle.changes.specs.Changes.{memberDropped}
 use Rattle.run.specs.Run.{receiver}
 use Rattle.recovery.specs.Recovery.{withRoster, posted, runEnded, jobless, disablingBut}
 use Rattle.exits.proofs.Laws.{halts}
-use Rattle.exits.specs.Exit.{triedAfter}
+use Rattle.exits.specs.Exit.{triedWith, triedAfter}
 use Rattle.rules.specs.Jobs.{isIdle, isPeer, isRunning}
 use Rattle.joins.specs.Joins.{createRefusal, createDone, joinCreate, assembleRefusal, assembleDone, joinAssemble}
 use Rattle.enables.specs.Enables.{enableRefusal, enable, maintenanceRefusal, maintenanceDone, enableDone, maintenance}
@@ -38,6 +38,7 @@ use Rattle.client.specs.Client.{soundFor, removeTurn, writeTurn, syncedTurn, cl
 use Rattle.client.specs.declared.Client.{Client}
 use Rattle.events.specs.Events.{Event, turnOf, isAccepted, testsOf, outOf, isAnswer}
 use Rattle.events.proofs.Shape.{taken}
+use Rattle.events.proofs.Sound.{inside}
 
 -- ---- the run in hand after an event is one that recovery tried began
 
@@ -46,7 +47,9 @@ pub record ByTrial (p : Pool) (u : Turn) : Type 0 where
   pub after : Pool
   pub outcome : Outcome
   pub told : Told
-  pub turn : u ≡ triedAfter p after outcome told
+  pub effect : Effect
+  pub turn : u ≡ triedWith p after outcome told effect
+  pub fits : inside (p .chunks) effect ≡ true
   pub idle : after ≡ jobless (withRoster p (after .roster))
 
 abbrev pub Tries : Pool → Turn → Type 0
@@ -65,18 +68,24 @@ idle-is Job.Idle e = refl
 idle-is (Job.Running r) e = clash refl (sym e)
 idle-is (Job.Removing m) e = clash refl (sym e)
 
-pub by-trial : (p : Pool) (ro : Roster) (outcome : Outcome) (told : Told) → isIdle (p .job) ≡ true → Tries p (triedAfter p (withRoster p ro) outcome told)
-by-trial p ro outcome told i z =
+pub by-trial-with : (p : Pool) (ro : Roster) (outcome : Outcome) (told : Told) (effect : Effect) → inside (p .chunks) effect ≡ true → isIdle (p .job) ≡ true
+    → Tries p (triedWith p (withRoster p ro) outcome told effect)
+by-trial-with p ro outcome told effect fits i z =
     record {
       after = withRoster p ro;
       outcome = outcome;
       told = told;
+      effect = effect;
       turn = refl;
+      fits = fits;
       idle = ap (λ (j : Job). at j) (idle-is (p .job) i);
     }
   where
     at : Job → Pool
     at j = record { roster = ro; job = j; number = p .number; chunks = p .chunks }
+
+by-trial : (p : Pool) (ro : Roster) (outcome : Outcome) (told : Told) → isIdle (p .job) ≡ true → Tries p (triedAfter p (withRoster p ro) outcome told)
+by-trial p ro outcome told i = by-trial-with p ro outcome told Effect.Keep refl i
 
 -- ---- no removal begins a run
 
@@ -119,12 +128,12 @@ Quiet q = isRunning (q .job) ≡ false
 down-tries : (j : Job) (p : Pool) (id : ℕ) → p .job ≡ j → Tries p (downAt j p id)
 down-tries Job.Idle p id e = no-run p _ (ap isRunning e)
 down-tries (Job.Running r) p id e =
-    λ z. record { after = runEnded (withRoster p (dropped (p .roster) id)); outcome = Outcome.Taken (r .taken); told = disablingBut id (receiver r); turn = refl; idle = refl }
+    λ z. record { after = runEnded (withRoster p (dropped (p .roster) id)); outcome = Outcome.Taken (r .taken); told = disablingBut id (receiver r); effect = Effect.Keep; turn = refl; fits = refl; idle = refl }
 down-tries (Job.Removing m) p id e =
     no-run p _ (halts Quiet (isPeer (Job.Removing m) id) (withRoster p (dropped (p .roster) id)) refl (ap isRunning e))
 
 -- no job is in hand where the sixth test does not hold
-idle-at : (p : Pool) → not (isIdle (p .job)) ≡ false → isIdle (p .job) ≡ true
+pub idle-at : (p : Pool) → not (isIdle (p .job)) ≡ false → isIdle (p .job) ≡ true
 idle-at p e = not-false (isIdle (p .job)) e
 
 marks-quiet : (p q : Pool) (chunk reached : ℕ) → Quiet q → Quiet (marks p q chunk reached .pool)

@@ -128,6 +128,7 @@ unleft c e c′ id f (Fate.unflagged x is r) = same-state c c′ id (state-of c�
 unleft c e c′ id f (Fate.paid mode st r) = was-not c c′ id (rw st refl)
 unleft c e c′ id f (Fate.freed i m r) = was-not c c′ id (removing-not (stateOf c id) m)
 unleft c e c′ id f (Fate.removed xs mode x l r) = clash (ap raises x) f
+unleft c e c′ id f (Fate.extends xs x plain st r) = was-not c c′ id (rw st refl)
 
 -- ---- the version
 

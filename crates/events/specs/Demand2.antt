@@ -33,7 +33,7 @@ abbrev pub NeverOne : Type 0
 NeverOne = (c : Client) → Reached c → (e : Event) (n : ℕ) → outOf e c .answer ≡ Answer.Refused n → n ≢ 1
 
 -- What one event may make of the state of id's session: it stays; it goes along source document 001's table; it begins, at join create CREATED (in a sync pool
--- NORMAL), at join assemble CREATED, then RECONNECTING; while it is REMOVING its LEAVE_POOL is done, or it is freed; and remove, of its own id, may take it to
+-- NORMAL), at join assemble CREATED, then RECONNECTING, at extend RECONNECTING; while it is REMOVING its LEAVE_POOL is done, or it is freed; and remove, of its own id, may take it to
 -- REMOVING and free it in the same event.
 pub data Change (sync : Bool) (e : Event) (id : ℕ) (from to : State) : Type 0 where
   stays : to ≡ from → Change sync e id from to
@@ -43,6 +43,7 @@ pub data Change (sync : Bool) (e : Event) (id : ℕ) (from to : State) : Type 0 
   paid : (mode : Mode) → from ≡ State.Removing mode true → to ≡ State.Removing mode false → Change sync e id from to
   freed : isRemoving from ≡ true → to ≡ State.Free → Change sync e id from to
   removed : (xs : List ℕ) (mode : Mode) → e ≡ Event.remove xs id mode → legal sync from (State.Removing mode true) ≡ true → to ≡ State.Free → Change sync e id from to
+  extended : (xs : List ℕ) → e ≡ Event.extend xs → sync ≡ false → from ≡ State.Free → to ≡ State.Reconnecting → Change sync e id from to
 
 -- At every reached client, every event makes one such change of each session, and never changes the pool's kind.
 abbrev pub ByTheTable : Type 0

@@ -22,6 +22,7 @@ use Rattle.roster.specs.Roster.{sessionAt, idsOf}
 use Rattle.run.specs.declared.Who.{Who}
 use Rattle.run.specs.Run.{takes}
 use Rattle.joins.specs.Joins as Joins
+use Rattle.extending.specs.Extending as Extending
 use Rattle.enables.specs.Enables as Enables
 use Rattle.links.specs.Links as Links
 use Rattle.removal.specs.Remove as Remove
@@ -29,10 +30,10 @@ use Rattle.writes.specs.Writes as Writes
 use Rattle.answers.specs.Answers as Answers
 use Rattle.client.specs.declared.Client.{Client}
 use Rattle.client.specs.declared.Out.{Out}
-use Rattle.client.specs.Client.{handed, carried, soundFor, removeTurn, writeTurn, answerTurn, cleanTo, syncedTurn}
+use Rattle.client.specs.Client.{handed, carried, soundFor, extendTurn, removeTurn, writeTurn, answerTurn, cleanTo, syncedTurn}
 
 -- join create: id. join assemble: id, set, version. remove: map, id, mode. write: map, chunk, reached set. synced: a NORMAL node's map, member, chunk.
--- answer: map, number, reply.
+-- answer: map, number, reply. extend: map.
 pub data Event : Type 0 where
   joinCreate : ℕ → Event
   joinAssemble : ℕ → ℕ → ℕ → Event
@@ -46,6 +47,7 @@ pub data Event : Type 0 where
   write : List ℕ → ℕ → ℕ → Event
   synced : List ℕ → ℕ → ℕ → Event
   answer : List ℕ → ℕ → Reply → Event
+  extend : List ℕ → Event
 
 -- ---- words
 
@@ -89,6 +91,7 @@ keeps Effect.Keep = true
 keeps (Effect.Mark s k) = false
 keeps (Effect.ZeroRow m) = false
 keeps Effect.ZeroAll = false
+keeps (Effect.FillRow m n) = false
 
 -- what the removal of an id may do to the client map, `deletes` being its mode: zero the row of the member, or all once no session is left.
 abbrev pub removalTouches : ℕ → Bool → Roster → Effect → Bool
@@ -96,6 +99,7 @@ removalTouches id deletes after Effect.Keep = true
 removalTouches id deletes after (Effect.Mark s k) = false
 removalTouches id deletes after (Effect.ZeroRow m) = eqb m id && deletes
 removalTouches id deletes after Effect.ZeroAll = nobodyLeft after
+removalTouches id deletes after (Effect.FillRow m n) = false
 
 -- what an answer may do to it
 abbrev pub answerTouches : Job → Client → Roster → Effect → Bool
@@ -109,6 +113,19 @@ writeTouches chunk after Effect.Keep = true
 writeTouches chunk after (Effect.Mark s k) = eqb k chunk && eqb s (idsOf Kind.Listed after)
 writeTouches chunk after (Effect.ZeroRow m) = false
 writeTouches chunk after Effect.ZeroAll = false
+writeTouches chunk after (Effect.FillRow m n) = false
+
+-- the id that extend picks: the lowest that is neither a member nor held by a session
+abbrev pub picks : Client → ℕ
+picks c = Extending.picked (c .pool .roster)
+
+-- what extend may do to it: set that id's row for every chunk
+abbrev pub extendTouches : Client → Effect → Bool
+extendTouches c Effect.Keep = true
+extendTouches c (Effect.Mark s k) = false
+extendTouches c (Effect.ZeroRow m) = false
+extendTouches c Effect.ZeroAll = false
+extendTouches c (Effect.FillRow m n) = eqb m (picks c) && eqb n (c .pool .chunks)
 
 -- An event's part in a removal: remove, of an id in a mode; an answer, while a removal is in hand; none.
 pub data Part : Type 0 where
@@ -140,8 +157,8 @@ sortIsDown Sort.barred = false
 -- ---- the cases
 
 -- What an event is. tests: its refusal is the first of them that applies. turn: its answer, the next state, and what is done to the lent map. lent, left: the map that is lent, and
--- what is left of it; the map lent to synced is only read. concerns: the sessions that it is about: its id's; at a write the NORMAL ones not reached; at try and synced none.
--- touches: what it may do to the map that is lent to it, given the sessions that it leaves: a write marks, a removal zeroes, every other event does nothing. part: its part in
+-- what is left of it; the map lent to synced is only read. concerns: the sessions that it is about: its id's; at extend that of the id it picks; at a write the NORMAL ones not reached; at try and synced none.
+-- touches: what it may do to the map that is lent to it, given the sessions that it leaves: a write marks, a removal zeroes, extend sets a row, every other event does nothing. part: its part in
 -- a removal. sort: how it comes during a run. raises: it may raise the version.
 pub record Case : Type 0 where
   pub tests : Client → List Test
@@ -236,6 +253,18 @@ caseOf (Event.answer xs number a) =
       part = λ c. answerPart (jobOf c) a;
       sort = Sort.answer;
       raises = true;
+    }
+caseOf (Event.extend xs) =
+    record {
+      tests = λ c. Extending.extendTests (c .pool) (soundFor (c .pool) xs);
+      turn = λ c. extendTurn (c .pool) xs;
+      lent = Lent.some xs;
+      left = λ c. Lent.some (carried (extendTurn (c .pool) xs .effect) xs);
+      concerns = λ c j. eqb j (picks c);
+      touches = λ c after ef. extendTouches c ef;
+      part = λ c. Part.none;
+      sort = Sort.barred;
+      raises = false;
     }
 
 abbrev pub testsOf : Event → Client → List Test

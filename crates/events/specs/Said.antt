@@ -4,12 +4,13 @@ use mathlib.Core.Path.{_≡_}
 use mathlib.Core.Logic.{_≢_}
 use mathlib.Core.Bool.{Bool, true, false, _&&_, _||_, not}
 use mathlib.Core.List.{List}
-use Prim.Native.Nat.{ℕ, _+_, max}
+use Prim.Native.Nat.{ℕ, _+_, _<_, max}
 use lib.Dec.{eqb, ltb}
 use Rattle.laws.specs.Words.{pick, one}
 use Rattle.sets.specs.Sets.{has, countTo}
-use Rattle.chunks.specs.Chunk.{markedFor}
-use Rattle.maps.specs.Map.{zeroRow, zeroed}
+use Rattle.chunks.specs.Chunk.{markedFor, dirty}
+use Rattle.maps.specs.Map.{sound, zeroRow, zeroed}
+use Rattle.fills.specs.Fill.{rowFilled}
 use Rattle.state.specs.declared.Mode.{Mode}
 use Rattle.state.specs.declared.Cause.{Cause}
 use Rattle.state.specs.declared.State.{State}
@@ -20,6 +21,7 @@ use Rattle.state.specs.declared.Job.{Job}
 use Rattle.state.specs.declared.Message.{Message}
 use Rattle.state.specs.declared.Told.{Told}
 use Rattle.state.specs.declared.Outcome.{Outcome}
+use Rattle.state.specs.declared.Sent.{Sent}
 use Rattle.state.specs.declared.Answer.{Answer}
 use Rattle.state.specs.declared.Brought.{Brought}
 use Rattle.state.specs.declared.Reply.{Reply}
@@ -318,3 +320,49 @@ DeleteTakesOut =
     → mapLeft (Event.remove xs id mode) c ≡ Lent.some (rowsAfter (Part.remove id mode) c (next (Event.remove xs id mode) c) id xs))
     × ((c : Client) (xs : List ℕ) (number : ℕ) (a : Reply) (m : Removal) → Accepts c (Event.answer xs number a) → isSync c ≡ false → jobOf c ≡ Job.Removing m
     → mapLeft (Event.answer xs number a) c ≡ Lent.some (rowsAfter (Part.answer m a) c (next (Event.answer xs number a) c) (m .id) xs))
+
+-- ---- extend (document 02, C-20)
+
+-- id is neither a member nor held by a session
+abbrev pub isUnused : Client → ℕ → Bool
+isUnused c id = isFree (stateOf c id) && not (has (membersOf c) id)
+
+-- "Joining by create becomes refusal 17 once a write has been acknowledged": where nothing of an earlier place refuses it, and before 10. Refused: a join that goes on after a
+-- write; 10 given for a member then.
+abbrev pub CreateEnds : Type 0
+CreateEnds = (c : Client) → Reached c → (id : ℕ) → id < 16 → jobOf c ≡ Job.Idle → isFree (stateOf c id) ≡ true → c .pool .roster .past .written ≡ true
+    → outOf (Event.joinCreate id) c .answer ≡ Answer.Refused 17
+
+-- an accepted extend, and the id that it picks
+pub record Extended (c : Client) (xs : List ℕ) (e : Event) : Type 0 where
+  pub id : ℕ
+  pub below : id < 16
+  pub unused : isUnused c id ≡ true
+  pub lowest : (j : ℕ) → j < id → isUnused c j ≡ false
+  pub begins : stateOf (next e c) id ≡ State.Reconnecting
+  pub members : (j : ℕ) → has (membersOf (next e c)) j ≡ (has (membersOf c) j || eqb j id)
+  pub told : ℕ
+  pub others : (j : ℕ) → has told j ≡ isTold (stateOf c j)
+  pub fills : ℕ
+  pub normals : (j : ℕ) → has fills j ≡ isNormal (stateOf c j)
+  pub sent : Sent
+  pub answer : outOf e c .answer ≡ Answer.Done sent
+  pub reports : sent .outcome ≡ Outcome.Picked id
+  pub messages : sent .told ≡ Told.Extended told fills id (versionOf c)
+  pub tries : jobOf (next e c) ≡ recoveryIn (next e c)
+  pub map : mapLeft e c ≡ Lent.some (rowFilled id (c .pool .chunks) xs)
+  pub row : (m k : ℕ) → m < 16 → k < 4096 → dirty (rowFilled id (c .pool .chunks) xs) m k ≡ pick (eqb m id && ltb k (c .pool .chunks)) 1 (dirty xs m k)
+
+-- "Extend picks the lowest id that is neither a member nor held by a session .. POOL_INFO goes out as at a join by create; then .. the new member's row is set for every chunk in the
+-- client map and on every NORMAL node .. its session is RECONNECTING, and recovery is tried .. Extend is logged with its id": the answer reports it. Refused: the highest such id,
+-- or one that is held; a NORMAL node that gets no fill, a fill with another version; the row of another member, a chunk left out, a chunk set past the count.
+abbrev pub ExtendAdds : Type 0
+ExtendAdds = (c : Client) (xs : List ℕ) → Accepts c (Event.extend xs) → Extended c xs (Event.extend xs)
+
+-- "It is refused (number 19) exactly when no such id exists"; where a session is NORMAL ("with no NORMAL session it is refusal 11, checked before 19"), no job is in hand, and the map
+-- is sound. Refused: 19 while an id is unused, an id above 15.
+abbrev pub ExtendNone : Type 0
+ExtendNone = (c : Client) (xs : List ℕ) → Reached c → isSync c ≡ false → jobOf c ≡ Job.Idle → sound (c .pool .chunks) xs ≡ true
+    → ((n : ℕ) → isNormal (stateOf c n) ≡ true → ((j : ℕ) → j < 16 → isUnused c j ≡ false) → outOf (Event.extend xs) c .answer ≡ Answer.Refused 19)
+    × (outOf (Event.extend xs) c .answer ≡ Answer.Refused 19 → (j : ℕ) → j < 16 → isUnused c j ≡ false)
+    × (((n : ℕ) → isNormal (stateOf c n) ≡ false) → outOf (Event.extend xs) c .answer ≡ Answer.Refused 11)

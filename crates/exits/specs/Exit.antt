@@ -36,8 +36,12 @@ abbrev pub changed : Pool → Roster → Told → Turn
 changed p ro told = accepted p (withRoster p ro) Outcome.Plain told Message.Nothing Effect.Keep
 
 -- An accepted event after which recovery is tried; the event stands if no run begins.
+abbrev pub triedWith : Pool → Pool → Outcome → Told → Effect → Turn
+triedWith before after outcome told effect = accepted before (tried after .pool) outcome told (tried after .awaited) effect
+
+-- one that does nothing to the client map
 abbrev pub triedAfter : Pool → Pool → Outcome → Told → Turn
-triedAfter before after outcome told = accepted before (tried after .pool) outcome told (tried after .awaited) Effect.Keep
+triedAfter before after outcome told = triedWith before after outcome told Effect.Keep
 
 -- A removal whose awaited peer is lost halts: no job is in hand. What is owed stands in the session.
 abbrev pub haltedIf : Bool → Pool → Pool

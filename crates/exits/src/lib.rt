@@ -1,6 +1,6 @@
 // How every client event ends.
 ghost use mathlib.Core.Path.{_≡_};
-ghost use Rattle.exits.specs.Exit.{refused, numberOf, accepted, changed, triedAfter, haltedIf};
+ghost use Rattle.exits.specs.Exit.{refused, numberOf, accepted, changed, triedWith, triedAfter, haltedIf};
 use state::Answer;
 use state::Effect;
 use state::Message;
@@ -68,13 +68,20 @@ pub fn change(p: Pool, ro: Roster, told: Told) -> Turn
 }
 
 // An accepted event after which recovery is tried.
-pub fn try_after(before: Pool, after: Pool, outcome: Outcome, told: Told) -> Turn
-    ensures { λ r. ⌜ r ≡ triedAfter before after outcome told ⌝ }
+pub fn try_with(before: Pool, after: Pool, outcome: Outcome, told: Told, effect: Effect) -> Turn
+    ensures { λ r. ⌜ r ≡ triedWith before after outcome told effect ⌝ }
 {
     let tried = recovery::try_recovery(after);
     let next = tried.pool;
     let awaited = tried.awaited;
-    accept(before, next, outcome, told, awaited, Effect::Keep)
+    accept(before, next, outcome, told, awaited, effect)
+}
+
+// One that does nothing to the client map.
+pub fn try_after(before: Pool, after: Pool, outcome: Outcome, told: Told) -> Turn
+    ensures { λ r. ⌜ r ≡ triedAfter before after outcome told ⌝ }
+{
+    try_with(before, after, outcome, told, Effect::Keep)
 }
 
 // A removal whose awaited peer is lost halts.

@@ -26,9 +26,10 @@ pub enum Event {
     Write(u64, u64),
     Synced(u64, u64, u64),
     Answer(u64, Reply),
+    Extend,
 }
 
-// A node's events. GivePart: offset, length. TakePart: offset, length, the node of whose map it is a part.
+// A node's events. GivePart: offset, length. TakePart: offset, length, the node of whose map it is a part. Fill: member, version.
 pub enum NodeEvent {
     RegisterCreate,
     RegisterAdd(u64, u64),
@@ -49,6 +50,7 @@ pub enum NodeEvent {
     MapDone(bool, u64, u64),
     MapDisable,
     MapGetVer,
+    Fill(u64, u64),
 }
 
 // A map: the client's, a node's, a node's staging map.

@@ -33,16 +33,10 @@ fn create_refusal(p: Pool, id: u64) -> u64
     let st = s.state;
     let idle = rules::jobs::is_idle(j);
     let free = state::is_free(st);
+    let past = ro.past;
     let member = sets::has(ro.members, id);
-    first(
-        !ok,
-        1,
-        first(
-            15 < id,
-            3,
-            first(!idle, 6, first(!free, 8, first(member, 10, 0))),
-        ),
-    )
+    let rest = first(!free, 8, first(past.written, 17, first(member, 10, 0)));
+    first(!ok, 1, first(15 < id, 3, first(!idle, 6, rest)))
 }
 
 fn create(ro: Roster, id: u64) -> Roster

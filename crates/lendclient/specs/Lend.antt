@@ -23,6 +23,7 @@ lender (forms.Event.Remove id mode) = 16
 lender (forms.Event.Write chunk reached) = 16
 lender (forms.Event.Synced member chunk n) = n
 lender (forms.Event.Answer number a) = 16
+lender forms.Event.Extend = 16
 
 -- the lent part of the client's map
 abbrev pub ownOf : Lent → List ℕ → List ℕ

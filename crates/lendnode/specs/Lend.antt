@@ -42,6 +42,7 @@ takingOf (NodeEvent.TakePart offset length m) = record { giver = m; offset = off
 takingOf (NodeEvent.MapDone enabling version set) = nothing
 takingOf NodeEvent.MapDisable = nothing
 takingOf NodeEvent.MapGetVer = nothing
+takingOf (NodeEvent.Fill member version) = nothing
 
 -- the first n bytes, 0 past the end
 unfoldable pub padded : ℕ → List ℕ → List ℕ

@@ -158,6 +158,12 @@ ASSEMBLED = 50
 abbrev pub REJOIN : ℕ
 REJOIN = 51
 
+abbrev pub FILL : ℕ
+FILL = 52
+
+abbrev pub EXTEND : ℕ
+EXTEND = 53
+
 -- the code of what is no word
 abbrev pub UNKNOWN : ℕ
 UNKNOWN = 255
@@ -243,7 +249,9 @@ namesG w rest =
     word w "written" WRITTEN
     (word w "assembled" ASSEMBLED
     (word w "rejoin" REJOIN
-    rest))
+    (word w "fill" FILL
+    (word w "extend" EXTEND
+    rest))))
 
 -- The code of a word, UNKNOWN for any other bytes.
 unfoldable pub nameOf : List ℕ → ℕ

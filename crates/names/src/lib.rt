@@ -107,6 +107,10 @@ pub const ASSEMBLED: u64 = 50;
 
 pub const REJOIN: u64 = 51;
 
+pub const FILL: u64 = 52;
+
+pub const EXTEND: u64 = 53;
+
 // The code of what is no word.
 pub const UNKNOWN: u64 = 255;
 
@@ -350,7 +354,17 @@ fn names_g(s: &[u8], rest: u64) -> u64
         s,
         b"written",
         WRITTEN,
-        word(s, b"assembled", ASSEMBLED, word(s, b"rejoin", REJOIN, rest)),
+        word(
+            s,
+            b"assembled",
+            ASSEMBLED,
+            word(
+                s,
+                b"rejoin",
+                REJOIN,
+                word(s, b"fill", FILL, word(s, b"extend", EXTEND, rest)),
+            ),
+        ),
     )
 }
 

@@ -31,12 +31,14 @@ use Rattle.nodejoins.specs.Join as Join
 use Rattle.nodeenables.specs.Enable as Enable
 use Rattle.nodewrites.specs.Write as Write
 use Rattle.nodewrites.specs.Info as Info
+use Rattle.nodefills.specs.Fill as Fill
 use Rattle.nodeserve.specs.Serve as Serve
 use Rattle.nodehand.specs.Hand as Hand
 use Rattle.noderegister.proofs.Keeps as register
 use Rattle.nodejoins.proofs.Keeps as joins
 use Rattle.nodeenables.proofs.Keeps as enable
 use Rattle.nodewrites.proofs.Keeps as writes
+use Rattle.nodefills.proofs.Keeps as fills
 use Rattle.nodeserve.proofs.Keeps as serve
 use Rattle.nodehand.proofs.Keeps as hand
 use Rattle.node.specs.declared.StorageNode.{StorageNode}
@@ -84,7 +86,7 @@ fits-informs Op.RemoveDelete member n = refl
 fits-informs Op.RemoveDisassemble member n = refl
 
 unfoldable pub law : (e : Event) (n : Node) (lent : ℕ) → Law e n lent
-unfolding Register.registerCreate Register.registerAdd Register.unregister Join.joinCreate Join.assemble Join.leave Enable.enable1 Enable.enable0 Enable.fault Write.write Write.synced Info.poolInfo Serve.mapReady Serve.givePart Hand.takePart Hand.mapDone Hand.mapDisable Serve.mapGetVer Serve.lastIoToMap Register.registerCreateRefusal Register.registerAddRefusal Register.unregisterRefusal Join.joinCreateRefusal Join.assembleRefusal Join.leaveRefusal Enable.enable1Refusal Enable.stopRefusal Write.writeRefusal Write.syncedRefusal Info.poolInfoRefusal Serve.serveRefusal Serve.givePartRefusal Serve.lastIoRefusal Hand.handRefusal Hand.takePartRefusal Hand.mapDoneRefusal Write.written storedVersion keptChunk
+unfolding Register.registerCreate Register.registerAdd Register.unregister Join.joinCreate Join.assemble Join.leave Enable.enable1 Enable.enable0 Enable.fault Write.write Write.synced Info.poolInfo Serve.mapReady Serve.givePart Hand.takePart Hand.mapDone Hand.mapDisable Serve.mapGetVer Serve.lastIoToMap Fill.fill Register.registerCreateRefusal Register.registerAddRefusal Register.unregisterRefusal Join.joinCreateRefusal Join.assembleRefusal Join.leaveRefusal Enable.enable1Refusal Enable.stopRefusal Write.writeRefusal Write.syncedRefusal Info.poolInfoRefusal Serve.serveRefusal Serve.givePartRefusal Serve.lastIoRefusal Hand.handRefusal Hand.takePartRefusal Hand.mapDoneRefusal Write.written storedVersion keptChunk Fill.fillRefusal
 law Event.registerCreate n lent = record { done = _; same = refl; plain = refl; one = refl; two = refl; keeps = λ h e. register.registerCreate-keeps n lent h e; fit = λ e. refl; clean = λ e. refl }
 law (Event.registerAdd set version) n lent = record { done = _; same = refl; plain = refl; one = refl; two = refl; keeps = λ h e. register.registerAdd-keeps n lent set version e; fit = λ e. refl; clean = λ e. refl }
 law (Event.unregister delete) n lent = record { done = _; same = refl; plain = refl; one = refl; two = refl; keeps = λ h e. register.unregister-keeps n lent delete e; fit = λ e. fits-wipes delete _; clean = λ e. refl }
@@ -104,6 +106,7 @@ law (Event.mapDone enabling version set) n lent = record { done = _; same = refl
 law Event.mapDisable n lent = record { done = _; same = refl; plain = refl; one = refl; two = refl; keeps = λ h e. hand.mapDisable-keeps n lent e; fit = λ e. refl; clean = λ e. refl }
 law Event.mapGetVer n lent = record { done = _; same = refl; plain = refl; one = refl; two = refl; keeps = λ h e. serve.mapGetVer-keeps n lent e; fit = λ e. refl; clean = λ e. refl }
 law (Event.lastIoToMap chosen) n lent = record { done = _; same = refl; plain = refl; one = refl; two = refl; keeps = λ h e. serve.lastIo-keeps n lent chosen e; fit = λ e. serve.lastIo-passed n lent chosen e .rules .keeps; clean = λ e. refl }
+law (Event.fill member version) n lent = record { done = _; same = refl; plain = refl; one = refl; two = refl; keeps = λ h e. fills.fill-keeps n lent member version e; fit = λ e. refl; clean = λ e. refl }
 
 -- where none applies, the node keeps its rules and the lent maps do not refuse
 pub law-rules : (e : Event) (n : Node) (lent : ℕ) → refusal (testsAt e n lent) ≡ 0 → Valid n

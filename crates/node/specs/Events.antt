@@ -14,11 +14,13 @@ use Rattle.nodejoins.specs.Join as Join
 use Rattle.nodeenables.specs.Enable as Enable
 use Rattle.nodewrites.specs.Write as Write
 use Rattle.nodewrites.specs.Info as Info
+use Rattle.nodefills.specs.Fill as Fill
 use Rattle.nodeserve.specs.Serve as Serve
 use Rattle.nodehand.specs.Hand as Hand
 
 -- registerAdd: set, version. unregister, leave: delete. joinCreate: set. enable1: version, set. write: chunk, set, version. synced: member, chunk.
 -- poolInfo: what, member. mapReady: keep. givePart: offset, length. takePart: offset, the bytes. mapDone: enabling, version, set. lastIoToMap: the chosen.
+-- fill: member, version.
 pub data Event : Type 0 where
   registerCreate : Event
   registerAdd : ℕ → ℕ → Event
@@ -39,6 +41,7 @@ pub data Event : Type 0 where
   mapDisable : Event
   mapGetVer : Event
   lastIoToMap : ℕ → Event
+  fill : ℕ → ℕ → Event
 
 -- the part that is lent to be taken, if any
 pub data Part : Type 0 where
@@ -73,6 +76,7 @@ caseOf (Event.mapDone enabling version set) = record { kind = Kind.mapDone; part
 caseOf Event.mapDisable = record { kind = Kind.mapDisable; part = Part.none; tests = λ n lent. Hand.handTests n lent; turn = λ n lent. Hand.mapDisable n lent }
 caseOf Event.mapGetVer = record { kind = Kind.mapGetVer; part = Part.none; tests = λ n lent. Serve.serveTests n lent; turn = λ n lent. Serve.mapGetVer n lent }
 caseOf (Event.lastIoToMap chosen) = record { kind = Kind.lastIoToMap; part = Part.none; tests = λ n lent. Serve.lastIoTests n lent chosen; turn = λ n lent. Serve.lastIoToMap n lent chosen }
+caseOf (Event.fill member version) = record { kind = Kind.fill; part = Part.none; tests = λ n lent. Fill.fillTests n lent member version; turn = λ n lent. Fill.fill n lent member version }
 
 abbrev pub kindOf : Event → Kind
 kindOf e = caseOf e .kind

@@ -297,6 +297,18 @@ impl StorageNode {
         let t = nodeserve::last_io_to_map(n, lent, chosen);
         finish(t, map, staging)
     }
+
+    // A leg was added to the pool in service: every chunk is dirty for it.
+    pub fn fill(mut self, map: &mut [u8], staging: &mut [u8], member: u64, version: u64) -> Out
+        ensures { λ r. ⌜ r ≡ answers (Event.fill member version) self (now (map .entry)) (now (staging .entry)) ⌝ }
+        ensures { λ _. ⌜ now (map .exit) ≡ mapLeft (Event.fill member version) self (now (map .entry)) (now (staging .entry)) ⌝ }
+        ensures { λ _. ⌜ now (staging .exit) ≡ stagingLeft (Event.fill member version) self (now (map .entry)) (now (staging .entry)) ⌝ }
+    {
+        let n = self.node;
+        let lent = lent_number(n.chunks, map, staging);
+        let t = nodefills::fill(n, lent, member, version);
+        finish(t, map, staging)
+    }
 }
 
 // The number that the lent maps refuse with, 0 where they do not.

@@ -20,6 +20,8 @@ use Rattle.maps.specs.Map.{sound, cleanFrom, zeroed, rowsKept, zeroRow, orIn}
 use Rattle.maps.proofs.Chunks.{same, same-yes, same-no, hit-yes, hit-no, dirty-markedFor, dirty-cleared, dirty-or}
 use Rattle.maps.proofs.Sound.{Sound, sound-fact, sound-cleared, sound-markedFor, sound-or, sound-kept, sound-zeroRow}
 use Rattle.maps.proofs.Rows.{copied-all, zeroed-all}
+use Rattle.fills.specs.Fill.{rowFilled}
+use Rattle.fills.proofs.Laws.{length-filled, filled-byte, filled-own, filled-other, filled-past}
 use Rattle.parts.specs.Parts.{orPart}
 use Rattle.parts.proofs.Joined.{part-in, part-before, part-past, sound-part}
 use Rattle.state.specs.declared.Op.{Op}
@@ -46,11 +48,13 @@ use Rattle.nodemaps.proofs.Bytes.{past-end, kept-in, kept-out, zeroed-in, zeroe
 use Rattle.nodemaps.proofs.Sound.{sound-map}
 use Rattle.nodemaps.proofs.Rows.{dirty-nowhere, keptIn, kept-yes, kept-no, due, lastIos-chunk}
 use Rattle.nodewrites.proofs.Keeps.{write-chunk}
+use Rattle.nodefills.specs.Fill.{fillRefusal, filled}
+use Rattle.nodefills.proofs.Keeps.{fill-member}
 use Rattle.node.specs.Events.{Event, partIn}
 use Rattle.node.specs.Face.{answers, lentTo, mapBy, stagingBy, stagingWith}
 use Rattle.node.specs.Held.{Held}
 use Rattle.node.proofs.Theorems.{law, Accepted, accepted-done}
-use Rattle.nodeevents.specs.Said.{Accepts, Zeroed, Rows, Marked, Cleared, PartOred, Ored, keptChunks, AmongKept, LastIos, saidOf, StagingAsSaid, TransferAsSaid, In, MapAsSaid, lastSixteen, KeptAsSaid}
+use Rattle.nodeevents.specs.Said.{Accepts, Zeroed, Rows, Marked, Cleared, Filled, PartOred, Ored, keptChunks, AmongKept, LastIos, saidOf, StagingAsSaid, TransferAsSaid, In, MapAsSaid, lastSixteen, KeptAsSaid}
 use Rattle.nodeevents.proofs.Demand2.{taken-plain}
 
 -- ---- an accepted event
@@ -122,6 +126,21 @@ module _ (n : ℕ) (xs : List ℕ) (s : Sound n xs) where
         those = λ k d. zeroed-out member xs (s .len) k d;
         others = λ k d. elim (ℕ-discrete (k / 512) member) [ yes q ↦ zeroed-in member xs (s .len) k q | no d′ ↦ absurd (d d′) ];
       }
+
+  fills : (member : ℕ) → member < 16 → n ≤ 4096 → Filled member n xs (rowFilled member n xs)
+  fills member hm f =
+      record {
+        size = length-filled member n xs ∙ s .len;
+        those = λ c l. filled-own xs member n c (s .len) hm l (omega arith);
+        others = λ m c d. each-bit (rowFilled member n xs) m c (dirty xs m c) (λ h l. rest m c d h l) (dirty-nowhere xs m c);
+        rows = λ k d. filled-byte member n xs k d;
+      }
+    where
+      rest : (m c : ℕ) → ¬ ((m ≡ member) × (c < n)) → m < 16 → c < 4096 → dirty (rowFilled member n xs) m c ≡ dirty xs m c
+      rest m c d h l = elim (decLt c n) [
+        | yes b ↦ filled-other xs member n m c (s .len) hm h l (λ q. d (sym q, b))
+        | no g ↦ filled-past xs member n m c (s .len) hm h l (omega arith)
+      ]
 
   marks : (set chunk : ℕ) → chunk < n → n ≤ 4096 → Marked (In set) chunk xs (markedFor xs set chunk)
   marks set chunk l f =
@@ -296,7 +315,7 @@ record Done (e : Event) (w : Held) : Type 0 where
   kept : length (w .at .node .kept) ≡ 16 → saidOf e w .kept (keptChunks (doneAt e w .node))
 
 done : (e : Event) (w : Held) → Known e w → Done e w
-unfolding law stagingBy mapBy stagingAfter mapAfter takenIn wentTo equipped takenOver memberEntered memberDropped storedVersion keptChunk forgotten transferred endedTransfer instructed registeredCreate registeredAdd unregistered wiped joinedCreate left enabled disabled informed readied partTaken committed written takePartRefusal writeRefusal
+unfolding law stagingBy mapBy stagingAfter mapAfter takenIn wentTo equipped takenOver memberEntered memberDropped storedVersion keptChunk forgotten transferred endedTransfer instructed registeredCreate registeredAdd unregistered wiped joinedCreate left enabled disabled informed readied partTaken committed written filled takePartRefusal writeRefusal fillRefusal
 done Event.registerCreate w d =
     record {
       staging = refl;
@@ -478,6 +497,13 @@ done (Event.lastIoToMap chosen) w d =
       map =
           let e : Event = Event.lastIoToMap chosen in
           unfold marked in last-ios (w .at .node) chosen (w .staging) (w .map) (d .rules) (map-sound e w d) (staging-sound e w d);
+      kept = λ h. refl;
+    }
+done (Event.fill member version) w d =
+    record {
+      staging = refl;
+      transfer = refl;
+      map = fills (w .at .node .chunks) (w .map) (map-sound (Event.fill member version) w d) member (fill-member (w .at .node) (lentTo (w .at .node) (w .map) (w .staging)) member version (d .none)) (d .rules .few);
       kept = λ h. refl;
     }
 

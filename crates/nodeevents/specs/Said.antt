@@ -52,6 +52,13 @@ pub record Cleared (member chunk : ℕ) (from left : List ℕ) : Type 0 where
   pub that : dirty left member chunk ≡ 0
   pub others : (m c : ℕ) → ¬ ((m ≡ member) × (c ≡ chunk)) → dirty left m c ≡ dirty from m c
 
+-- every chunk below a count is dirty for one member, every other bit is as it was, and every byte of another row
+pub record Filled (member count : ℕ) (from left : List ℕ) : Type 0 where
+  pub size : length left ≡ 8192
+  pub those : (c : ℕ) → c < count → dirty left member c ≡ 1
+  pub others : (m c : ℕ) → ¬ ((m ≡ member) × (c < count)) → dirty left m c ≡ dirty from m c
+  pub rows : (k : ℕ) → k / 512 ≢ member → getD left k 0 ≡ getD from k 0
+
 -- a part is ORed in from an offset on, byte for byte, and every other byte is as it was
 pub record PartOred (offset : ℕ) (part from left : List ℕ) : Type 0 where
   pub size : length left ≡ 8192
@@ -129,7 +136,7 @@ lastSixteen xs = drop (length xs - 16) xs
 -- rows zeroed". Leave: "staging dropped; delete zeroes the other rows, never its own". "A write marks", and "keeps the last 16 chunk numbers". POOL_INFO: "add-create enters a
 -- member with a zero row", "remove-delete zeroes row"; add-assemble and remove-disassemble name no byte. "MAP_READY .. fills staging (zero, or the map)", and a transfer begins,
 -- also where one is in hand, at byte 0. "Taking a map ORs it in", part by part. "MAP_DONE commits." "Enable 1 and MAP_DONE .. zero rows outside it." "MAP_DISABLE, Leave and Enable drop staging; dropped or
--- committed, it is zeroed."
+-- committed, it is zeroed." Fill (document 02): "the new member's row is set for every chunk", and it "keeps no chunk number".
 abbrev pub saidOf : Event → Held → Sentence
 saidOf Event.registerCreate w = record { staging = StagingStays w; transfer = TransferStays w; map = Zeroed; kept = λ left. left ≡ [] }
 saidOf (Event.registerAdd set version) w = record { staging = StagingStays w; transfer = TransferStays w; map = MapStays w; kept = KeptStays w }
@@ -174,6 +181,7 @@ saidOf (Event.mapDone enabling version set) w = record { staging = Zeroed; trans
 saidOf Event.mapDisable w = record { staging = Zeroed; transfer = Gone; map = MapStays w; kept = KeptStays w }
 saidOf Event.mapGetVer w = record { staging = StagingStays w; transfer = TransferStays w; map = MapStays w; kept = KeptStays w }
 saidOf (Event.lastIoToMap chosen) w = record { staging = StagingStays w; transfer = TransferStays w; map = LastIos (w .at .node) chosen (w .map); kept = KeptStays w }
+saidOf (Event.fill member version) w = record { staging = StagingStays w; transfer = TransferStays w; map = Filled member (w .at .node .chunks) (w .map); kept = KeptStays w }
 
 -- Each assumes that the event is accepted; the last also that the node's array has its sixteen places (true of every value of the type).
 abbrev pub StagingAsSaid : Type 0

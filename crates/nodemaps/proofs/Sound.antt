@@ -14,6 +14,7 @@ use Rattle.chunks.specs.Chunk.{dirty}
 use Rattle.maps.proofs.Sound.{Sound, sound-cleared, sound-copied, sound-zeroRow, sound-zeroed, sound-kept, sound-markedFor}
 use Rattle.maps.specs.Map.{cleanFrom}
 use Rattle.parts.proofs.Joined.{sound-part}
+use Rattle.fills.proofs.Laws.{sound-filled}
 use Rattle.nodestate.specs.declared.OnMap.{OnMap}
 use Rattle.nodestate.specs.declared.OnStaging.{OnStaging}
 use Rattle.nodestate.specs.declared.Node.{Node}
@@ -31,6 +32,7 @@ fits (OnMap.ZeroRow member) n = true
 fits OnMap.Zero n = true
 fits (OnMap.KeepRows set) n = true
 fits (OnMap.Commit set) n = true
+fits (OnMap.FillRow member) n = true
 
 pub sound-lastIoAt : (n : Node) (chosen i : ℕ) (xs : List ℕ) → keptOk n ≡ true → i < 16 → Sound (n .chunks) xs → Sound (n .chunks) (lastIoAt n chosen i xs)
 unfolding lastIoAt lastIo
@@ -53,6 +55,7 @@ sound-map (OnMap.ZeroRow member) n ys xs f r s = sound-zeroRow _ member xs s
 sound-map OnMap.Zero n ys xs f r s = sound-zeroed _ xs s
 sound-map (OnMap.KeepRows set) n ys xs f r s = sound-kept _ set xs s
 sound-map (OnMap.Commit set) n ys xs f r s = sound-kept _ set _ (sound-copied _ xs ys s r)
+sound-map (OnMap.FillRow member) n ys xs f r s = sound-filled (n .chunks) member (n .chunks) xs s (omega arith)
 
 pub sound-staging : (c : ℕ) (e : OnStaging) (xs ys : List ℕ) → Sound c xs → Sound c ys → Sound c (stagingAfter e xs ys)
 unfolding stagingAfter

@@ -9,6 +9,7 @@ use Rattle.sets.specs.Sets.{without}
 use Rattle.chunks.specs.Chunk.{dirty, markedFor, cleared}
 use Rattle.maps.specs.Map.{zeroRow, zeroed, rowsKept, copied}
 use Rattle.parts.specs.Parts.{orPart}
+use Rattle.fills.specs.Fill.{rowFilled}
 use Rattle.nodestate.specs.declared.OnMap.{OnMap}
 use Rattle.nodestate.specs.declared.OnStaging.{OnStaging}
 use Rattle.nodestate.specs.declared.Node.{Node}
@@ -36,6 +37,7 @@ mapAfter (OnMap.ZeroRow member) n ys xs = zeroRow member xs
 mapAfter OnMap.Zero n ys xs = zeroed xs
 mapAfter (OnMap.KeepRows set) n ys xs = rowsKept set xs
 mapAfter (OnMap.Commit set) n ys xs = rowsKept set (copied xs ys)
+mapAfter (OnMap.FillRow member) n ys xs = rowFilled member (n .chunks) xs
 
 -- the staging map after an effect; xs is the map after it. What is ORed in is lent to taking alone: takenIn
 unfoldable pub stagingAfter : OnStaging → List ℕ → List ℕ → List ℕ

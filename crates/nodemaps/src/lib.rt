@@ -31,6 +31,7 @@ fn carry_map(e: OnMap, n: Node, map: &mut [u8], staging: &[u8])
         OnMap::Zero => maps::zero(map),
         OnMap::KeepRows(set) => maps::keep_rows(map, set),
         OnMap::Commit(set) => commit(set, map, staging),
+        OnMap::FillRow(member) => fills::fill_row(map, member, n.chunks),
     }
 }
 

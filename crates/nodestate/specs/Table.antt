@@ -24,6 +24,7 @@ pub data Kind : Type 0 where
   mapDisable : Kind
   mapGetVer : Kind
   lastIoToMap : Kind
+  fill : Kind
 
 -- the same state, one with a session
 abbrev pub stays : State → State → Bool
@@ -50,3 +51,4 @@ legal mapDone from to = isNoIo from && (isNormal to || isNoIo to)
 legal mapDisable from to = isNoIo from && isNoIo to
 legal mapGetVer from to = stays from to
 legal lastIoToMap from to = stays from to
+legal fill from to = stays from to

@@ -35,7 +35,7 @@ pub struct Node {
 }
 
 // What is done to the node's map. Mark: a set, a chunk. Clear: a member, a chunk. LastIos: the chosen. ZeroRow: a member. KeepRows: of a set.
-// Commit: staging in its place, with the rows of a set.
+// Commit: staging in its place, with the rows of a set. FillRow: every chunk of a member.
 pub enum OnMap {
     Keep,
     Mark(u64, u64),
@@ -45,6 +45,7 @@ pub enum OnMap {
     Zero,
     KeepRows(u64),
     Commit(u64),
+    FillRow(u64),
 }
 
 // What is done to the staging map. Fill: the map copied into it. Or: the part that was lent for taking ORed in, from an offset on.

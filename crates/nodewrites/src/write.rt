@@ -51,7 +51,7 @@ fn written(n: Node, chunk: u64, version: u64) -> Node
     change::kept_chunk(stored, chunk)
 }
 
-fn larger(a: u64, b: u64) -> u64
+pub fn larger(a: u64, b: u64) -> u64
     ensures { λ r. ⌜ r ≡ max a b ⌝ }
 {
     if a < b { b } else { a }

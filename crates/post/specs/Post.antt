@@ -6,6 +6,7 @@ use Rattle.laws.specs.Words.{pick}
 use Rattle.sets.specs.Sets.{has}
 use Rattle.state.specs.declared.Brought.{Brought}
 use Rattle.state.specs.declared.Message.{Message}
+use Rattle.state.specs.declared.Op.{Op}
 use Rattle.state.specs.declared.Reply.{Reply}
 use Rattle.state.specs.declared.Told.{Told}
 use Rattle.state.specs.Session.{isDelete}
@@ -18,6 +19,10 @@ use Rattle.post.specs.declared.Errand.{Errand}
 abbrev pub dueIf : Bool → NodeEvent → Due
 dueIf to e = pick to (Due.One e) Due.Nothing
 
+-- Both, the first before the second, where both go to this node.
+abbrev pub dueBoth : Bool → NodeEvent → Bool → NodeEvent → Due
+dueBoth first e second f = pick first (pick second (Due.Two e f) (Due.One e)) (dueIf second f)
+
 -- What node i gets of the messages that are not awaited.
 abbrev pub toldTo : Told → ℕ → Due
 toldTo Told.Nothing i = Due.Nothing
@@ -26,6 +31,7 @@ toldTo (Told.Clears set member chunk) i = dueIf (has set i) (NodeEvent.Synced me
 toldTo (Told.Infos set op member) i = dueIf (has set i) (NodeEvent.PoolInfo op member)
 toldTo (Told.Disable to) i = dueIf (eqb to i) NodeEvent.MapDisable
 toldTo (Told.Off to) i = dueIf (eqb to i) NodeEvent.Enable0
+toldTo (Told.Extended others normals member version) i = dueBoth (has others i) (NodeEvent.PoolInfo Op.AddCreate member) (has normals i) (NodeEvent.Fill member version)
 
 -- What the awaited message asks of the nodes. MAP_SEND: the node gives its map part by part, and the receiver takes each.
 abbrev pub errandOf : Message → Errand

@@ -1,10 +1,11 @@
 // The client's messages as events of their nodes, and a node's answer as the client's.
 ghost use mathlib.Core.Path.{_≡_};
-ghost use Rattle.post.specs.Post.{dueIf, toldTo, errandOf, replyOf};
+ghost use Rattle.post.specs.Post.{dueIf, dueBoth, toldTo, errandOf, replyOf};
 use forms::NodeEvent;
 use nodestate::Answer;
 use state::Brought;
 use state::Message;
+use state::Op;
 use state::Reply;
 use state::Told;
 
@@ -19,6 +20,19 @@ fn one_if(to: bool, e: NodeEvent) -> Due
     ensures { λ r. ⌜ r ≡ dueIf to e ⌝ }
 {
     if to { Due::One(e) } else { Due::Nothing }
+}
+
+// Both, the first before the second, where both go to this node.
+fn both_if(first: bool, e: NodeEvent, second: bool, f: NodeEvent) -> Due
+    ensures { λ r. ⌜ r ≡ dueBoth first e second f ⌝ }
+{
+    if first {
+        if second {
+            return Due::Two(e, f);
+        }
+        return Due::One(e);
+    }
+    one_if(second, f)
 }
 
 // What node i gets of the messages that are not awaited.
@@ -38,6 +52,12 @@ pub fn told_to(t: Told, i: u64) -> Due
         Told::Infos(set, op, member) => one_if(sets::has(set, i), NodeEvent::PoolInfo(op, member)),
         Told::Disable(to) => one_if(to == i, NodeEvent::MapDisable),
         Told::Off(to) => one_if(to == i, NodeEvent::Enable0),
+        Told::Extended(others, normals, member, version) => both_if(
+            sets::has(others, i),
+            NodeEvent::PoolInfo(Op::AddCreate, member),
+            sets::has(normals, i),
+            NodeEvent::Fill(member, version),
+        ),
     }
 }
 

@@ -66,6 +66,7 @@ isKind Kind.Listed sync members i s = has members i && (not (isNormal (s .state)
 isKind Kind.Odd sync members i s = odd sync members i s
 isKind Kind.Link sync members i s = isCut (s .state)
 isKind Kind.Io sync members i s = isFailed (s .state) && not (isCut (s .state))
+isKind Kind.Unused sync members i s = isFree (s .state) && not (has members i)
 
 -- the set of the ids whose record is of the kind
 unfoldable pub idsOf : Kind → Roster → ℕ

@@ -10,7 +10,7 @@ use state::State;
 
 // What a set of ids is made of. Present: has a session. Maintained: flagged. Owed: REMOVING, and LEAVE_POOL is owed. Told: POOL_INFO goes there; Later: and the id is above the given one. Strays: of the set, no
 // candidate. Reached, Unreached: NORMAL, in the set or not. Abnormal: of the set, not NORMAL. Listed: on the mark list of a write. Odd: the record alone
-// breaks a state rule. Link, Io: FAILED with this cause.
+// breaks a state rule. Link, Io: FAILED with this cause. Unused: neither a member nor held by a session.
 pub enum Kind {
     Present,
     Normals,
@@ -29,6 +29,7 @@ pub enum Kind {
     Odd,
     Link,
     Io,
+    Unused,
 }
 
 pub fn session(ro: Roster, id: u64) -> Session
@@ -87,6 +88,13 @@ fn is_listed(members: u64, i: u64, s: Session) -> bool
     sets::has(members, i) & (!state::is_normal(st) & !state::is_deleting(st))
 }
 
+fn is_unused(members: u64, i: u64, s: Session) -> bool
+    ensures { λ r. ⌜ r ≡ isKind Kind.Unused true members i s ⌝ }
+{
+    let st = s.state;
+    state::is_free(st) & !sets::has(members, i)
+}
+
 fn is_kind(k: Kind, sync: bool, members: u64, i: u64, s: Session) -> bool
     ensures { λ r. ⌜ r ≡ isKind k sync members i s ⌝ }
 {
@@ -109,6 +117,7 @@ fn is_kind(k: Kind, sync: bool, members: u64, i: u64, s: Session) -> bool
         Kind::Odd => is_odd(sync, members, i, s),
         Kind::Link => state::is_cut(st),
         Kind::Io => state::is_failed(st) & !state::is_cut(st),
+        Kind::Unused => is_unused(members, i, s),
     }
 }
 

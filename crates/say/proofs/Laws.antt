@@ -1,7 +1,7 @@
 -- The loop over the ids.
 use Prim.Native.Nat.{ℕ, zero, suc}
 use mathlib.Core.Path.{_≡_, sym, _∙_}
-use mathlib.Core.List.{List}
+use mathlib.Core.List.{List, _++_}
 use Rattle.laws.specs.Loops.{runAt}
 use Rattle.text.specs.Ink.{Ink, emits}
 use Rattle.text.proofs.Laws.{emits-end, emits-append}
@@ -10,6 +10,10 @@ use Rattle.say.specs.Say.{each}
 -- the text of i put
 abbrev pub putsOf : (ℕ → List ℕ) → ℕ → Ink → Ink
 putsOf f i k = emits k (f i)
+
+-- two texts put one after the other
+pub emits-two : {r : Ink} (k : Ink) (s t : List ℕ) → r ≡ emits (emits k s) t → r ≡ emits k (s ++ t)
+emits-two k s t e = e ∙ sym (emits-append k s t)
 
 -- n texts put one after the other are the texts joined
 pub puts-each : (f : ℕ → List ℕ) (n i : ℕ) (k : Ink) → runAt (putsOf f) n i k ≡ emits k (each f n i)

@@ -50,7 +50,7 @@ messageText (Message.Info to op member) = said (bytes " | POOL_INFO") (to ∷ op
 unfoldable pub awaitedText : Message → ℕ → List ℕ
 awaitedText m number = pick (isNothing m) [] (joined (messageText m ∷ bytes " #" ∷ decimal number ∷ []))
 
--- The message that is not awaited to the id i, where the set it goes to has i.
+-- The message that is not awaited to the id i, where the set it goes to has i; of Extended the fill.
 abbrev pub toldTo : Told → ℕ → List ℕ
 toldTo Told.Nothing i = []
 toldTo (Told.Marks set chunk list version) i = pick (has set i) (said (bytes " | MARK") (i ∷ chunk ∷ list ∷ version ∷ [])) []
@@ -58,13 +58,14 @@ toldTo (Told.Clears set member chunk) i = pick (has set i) (said (bytes " | CLEA
 toldTo (Told.Infos set op member) i = pick (has set i) (said (bytes " | POOL_INFO") (i ∷ opNumber op ∷ member ∷ [])) []
 toldTo (Told.Disable to) i = []
 toldTo (Told.Off to) i = []
+toldTo (Told.Extended others normals member version) i = pick (has normals i) (said (bytes " | FILL") (i ∷ member ∷ version ∷ [])) []
 
 -- n texts, from the one of i on, joined
 abbrev pub each : (ℕ → List ℕ) → ℕ → ℕ → List ℕ
 each f zero i = []
 each f (suc n) i = f i ++ each f n (suc i)
 
--- The messages that are not awaited, ascending by where they go.
+-- The messages that are not awaited, ascending by where they go. Extended: all POOL_INFO before the fills.
 unfoldable pub toldText : Told → List ℕ
 toldText Told.Nothing = []
 toldText (Told.Marks set chunk list version) = each (toldTo (Told.Marks set chunk list version)) 16 0
@@ -72,3 +73,5 @@ toldText (Told.Clears set member chunk) = each (toldTo (Told.Clears set member c
 toldText (Told.Infos set op member) = each (toldTo (Told.Infos set op member)) 16 0
 toldText (Told.Disable to) = said (bytes " | MAP_DISABLE") (to ∷ [])
 toldText (Told.Off to) = said (bytes " | ENABLE") (to ∷ 0 ∷ [])
+toldText (Told.Extended others normals member version) =
+    each (toldTo (Told.Infos others Op.AddCreate member)) 16 0 ++ each (toldTo (Told.Extended others normals member version)) 16 0

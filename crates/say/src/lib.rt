@@ -1,6 +1,6 @@
 // Messages, written: each after a bar, its numbers after spaces.
 ghost use mathlib.Core.Path.{_≡_};
-ghost use mathlib.Core.List.{[], _∷_};
+ghost use mathlib.Core.List.{[], _∷_, _++_};
 ghost use Rattle.laws.specs.Words.{pick};
 ghost use Rattle.sets.specs.Sets.{has};
 ghost use Rattle.text.specs.Ink.{ink, emits};
@@ -141,7 +141,7 @@ fn put4_in(out: &mut [u8], at: usize, s: &[u8], set: u64, i: u64, a: u64, b: u64
     at
 }
 
-// The message to the id i, where one goes there.
+// The message to the id i, where one goes there; of Extended the fill.
 fn put_to(out: &mut [u8], at: usize, t: Told, i: u64) -> usize
     ensures { λ r. ⌜ ink (now (out .exit)) r ≡ emits (ink (now (out .entry)) at) (toldTo t i) ⌝ }
 {
@@ -169,6 +169,15 @@ fn put_to(out: &mut [u8], at: usize, t: Told, i: u64) -> usize
         ),
         Told::Disable(to) => at,
         Told::Off(to) => at,
+        Told::Extended(others, normals, member, version) => put3_in(
+            out,
+            at,
+            b" | FILL",
+            normals,
+            i,
+            member,
+            version,
+        ),
     }
 }
 
@@ -182,6 +191,14 @@ fn put_each(out: &mut [u8], at: usize, t: Told) -> usize
         i += 1;
     }
     to
+}
+
+// One kind of messages, and then another.
+fn put_two(out: &mut [u8], at: usize, t: Told, u: Told) -> usize
+    ensures { λ r. ⌜ ink (now (out .exit)) r ≡ emits (ink (now (out .entry)) at) (each (toldTo t) 16 0 ++ each (toldTo u) 16 0) ⌝ }
+{
+    let to = put_each(out, at, t);
+    put_each(out, to, u)
 }
 
 // The messages that are not awaited.
@@ -199,5 +216,11 @@ pub fn put_told(out: &mut [u8], at: usize, t: Told) -> usize
         Told::Infos(set, op, member) => put_each(out, at, Told::Infos(set, op, member)),
         Told::Disable(to) => put1(out, at, b" | MAP_DISABLE", to),
         Told::Off(to) => put2(out, at, b" | ENABLE", to, 0),
+        Told::Extended(others, normals, member, version) => put_two(
+            out,
+            at,
+            Told::Infos(others, Op::AddCreate, member),
+            Told::Extended(others, normals, member, version),
+        ),
     }
 }

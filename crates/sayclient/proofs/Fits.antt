@@ -12,6 +12,7 @@ use Rattle.text.specs.Ink.{decimal, joined}
 use Rattle.text.proofs.Meaning.{joined-length, decimal-length}
 use Rattle.say.specs.Say.{spaced, said, paired, each, toldTo, toldText, messageText, awaitedText, opNumber, modeNumber}
 use Rattle.state.specs.declared.Message.{Message}
+use Rattle.state.specs.declared.Op.{Op}
 use Rattle.state.specs.declared.Told.{Told}
 use Rattle.state.specs.declared.Phase.{Phase}
 use Rattle.state.specs.declared.Job.{Job}
@@ -72,19 +73,26 @@ to-length (Told.Clears set member chunk) i = pick-length (has set i) _ 100 (omeg
 to-length (Told.Infos set op member) i = pick-length (has set i) _ 100 (omega (arith, said-length (bytes " | POOL_INFO") (i ∷ opNumber op ∷ member ∷ [])))
 to-length (Told.Disable to) i = omega arith
 to-length (Told.Off to) i = omega arith
+to-length (Told.Extended others normals member version) i = pick-length (has normals i) _ 100 (omega (arith, said-length (bytes " | FILL") (i ∷ member ∷ version ∷ [])))
 
 each-length : (f : ℕ → List ℕ) → ((i : ℕ) → length (f i) ≤ 100) → (n i : ℕ) → length (each f n i) ≤ 100 * n
 each-length f h zero i = omega arith
 each-length f h (suc n) i = rw (length-append (f i) (each f n (suc i))) (omega (arith, h i, each-length f h n (suc i)))
 
-told-length : (t : Told) → length (toldText t) ≤ 1600
+each-told : (t : Told) → length (each (toldTo t) 16 0) ≤ 1600
+each-told t = each-length (toldTo t) (to-length t) 16 0
+
+told-length : (t : Told) → length (toldText t) ≤ 3200
 unfolding toldText
 told-length Told.Nothing = omega arith
-told-length (Told.Marks set chunk list version) = each-length (toldTo (Told.Marks set chunk list version)) (to-length (Told.Marks set chunk list version)) 16 0
-told-length (Told.Clears set member chunk) = each-length (toldTo (Told.Clears set member chunk)) (to-length (Told.Clears set member chunk)) 16 0
-told-length (Told.Infos set op member) = each-length (toldTo (Told.Infos set op member)) (to-length (Told.Infos set op member)) 16 0
+told-length (Told.Marks set chunk list version) = omega (arith, each-told (Told.Marks set chunk list version))
+told-length (Told.Clears set member chunk) = omega (arith, each-told (Told.Clears set member chunk))
+told-length (Told.Infos set op member) = omega (arith, each-told (Told.Infos set op member))
 told-length (Told.Disable to) = omega (arith, said-length (bytes " | MAP_DISABLE") (to ∷ []))
 told-length (Told.Off to) = omega (arith, said-length (bytes " | ENABLE") (to ∷ 0 ∷ []))
+told-length (Told.Extended others normals member version) =
+    rw (length-append (each (toldTo (Told.Infos others Op.AddCreate member)) 16 0) (each (toldTo (Told.Extended others normals member version)) 16 0))
+    (omega (arith, each-told (Told.Infos others Op.AddCreate member), each-told (Told.Extended others normals member version)))
 
 phase-length : (p : Phase) → length (phaseText p) ≤ 20
 phase-length (Phase.Versions top) = omega arith
@@ -105,6 +113,7 @@ outcome-length (Outcome.Taken taken) = omega (arith, pair-length (bytes " taken=
 outcome-length (Outcome.Written acked list) =
     rw (joined-length (paired (bytes " acked=") (one acked) ∷ paired (bytes " list=") list ∷ []))
     (omega (arith, pair-length (bytes " acked=") (one acked), pair-length (bytes " list=") list))
+outcome-length (Outcome.Picked id) = omega (arith, pair-length (bytes " id=") id)
 
 roster-length : (ro : Roster) → length (ro .sessions) ≡ 16 → length (rosterText ro) ≤ 120
 unfolding rosterText
@@ -118,8 +127,8 @@ flags-length ro =
     rw (joined-length (paired (bytes " maint=") (idsOf Kind.Maintained ro) ∷ paired (bytes " marked=") (idsOf Kind.Marked ro) ∷ paired (bytes " delete=") (idsOf Kind.Deleting ro) ∷ paired (bytes " owed=") (idsOf Kind.Owed ro) ∷ []))
     (omega (arith, pair-length (bytes " maint=") (idsOf Kind.Maintained ro), pair-length (bytes " marked=") (idsOf Kind.Marked ro), pair-length (bytes " delete=") (idsOf Kind.Deleting ro), pair-length (bytes " owed=") (idsOf Kind.Owed ro)))
 
--- The client's line is at most 2,100 bytes.
-pub client-length : (p : Pool) (s : Sent) → length (p .roster .sessions) ≡ 16 → length (clientText p s) ≤ 2100
+-- The client's line is at most 3,700 bytes.
+pub client-length : (p : Pool) (s : Sent) → length (p .roster .sessions) ≡ 16 → length (clientText p s) ≤ 3700
 unfolding clientText
 client-length p s e =
     rw (joined-length (rosterText (p .roster) ∷ flagsText (p .roster) ∷ jobText (p .job) ∷ outcomeText (s .outcome) ∷ toldText (s .told) ∷ awaitedText (s .awaited) (s .number) ∷ []))

@@ -45,6 +45,7 @@ abbrev pub outcomeText : Outcome → List ℕ
 outcomeText Outcome.Plain = []
 outcomeText (Outcome.Taken taken) = paired (bytes " taken=") taken
 outcomeText (Outcome.Written acked list) = joined (paired (bytes " acked=") (one acked) ∷ paired (bytes " list=") list ∷ [])
+outcomeText (Outcome.Picked id) = paired (bytes " id=") id
 
 -- The state.
 unfoldable pub rosterText : Roster → List ℕ

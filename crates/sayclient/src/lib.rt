@@ -80,6 +80,7 @@ fn put_outcome(out: &mut [u8], at: usize, o: Outcome) -> usize
         Outcome::Plain => at,
         Outcome::Taken(taken) => say::put_pair(out, at, b" taken=", taken),
         Outcome::Written(acked, list) => put_written(out, at, acked, list),
+        Outcome::Picked(id) => say::put_pair(out, at, b" id=", id),
     }
 }
 

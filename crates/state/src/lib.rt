@@ -122,7 +122,8 @@ pub enum Message {
 }
 
 // The messages that are not awaited; an event sends at most one kind. Marks: to each of a set, chunk, list, version. Clears: to each of a set, member,
-// chunk. Infos: to each of a set, what, member. Disable: MAP_DISABLE. Off: ENABLE 0.
+// chunk. Infos: to each of a set, what, member. Disable: MAP_DISABLE. Off: ENABLE 0. Extended: POOL_INFO of a member added by create to each of a set, then
+// its fill to each of another: others, normals, member, version.
 pub enum Told {
     Nothing,
     Marks(u64, u64, u64, u64),
@@ -130,13 +131,16 @@ pub enum Told {
     Infos(u64, Op, u64),
     Disable(u64),
     Off(u64),
+    Extended(u64, u64, u64, u64),
 }
 
 // What an accepted event reports beside its messages. Taken: the awaited answers taken so far in the run. Written: acknowledged or not, and the mark list.
+// Picked: the id that extend picked.
 pub enum Outcome {
     Plain,
     Taken(u64),
     Written(bool, u64),
+    Picked(u64),
 }
 
 // All that an accepted event hands back. number is the awaited message's, 0 beside Nothing.
@@ -164,12 +168,13 @@ pub enum Reply {
     Good(Brought),
 }
 
-// What is to be done to the client map: nothing, mark a set at a chunk, zero a member's row, zero all.
+// What is to be done to the client map: nothing, mark a set at a chunk, zero a member's row, zero all, set a member's row for every chunk below a count.
 pub enum Effect {
     Keep,
     Mark(u64, u64),
     ZeroRow(u64),
     ZeroAll,
+    FillRow(u64, u64),
 }
 
 // An event on values, without maps: the answer, the next state, and what is to be done to the client map.

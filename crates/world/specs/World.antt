@@ -78,6 +78,7 @@ tell (Told.Clears to member chunk) f = f
 tell (Told.Infos to op member) f = f
 tell (Told.Disable to) f = upd f to (does (f to) Event.mapDisable .station)
 tell (Told.Off to) f = f
+tell (Told.Extended others normals member version) f = f
 
 -- ---- the client hears the answer
 

@@ -23,6 +23,12 @@ enum-told-2 c = search needs
 zero-requires : tie.Need-zero-requires
 zero-requires c κs = search needs
 
+enum-known-effect-3 : tie.Need-enum-known-effect-3
+enum-known-effect-3 c = search needs
+
+fill-row-requires : tie.Need-fill-row-requires
+fill-row-requires c κs = search needs
+
 returns : tie.Need-returns
 returns c = search needs
 
@@ -44,6 +50,12 @@ same-length-3 c = search needs
 returns-4 : tie.Need-returns-4
 returns-4 c = let e = c .before .before .before .before .enum-told2 .given .1 in rw e (cc)
 
+same-length-4 : tie.Need-same-length-4
+same-length-4 c = search needs
+
+returns-5 : tie.Need-returns-5
+returns-5 c = let e = c .before .before .before .before .before .effect3 .given .1 in rw e (cc)
+
 pub carry-spec : {M : Type 1} → statement M
 carry-spec =
     tie.close
@@ -55,10 +67,14 @@ carry-spec =
     zero-row-requires
     enum-told-2
     zero-requires
+    enum-known-effect-3
+    fill-row-requires
     returns
     same-length
     returns-2
     same-length-2
     returns-3
     same-length-3
-    returns-4)
+    returns-4
+    same-length-4
+    returns-5)

@@ -52,9 +52,15 @@ plain-requires-8 c κs = search needs
 first-requires-8 : tie.Need-first-requires-8
 first-requires-8 c κs = search needs
 
+plain-requires-9 : tie.Need-plain-requires-9
+plain-requires-9 c κs = search needs
+
+first-requires-9 : tie.Need-first-requires-9
+first-requires-9 c κs = search needs
+
 returns : tie.Need-returns
 unfolding clientEvents
-returns c = rw (c .first8 .ensures, c .before .plain8 .ensures, c .before .before .first7 .ensures, c .before .before .before .plain7 .ensures, c .before .before .before .before .first6 .ensures, c .before .before .before .before .before .plain6 .ensures, c .before .before .before .before .before .before .first5 .ensures, c .before .before .before .before .before .before .before .plain5 .ensures, c .before .before .before .before .before .before .before .before .first4 .ensures, c .before .before .before .before .before .before .before .before .before .plain4 .ensures, c .before .before .before .before .before .before .before .before .before .before .first3 .ensures, c .before .before .before .before .before .before .before .before .before .before .before .plain3 .ensures, c .before .before .before .before .before .before .before .before .before .before .before .before .first2 .ensures, c .before .before .before .before .before .before .before .before .before .before .before .before .before .plain2 .ensures, c .before .before .before .before .before .before .before .before .before .before .before .before .before .before .first .ensures, c .before .before .before .before .before .before .before .before .before .before .before .before .before .before .before .plain .ensures) refl
+returns c = rw (c .first9 .ensures, c .before .plain9 .ensures, c .before .before .first8 .ensures, c .before .before .before .plain8 .ensures, c .before .before .before .before .first7 .ensures, c .before .before .before .before .before .plain7 .ensures, c .before .before .before .before .before .before .first6 .ensures, c .before .before .before .before .before .before .before .plain6 .ensures, c .before .before .before .before .before .before .before .before .first5 .ensures, c .before .before .before .before .before .before .before .before .before .plain5 .ensures, c .before .before .before .before .before .before .before .before .before .before .first4 .ensures, c .before .before .before .before .before .before .before .before .before .before .before .plain4 .ensures, c .before .before .before .before .before .before .before .before .before .before .before .before .first3 .ensures, c .before .before .before .before .before .before .before .before .before .before .before .before .before .plain3 .ensures, c .before .before .before .before .before .before .before .before .before .before .before .before .before .before .first2 .ensures, c .before .before .before .before .before .before .before .before .before .before .before .before .before .before .before .plain2 .ensures, c .before .before .before .before .before .before .before .before .before .before .before .before .before .before .before .before .first .ensures, c .before .before .before .before .before .before .before .before .before .before .before .before .before .before .before .before .before .plain .ensures) refl
 
 pub client-events-spec : {M : Type 1} → statement M
 client-events-spec =
@@ -76,4 +82,6 @@ client-events-spec =
     first-requires-7
     plain-requires-8
     first-requires-8
+    plain-requires-9
+    first-requires-9
     returns)

@@ -37,9 +37,15 @@ node-requires-5 c κs = search needs
 first-requires-5 : tie.Need-first-requires-5
 first-requires-5 c κs = search needs
 
+node-requires-6 : tie.Need-node-requires-6
+node-requires-6 c κs = search needs
+
+first-requires-6 : tie.Need-first-requires-6
+first-requires-6 c κs = search needs
+
 returns : tie.Need-returns
 unfolding serviceEvents
-returns c = rw (c .first5 .ensures, c .before .node5 .ensures, c .before .before .first4 .ensures, c .before .before .before .node4 .ensures, c .before .before .before .before .first3 .ensures, c .before .before .before .before .before .node3 .ensures, c .before .before .before .before .before .before .first2 .ensures, c .before .before .before .before .before .before .before .node2 .ensures, c .before .before .before .before .before .before .before .before .first .ensures, c .before .before .before .before .before .before .before .before .before .node .ensures, c .before .before .before .before .before .before .before .before .before .before .op-of .ensures) refl
+returns c = rw (c .first6 .ensures, c .before .node6 .ensures, c .before .before .first5 .ensures, c .before .before .before .node5 .ensures, c .before .before .before .before .first4 .ensures, c .before .before .before .before .before .node4 .ensures, c .before .before .before .before .before .before .first3 .ensures, c .before .before .before .before .before .before .before .node3 .ensures, c .before .before .before .before .before .before .before .before .first2 .ensures, c .before .before .before .before .before .before .before .before .before .node2 .ensures, c .before .before .before .before .before .before .before .before .before .before .first .ensures, c .before .before .before .before .before .before .before .before .before .before .before .node .ensures, c .before .before .before .before .before .before .before .before .before .before .before .before .op-of .ensures) refl
 
 pub service-events-spec : {M : Type 1} → statement M
 service-events-spec =
@@ -56,4 +62,6 @@ service-events-spec =
     first-requires-4
     node-requires-5
     first-requires-5
+    node-requires-6
+    first-requires-6
     returns)

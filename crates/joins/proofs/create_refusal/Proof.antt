@@ -33,6 +33,9 @@ first-requires-4 c κs = search needs
 first-requires-5 : tie.Need-first-requires-5
 first-requires-5 c κs = search needs
 
+first-requires-6 : tie.Need-first-requires-6
+first-requires-6 c κs = search needs
+
 returns : tie.Need-returns
 unfolding createRefusal
 returns c = cc
@@ -51,4 +54,5 @@ create-refusal-spec =
     first-requires-3
     first-requires-4
     first-requires-5
+    first-requires-6
     returns)

@@ -12,7 +12,7 @@ use Rattle.lendclient.proofs.read_from.Tie as tie
 
 -- the places of all variants but Synced
 abbrev others : List ℕ
-others = 0 ∷ 1 ∷ 2 ∷ 3 ∷ 4 ∷ 5 ∷ 6 ∷ 7 ∷ 8 ∷ 9 ∷ 11 ∷ []
+others = 0 ∷ 1 ∷ 2 ∷ 3 ∷ 4 ∷ 5 ∷ 6 ∷ 7 ∷ 8 ∷ 9 ∷ 11 ∷ 12 ∷ []
 
 none-read : (e : forms.Event) → OneOf others (tagOf the.the-type e) → 16 ≡ lender e
 none-read (forms.Event.JoinCreate id) h = refl
@@ -27,6 +27,7 @@ none-read (forms.Event.Remove id mode) h = refl
 none-read (forms.Event.Write chunk reached) h = refl
 none-read (forms.Event.Synced member chunk n) h = absurd (miss others 10 tt h)
 none-read (forms.Event.Answer number a) h = refl
+none-read forms.Event.Extend h = refl
 
 enum-known-e : tie.Need-enum-known-e
 enum-known-e c = search needs

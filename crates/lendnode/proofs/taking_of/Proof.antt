@@ -12,7 +12,7 @@ use Rattle.lendnode.proofs.taking_of.Tie as tie
 
 -- the places of all variants but TakePart
 abbrev others : List ℕ
-others = 0 ∷ 1 ∷ 2 ∷ 3 ∷ 4 ∷ 5 ∷ 6 ∷ 7 ∷ 8 ∷ 9 ∷ 10 ∷ 11 ∷ 12 ∷ 13 ∷ 14 ∷ 16 ∷ 17 ∷ 18 ∷ []
+others = 0 ∷ 1 ∷ 2 ∷ 3 ∷ 4 ∷ 5 ∷ 6 ∷ 7 ∷ 8 ∷ 9 ∷ 10 ∷ 11 ∷ 12 ∷ 13 ∷ 14 ∷ 16 ∷ 17 ∷ 18 ∷ 19 ∷ []
 
 none-taken : (e : NodeEvent) → OneOf others (tagOf the.the-type e) → nothing ≡ takingOf e
 none-taken NodeEvent.RegisterCreate h = refl
@@ -34,6 +34,7 @@ none-taken (NodeEvent.TakePart offset length m) h = absurd (miss others 15 tt h)
 none-taken (NodeEvent.MapDone enabling version set) h = refl
 none-taken NodeEvent.MapDisable h = refl
 none-taken NodeEvent.MapGetVer h = refl
+none-taken (NodeEvent.Fill member version) h = refl
 
 enum-known-e : tie.Need-enum-known-e
 enum-known-e c = search needs

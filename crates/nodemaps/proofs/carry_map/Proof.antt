@@ -48,6 +48,12 @@ enum-known-e-6 c = search needs
 commit-requires : tie.Need-commit-requires
 commit-requires c κs = search needs
 
+enum-known-e-7 : tie.Need-enum-known-e-7
+enum-known-e-7 c = search needs
+
+fill-row-requires : tie.Need-fill-row-requires
+fill-row-requires c κs = search needs
+
 returns : tie.Need-returns
 unfolding mapAfter
 returns c = rw (c .enum-told .given .1)
@@ -101,6 +107,13 @@ returns-8 : tie.Need-returns-8
 unfolding mapAfter
 returns-8 c = rw (c .before .before .before .before .before .e6 .given .1) (c .before .before .commit .ensures)
 
+same-length-8 : tie.Need-same-length-8
+same-length-8 c = search needs
+
+returns-9 : tie.Need-returns-9
+unfolding mapAfter
+returns-9 c = rw (c .before .before .before .before .before .e7 .given .1) (c .before .before .fill-row .ensures)
+
 pub carry-map-spec : {M : Type 1} → statement M
 carry-map-spec =
     tie.close
@@ -120,6 +133,8 @@ carry-map-spec =
     keep-rows-requires
     enum-known-e-6
     commit-requires
+    enum-known-e-7
+    fill-row-requires
     returns
     same-length
     returns-2
@@ -134,4 +149,6 @@ carry-map-spec =
     same-length-6
     returns-7
     same-length-7
-    returns-8)
+    returns-8
+    same-length-8
+    returns-9)

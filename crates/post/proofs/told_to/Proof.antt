@@ -45,6 +45,18 @@ enum-known-t-5 c = search needs
 one-if-requires-5 : tie.Need-one-if-requires-5
 one-if-requires-5 c κs = search needs
 
+enum-known-t-6 : tie.Need-enum-known-t-6
+enum-known-t-6 c = search needs
+
+has-requires-4 : tie.Need-has-requires-4
+has-requires-4 c κs = search needs
+
+has-requires-5 : tie.Need-has-requires-5
+has-requires-5 c κs = search needs
+
+both-if-requires : tie.Need-both-if-requires
+both-if-requires c κs = search needs
+
 returns : tie.Need-returns
 returns c = search needs
 
@@ -62,6 +74,9 @@ returns-5 c = rw (c .one-if4 .ensures, c .before .before .t4 .given .1) refl
 
 returns-6 : tie.Need-returns-6
 returns-6 c = rw (c .one-if5 .ensures, c .before .before .t5 .given .1) refl
+
+returns-7 : tie.Need-returns-7
+returns-7 c = rw (c .both-if .ensures, c .before .has5 .ensures, c .before .before .has4 .ensures, c .before .before .before .before .t6 .given .1) refl
 
 pub told-to-spec : {M : Type 1} → statement M
 told-to-spec =
@@ -81,9 +96,14 @@ told-to-spec =
     one-if-requires-4
     enum-known-t-5
     one-if-requires-5
+    enum-known-t-6
+    has-requires-4
+    has-requires-5
+    both-if-requires
     returns
     returns-2
     returns-3
     returns-4
     returns-5
-    returns-6)
+    returns-6
+    returns-7)

@@ -113,6 +113,12 @@ is-failed-requires c κs = search needs
 is-cut-requires-2 : tie.Need-is-cut-requires-2
 is-cut-requires-2 c κs = search needs
 
+enum-told-13 : tie.Need-enum-told-13
+enum-told-13 c = search needs
+
+is-unused-requires : tie.Need-is-unused-requires
+is-unused-requires c κs = search needs
+
 returns : tie.Need-returns
 returns c = simp (c .is-free .ensures, c .before .enum-told .given .1)
 
@@ -164,6 +170,9 @@ returns-16 c = simp (c .is-cut .ensures, c .before .enum-told11 .given .1)
 returns-17 : tie.Need-returns-17
 returns-17 c = simp (c .is-cut2 .ensures, c .before .is-failed .ensures, c .before .before .enum-told12 .given .1)
 
+returns-18 : tie.Need-returns-18
+returns-18 c = simp (c .is-unused .ensures, c .before .enum-told13 .given .1)
+
 pub is-kind-spec : {M : Type 1} → statement M
 is-kind-spec =
     tie.close
@@ -205,6 +214,8 @@ is-kind-spec =
     enum-told-12
     is-failed-requires
     is-cut-requires-2
+    enum-told-13
+    is-unused-requires
     returns
     returns-2
     returns-3
@@ -221,4 +232,5 @@ is-kind-spec =
     returns-14
     returns-15
     returns-16
-    returns-17)
+    returns-17
+    returns-18)

@@ -43,6 +43,15 @@ enum-known-t-4 c = search needs
 enum-known-t-5 : tie.Need-enum-known-t-5
 enum-known-t-5 c = search needs
 
+enum-known-t-6 : tie.Need-enum-known-t-6
+enum-known-t-6 c = search needs
+
+slice-aggregate-put3-in-3 : tie.Need-slice-aggregate-put3-in-3
+slice-aggregate-put3-in-3 c = search needs
+
+put3-in-requires-3 : tie.Need-put3-in-requires-3
+put3-in-requires-3 c κs = search needs
+
 returns : tie.Need-returns
 returns c = rw (c .enum-told .given .1) (sym (emits-end _))
 
@@ -70,6 +79,12 @@ returns-5 c = rw (c .before .t4 .given .1) (sym (emits-end _))
 returns-6 : tie.Need-returns-6
 returns-6 c = rw (c .before .t5 .given .1) (sym (emits-end _))
 
+same-length-4 : tie.Need-same-length-4
+same-length-4 c = search needs
+
+returns-7 : tie.Need-returns-7
+returns-7 c = rw (c .before .before .before .before .before .before .t6 .given .1) (c .before .before .put3-in3 .ensures)
+
 pub put-to-spec : {M : Type 1} → statement M
 put-to-spec =
     tie.close
@@ -87,6 +102,9 @@ put-to-spec =
     put3-in-requires-2
     enum-known-t-4
     enum-known-t-5
+    enum-known-t-6
+    slice-aggregate-put3-in-3
+    put3-in-requires-3
     returns
     same-length
     returns-2
@@ -95,4 +113,6 @@ put-to-spec =
     same-length-3
     returns-4
     returns-5
-    returns-6)
+    returns-6
+    same-length-4
+    returns-7)

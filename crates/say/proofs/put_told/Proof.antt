@@ -44,6 +44,12 @@ slice-aggregate-put2 c = search needs
 put2-requires : tie.Need-put2-requires
 put2-requires c κs = search needs
 
+enum-known-t-6 : tie.Need-enum-known-t-6
+enum-known-t-6 c = search needs
+
+put-two-requires : tie.Need-put-two-requires
+put-two-requires c κs = search needs
+
 returns : tie.Need-returns
 unfolding toldText
 returns c = rw (c .enum-told .given .1) (sym (emits-end _))
@@ -83,6 +89,13 @@ returns-6 : tie.Need-returns-6
 unfolding toldText
 returns-6 c = rw (c .before .before .before .before .before .before .t5 .given .1) (c .before .before .put2 .ensures)
 
+same-length-6 : tie.Need-same-length-6
+same-length-6 c = search needs
+
+returns-7 : tie.Need-returns-7
+unfolding toldText
+returns-7 c = rw (c .before .before .before .before .before .t6 .given .1) (c .before .before .put-two .ensures)
+
 pub put-told-spec : {M : Type 1} → statement M
 put-told-spec =
     tie.close
@@ -100,6 +113,8 @@ put-told-spec =
     enum-known-t-5
     slice-aggregate-put2
     put2-requires
+    enum-known-t-6
+    put-two-requires
     returns
     same-length
     returns-2
@@ -110,4 +125,6 @@ put-told-spec =
     same-length-4
     returns-5
     same-length-5
-    returns-6)
+    returns-6
+    same-length-6
+    returns-7)

@@ -1,0 +1,1 @@
+// No code: the leg that extend adds, with honest nodes.

@@ -1,0 +1,226 @@
+-- What an accepted extend does, in document 02's words; and when it is refused.
+use mathlib.Core.Path.{_≡_, refl, ap, _∙_, sym}
+use mathlib.Core.Bool.{Bool, true, false, not, _&&_, _||_}
+use mathlib.Core.List.{List}
+use Prim.Native.Nat.{ℕ, _≤_, _<_}
+use native.Mathlib.Decide.{ℕ-discrete, decLt}
+use native.Mathlib.Omega.{arith}
+use lib.Dec.{eqb, ltb}
+use lib.ListN.{length}
+use borrow.Author.Tests.{eqb-true, eq-eqb, ne-eqb, lt-ltb, le-ltb, not-false}
+use Rattle.laws.specs.Tests.{clash, by-cases, and-both}
+use Rattle.laws.specs.Words.{pick}
+use Rattle.order.proofs.Order.{none-applies}
+use Rattle.sets.specs.Sets.{has, with}
+use Rattle.sets.proofs.Laws.{has-none, has-out, has-with-same, has-with-other}
+use Rattle.chunks.specs.Chunk.{dirty}
+use Rattle.chunks.proofs.Laws.{dirty-lt}
+use Rattle.maps.specs.Map.{sound}
+use Rattle.maps.proofs.Chunks.{same-yes, same-no}
+use Rattle.maps.proofs.Laws.{sound-length}
+use Rattle.fills.specs.Fill.{rowFilled}
+use Rattle.fills.proofs.Laws.{below-yes, below-no, dirty-filled}
+use Rattle.state.specs.Session.{isFree, isNormal, isTold, free}
+use Rattle.state.specs.declared.Answer.{Answer}
+use Rattle.state.specs.declared.Effect.{Effect}
+use Rattle.state.specs.declared.Job.{Job}
+use Rattle.state.specs.declared.Outcome.{Outcome}
+use Rattle.state.specs.declared.Roster.{Roster}
+use Rattle.state.specs.declared.Sent.{Sent}
+use Rattle.state.specs.declared.Session.{Session}
+use Rattle.state.specs.declared.Turn.{Turn}
+use Rattle.roster.specs.Roster.{sessionAt, idsOf}
+use Rattle.roster.specs.declared.Kind.{Kind}
+use Rattle.recovery.specs.Recovery.{withRoster, tried}
+use Rattle.exits.specs.Exit.{numberOf}
+use Rattle.keeps.specs.Ids.{Long, below, ids-has, ids-none, none-ids}
+use Rattle.keeps.specs.Pools.{Valid, valid-of}
+use Rattle.joins.specs.Joins.{createRefusal, joinCreate}
+use Rattle.extending.specs.Extending.{picked, extendRefusal, extended, extendTold, extendDone, extend}
+use Rattle.extending.proofs.Kept.{Extends, Picks, extend-passed, picks, extended-at, extended-numbers}
+use Rattle.client.specs.declared.Client.{Client}
+use Rattle.client.specs.Client.{carried, soundFor, extendTurn}
+use Rattle.events.specs.Events.{Event, outOf, next, isAccepted, testsOf, Lent, jobOf, stateOf, isSync}
+use Rattle.events.specs.Said.{membersOf, recoveryIn, isUnused, Extended}
+use Rattle.events.proofs.Extends.{added-roster}
+use Rattle.events.proofs.Sessions.{tried-job, idle-is}
+use Rattle.events.proofs.Shape.{taken}
+
+-- ---- the id
+
+-- past 15 nobody has a session
+past : (ro : Roster) (passes : Session → Bool) → Long ro → passes free ≡ false → (j : ℕ) → 16 ≤ j → passes (sessionAt ro j) ≡ false
+past ro passes l none j h = by-cases (passes (sessionAt ro j)) (λ e. absurd (let z = below passes ro j l none e in let y : ⊥ = omega (arith, z, h) in y)) (λ e. e)
+
+-- a set read off the sessions by a test that a free one does not pass holds those that pass it
+set-of : (k : Kind) (ro : Roster) (passes : Session → Bool) → Long ro → passes free ≡ false → ((j : ℕ) → j < 16 → has (idsOf k ro) j ≡ passes (sessionAt ro j)) → (j : ℕ) → has (idsOf k ro) j ≡ passes (sessionAt ro j)
+set-of k ro passes l none at j = elim (decLt j 16) [
+  | yes h ↦ at j h
+  | no g ↦ has-out (idsOf k ro) j (omega (arith, g)) ∙ sym (past ro passes l none j (omega (arith, g)))
+]
+
+told-set : (ro : Roster) → Long ro → (j : ℕ) → has (idsOf Kind.Told ro) j ≡ isTold (sessionAt ro j .state)
+told-set ro l = set-of Kind.Told ro (λ s. isTold (s .state)) l refl (λ j h. ids-has Kind.Told ro l j h)
+
+normal-set : (ro : Roster) → Long ro → (j : ℕ) → has (idsOf Kind.Normals ro) j ≡ isNormal (sessionAt ro j .state)
+normal-set ro l = set-of Kind.Normals ro (λ s. isNormal (s .state)) l refl (λ j h. ids-has Kind.Normals ro l j h)
+
+with-has : (s id j : ℕ) → id < 16 → has (with s id) j ≡ (has s j || eqb j id)
+with-has s id j h = elim (ℕ-discrete j id) [
+  | yes e ↦ rw (e, eq-eqb id id refl) (has-with-same s id h ∙ sym (or-true (has s id)))
+  | no d ↦ rw (ne-eqb j id d) (has-with-other s id j d ∙ sym (or-false (has s j)))
+]
+  where
+    or-true : (b : Bool) → (b || true) ≡ true
+    or-true true = refl
+    or-true false = refl
+
+    or-false : (b : Bool) → (b || false) ≡ b
+    or-false true = refl
+    or-false false = refl
+
+-- ---- the row
+
+row-filled : (xs : List ℕ) (id n m k : ℕ) → length xs ≡ 8192 → id < 16 → m < 16 → k < 4096 → dirty (rowFilled id n xs) m k ≡ pick (eqb m id && ltb k n) 1 (dirty xs m k)
+row-filled xs id n m k len h hm hk = dirty-filled xs id n m k len h hm hk ∙ elim (ℕ-discrete id m) [
+  | yes e ↦ elim (decLt k n) [
+    | yes l ↦ rw (same-yes id m e, below-yes k n l, eq-eqb m id (sym e), lt-ltb k n l) (omega (arith, dirty-lt xs m k))
+    | no g ↦ rw (same-yes id m e, below-no k n (omega (arith, g)), eq-eqb m id (sym e), le-ltb k n (omega (arith, g))) (omega arith)
+  ]
+  | no d ↦ rw (same-no id m d, ne-eqb m id (λ q. d (sym q))) (omega arith)
+]
+
+-- ---- accepted
+
+-- one that nothing refuses
+accepted-at : (c : Client) (xs : List ℕ) → extendRefusal (c .pool) (soundFor (c .pool) xs) ≡ 0 → isAccepted (outOf (Event.extend xs) c .answer) ≡ true
+unfolding extend extendDone extendTurn
+accepted-at c xs e = rw e refl
+
+-- what the turn of an accepted extend is
+record Does (c : Client) (xs : List ℕ) (t : Turn) : Type 0 where
+  may : Extends (c .pool)
+  lent : sound (c .pool .chunks) xs ≡ true
+  is : t ≡ extendDone (c .pool) (picked (c .pool .roster))
+
+sound-at : (c : Client) (xs : List ℕ) → extendRefusal (c .pool) (soundFor (c .pool) xs) ≡ 0 → sound (c .pool .chunks) xs ≡ true
+unfolding extendRefusal
+sound-at c xs e = not-false (sound (c .pool .chunks) xs) (none-applies (testsOf (Event.extend xs) c) e 2 refl)
+
+does : (c : Client) (xs : List ℕ) → isAccepted (outOf (Event.extend xs) c .answer) ≡ true → Does c xs (extendTurn (c .pool) xs)
+unfolding extend extendTurn
+does c xs =
+    taken (Does c xs) (extendRefusal (c .pool) (soundFor (c .pool) xs)) (extendDone (c .pool) (picked (c .pool .roster))) (c .pool)
+    (λ e. record { may = extend-passed (c .pool) (soundFor (c .pool) xs) e; lent = sound-at c xs e; is = refl })
+
+extended-job : (c : Client) → jobOf c ≡ Job.Idle → extendDone (c .pool) (picked (c .pool .roster)) .pool .job ≡ recoveryIn (record { pool = extendDone (c .pool) (picked (c .pool .roster)) .pool })
+unfolding extendDone
+extended-job c idle = tried-job (withRoster (c .pool) (extended (c .pool .roster) (picked (c .pool .roster)))) idle
+
+-- what it hands back
+handed-back : Client → Sent
+handed-back c =
+    record {
+      outcome = Outcome.Picked (picked (c .pool .roster));
+      told = extendTold (c .pool .roster) (picked (c .pool .roster));
+      awaited = tried (withRoster (c .pool) (extended (c .pool .roster) (picked (c .pool .roster)))) .awaited;
+      number = numberOf (tried (withRoster (c .pool) (extended (c .pool .roster) (picked (c .pool .roster)))) .awaited) (tried (withRoster (c .pool) (extended (c .pool .roster) (picked (c .pool .roster)))) .pool .number);
+    }
+
+answers : (c : Client) → extendDone (c .pool) (picked (c .pool .roster)) .answer ≡ Answer.Done (handed-back c)
+unfolding extendDone handed-back
+answers c = refl
+
+reports : (c : Client) → (handed-back c .outcome ≡ Outcome.Picked (picked (c .pool .roster))) × (handed-back c .told ≡ extendTold (c .pool .roster) (picked (c .pool .roster)))
+unfolding handed-back
+reports c = (refl, refl)
+
+fills-row : (c : Client) → extendDone (c .pool) (picked (c .pool .roster)) .effect ≡ Effect.FillRow (picked (c .pool .roster)) (c .pool .chunks)
+unfolding extendDone
+fills-row c = refl
+
+pub extend-said : (c : Client) (xs : List ℕ) → Valid (c .pool) → isAccepted (outOf (Event.extend xs) c .answer) ≡ true → Extended c xs (Event.extend xs)
+extend-said c xs v d =
+    record {
+      id = id;
+      below = k .below;
+      unused = and-both (k .free) (ap not (k .outside));
+      lowest = k .lowest;
+      begins = ap (λ (ro : Roster). sessionAt ro id .state) roster ∙ ap (λ (s : Session). s .state) (extended-at (c .pool .roster) id (v .ok .long) (k .below));
+      members = λ j. ap (λ (ro : Roster). has (ro .members) j) roster ∙ (ap (λ (n : ℕ). has n j) (extended-numbers (c .pool .roster) id .held) ∙ with-has (membersOf c) id j (k .below));
+      told = idsOf Kind.Told (c .pool .roster);
+      others = told-set (c .pool .roster) (v .ok .long);
+      fills = idsOf Kind.Normals (c .pool .roster);
+      normals = normal-set (c .pool .roster) (v .ok .long);
+      sent = handed-back c;
+      answer = ap (λ (t : Turn). t .answer) (h .is) ∙ answers c;
+      reports = reports c .0;
+      messages = reports c .1;
+      tries = ap (λ (t : Turn). t .pool .job) (h .is) ∙ (extended-job c (idle-is (jobOf c) (h .may .idle)) ∙ sym (ap (λ (t : Turn). recoveryIn (record { pool = t .pool })) (h .is)));
+      map = ap (λ (t : Turn). Lent.some (carried (t .effect) xs)) (h .is) ∙ ap (λ (ef : Effect). Lent.some (carried ef xs)) (fills-row c);
+      row = λ m n hm hn. row-filled xs id (c .pool .chunks) m n (sound-length (c .pool .chunks) xs (h .lent)) (k .below) hm hn;
+    }
+  where
+    id : ℕ
+    id = picked (c .pool .roster)
+
+    h : Does c xs (extendTurn (c .pool) xs)
+    h = does c xs d
+
+    k : Picks (c .pool .roster) (picked (c .pool .roster))
+    k = picks (c .pool .roster) (v .ok .long) (h .may .some)
+
+    roster : next (Event.extend xs) c .pool .roster ≡ extended (c .pool .roster) (picked (c .pool .roster))
+    roster = ap (λ (t : Turn). t .pool .roster) (h .is) ∙ added-roster c
+
+-- ---- refused
+
+refused-as : (c : Client) (xs : List ℕ) (n : ℕ) → extendRefusal (c .pool) (soundFor (c .pool) xs) ≡ n → eqb n 0 ≡ false → outOf (Event.extend xs) c .answer ≡ Answer.Refused n
+unfolding extend extendTurn
+refused-as c xs n e z = rw (e, z) refl
+
+why-extend : (c : Client) (xs : List ℕ) → Valid (c .pool) → isSync c ≡ false → jobOf c ≡ Job.Idle → sound (c .pool .chunks) xs ≡ true
+    → extendRefusal (c .pool) (soundFor (c .pool) xs) ≡ pick (eqb (idsOf Kind.Normals (c .pool .roster)) 0) 11 (pick (eqb (idsOf Kind.Unused (c .pool .roster)) 0) 19 0)
+unfolding extendRefusal
+why-extend c xs v plain idle snd = simp (valid-of (c .pool) v, plain, idle, snd)
+
+unused-none : (c : Client) → Long (c .pool .roster) → ((j : ℕ) → j < 16 → isUnused c j ≡ false) → idsOf Kind.Unused (c .pool .roster) ≡ 0
+unused-none c l f = none-ids Kind.Unused (c .pool .roster) l f
+
+pub extend-none : (c : Client) (xs : List ℕ) → Valid (c .pool) → isSync c ≡ false → jobOf c ≡ Job.Idle → sound (c .pool .chunks) xs ≡ true
+    → ((n : ℕ) → isNormal (stateOf c n) ≡ true → ((j : ℕ) → j < 16 → isUnused c j ≡ false) → outOf (Event.extend xs) c .answer ≡ Answer.Refused 19)
+    × (outOf (Event.extend xs) c .answer ≡ Answer.Refused 19 → (j : ℕ) → j < 16 → isUnused c j ≡ false)
+    × (((n : ℕ) → isNormal (stateOf c n) ≡ false) → outOf (Event.extend xs) c .answer ≡ Answer.Refused 11)
+extend-none c xs v plain idle snd = (
+  (λ n is none. refused-as c xs 19 (why ∙ rw (some n is, eq-eqb (idsOf Kind.Unused (c .pool .roster)) 0 (unused-none c l none)) refl) refl),
+  given,
+  λ none. refused-as c xs 11 (why ∙ rw (eq-eqb (idsOf Kind.Normals (c .pool .roster)) 0 (none-ids Kind.Normals (c .pool .roster) l (λ j h. none j))) refl) refl,
+)
+  where
+    l : Long (c .pool .roster)
+    l = v .ok .long
+
+    why : extendRefusal (c .pool) (soundFor (c .pool) xs) ≡ pick (eqb (idsOf Kind.Normals (c .pool .roster)) 0) 11 (pick (eqb (idsOf Kind.Unused (c .pool .roster)) 0) 19 0)
+    why = why-extend c xs v plain idle snd
+
+    some : (n : ℕ) → isNormal (stateOf c n) ≡ true → eqb (idsOf Kind.Normals (c .pool .roster)) 0 ≡ false
+    some n is = by-cases (eqb (idsOf Kind.Normals (c .pool .roster)) 0)
+        (λ z. clash (normal-set (c .pool .roster) l n ∙ is) (ap (λ (s : ℕ). has s n) (eqb-true (idsOf Kind.Normals (c .pool .roster)) 0 z) ∙ has-none n))
+        (λ z. z)
+
+    not-nineteen : eqb (idsOf Kind.Unused (c .pool .roster)) 0 ≡ false → outOf (Event.extend xs) c .answer ≡ Answer.Refused 19 → ⊥
+    not-nineteen z q = by-cases (eqb (idsOf Kind.Normals (c .pool .roster)) 0)
+        (λ w. let a : Answer.Refused 11 ≡ Answer.Refused 19 = sym (refused-as c xs 11 (why ∙ rw w refl) refl) ∙ q in let y : _≡_ {A = ℕ} 11 19 = cc a in omega (arith, y))
+        (λ w. let a : isAccepted (outOf (Event.extend xs) c .answer) ≡ true = accepted-at c xs (why ∙ rw (w, z) refl) in clash a (ap isAccepted q))
+
+    given : outOf (Event.extend xs) c .answer ≡ Answer.Refused 19 → (j : ℕ) → j < 16 → isUnused c j ≡ false
+    given q = by-cases (eqb (idsOf Kind.Unused (c .pool .roster)) 0)
+        (λ z. ids-none Kind.Unused (c .pool .roster) l (eqb-true (idsOf Kind.Unused (c .pool .roster)) 0 z))
+        (λ z. absurd (not-nineteen z q))
+
+-- ---- join create
+
+pub create-ends : (c : Client) (id : ℕ) → Valid (c .pool) → id < 16 → jobOf c ≡ Job.Idle → isFree (stateOf c id) ≡ true → c .pool .roster .past .written ≡ true
+    → outOf (Event.joinCreate id) c .answer ≡ Answer.Refused 17
+unfolding joinCreate createRefusal
+create-ends c id v h idle none written = simp (valid-of (c .pool) v, le-ltb 15 id (omega (arith, h)), idle, none, written)

@@ -1,0 +1,23 @@
+use Rattle.extending.specs.Extending.{extendDone}
+use borrow.Author.Needs.{needs}
+use Rattle.extending.proofs.extend_done.Statement.{statement}
+use Rattle.extending.proofs.extend_done.Tie as tie
+
+extend-told-requires : tie.Need-extend-told-requires
+extend-told-requires c κs = search needs
+
+add-requires : tie.Need-add-requires
+add-requires c κs = search needs
+
+with-roster-requires : tie.Need-with-roster-requires
+with-roster-requires c κs = search needs
+
+try-with-requires : tie.Need-try-with-requires
+try-with-requires c κs = search needs
+
+returns : tie.Need-returns
+unfolding extendDone
+returns c = cc
+
+pub extend-done-spec : {M : Type 1} → statement M
+extend-done-spec = tie.close (tie.spec extend-told-requires add-requires with-roster-requires try-with-requires returns)

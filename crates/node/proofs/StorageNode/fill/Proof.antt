@@ -1,0 +1,36 @@
+use borrow.Author.Needs.{needs}
+use Rattle.node.proofs.StorageNode.fill.Statement.{statement}
+use Rattle.node.proofs.StorageNode.fill.Tie as tie
+
+lent-number-requires : tie.Need-lent-number-requires
+lent-number-requires c κs = search needs
+
+fill-requires : tie.Need-fill-requires
+fill-requires c κs = search needs
+
+finish-requires : tie.Need-finish-requires
+finish-requires c κs = search needs
+
+same-length : tie.Need-same-length
+same-length c = search needs
+
+same-length-2 : tie.Need-same-length-2
+same-length-2 c = search needs
+
+returns : tie.Need-returns
+returns c =
+    let f = c .before .before .before .before .finish .ensures in
+    let w = c .before .before .before .before .before .before .before .fill .ensures in
+    let s = c .before .before .before .before .before .before .before .before .lent-number .ensures in
+    (rw (f .0, w, s), (rw (f .1 .0, w, s), rw (f .1 .1, w, s)))
+
+pub fill-spec : {M : Type 1} → statement M
+fill-spec =
+    tie.close
+    (tie.spec
+    lent-number-requires
+    fill-requires
+    finish-requires
+    same-length
+    same-length-2
+    returns)
