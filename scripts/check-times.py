@@ -14,7 +14,15 @@ ROOT = os.path.dirname(os.path.dirname(os.path.abspath(__file__)))
 EARLIER = [
     ("the base as first proved", 176, "29:49", 0),
     ("document 01 to the letter, C-23, C-14; other checks beside it", 215, "44:25", 56),
+    ("C-22, C-21, NBD, C-11, C-24", 286, "38:55", 62),
 ]
+
+# What is to be known of the last run.
+REMARK = (
+    "Other checks ran beside it. The one that failed was an edit with several lines in the place of one, which `rt` does not take (`removal/cleared_by_a_disassemble`): it was written anew, as\n"
+    "were `extending/id_that_is_held` and, new, `nodefills/fill_raises_nothing`, and these three were then tried by themselves and refused. A line of `creation/proofs/Past` was written anew\n"
+    "too: that crate was checked again, with its edits."
+)
 
 # Measured apart, by the time of `./lab` in a fresh copy.
 FIRST_ANSWER = "The first answer of `./lab`, from nothing and alone on two cores: 10 minutes and 47 seconds, C-11 and C-24 in; 11 minutes and 36 seconds when vectors and matrix were two programs."
@@ -53,6 +61,8 @@ def main():
     out += ["| %s | %d | %s | %s |" % (what, passed, wall, cpu_then or "") for what, passed, wall, cpu_then in EARLIER]
     out += [
         "| this one | %s | %s:%02d | %d |" % (last.split()[0], minutes, int(seconds), round(cpu / 60)),
+        "",
+        REMARK,
         "",
         FIRST_ANSWER,
         "",
