@@ -34,9 +34,8 @@ use Rattle.keeps.specs.Pools.{Valid}
 use Rattle.keeps.specs.Runs.{candidate-normal}
 use Rattle.extending.specs.Extending.{picked, extendRefusal, extended, extendDone, extend}
 use Rattle.extending.proofs.Kept.{Extends, Picks, picks, extend-passed, extended-at, extended-other, extended-numbers}
-use Rattle.client.specs.declared.Client.{Client}
 use Rattle.client.specs.Client.{soundFor, extendTurn}
-use Rattle.events.specs.Events.{Event, outOf, next, isAccepted, jobOf, stateOf}
+use Rattle.events.specs.Events.{Event, turnOf, next, isAccepted, jobOf, stateOf}
 use Rattle.events.specs.Events as events
 use Rattle.events.specs.Said.{Accepts, versionOf, begins, Extended}
 use Rattle.events.specs.Demand2.{Reached}
@@ -57,16 +56,16 @@ use Rattle.added.proofs.Messages.{able-informed, knows, able-filled, fu
 
 -- ---- an accepted extend
 
-may-extend : (c : Client) (xs : List ℕ) → isAccepted (outOf (Event.extend xs) c .answer) ≡ true → Extends (c .pool)
+may-extend : (c : Pool) (xs : List ℕ) → isAccepted (turnOf (Event.extend xs) c .answer) ≡ true → Extends c
 unfolding extend extendTurn
 may-extend c xs =
-    taken (λ t. Extends (c .pool)) (extendRefusal (c .pool) (soundFor (c .pool) xs)) (extendDone (c .pool) (picked (c .pool .roster))) (c .pool)
-    (λ e. extend-passed (c .pool) (soundFor (c .pool) xs) e)
+    taken (λ t. Extends c) (extendRefusal c (soundFor c xs)) (extendDone c (picked (c .roster))) c
+    (λ e. extend-passed c (soundFor c xs) e)
 
-after-extend : (c : Client) (xs : List ℕ) → isAccepted (outOf (Event.extend xs) c .answer) ≡ true → next (Event.extend xs) c .pool .roster ≡ extended (c .pool .roster) (events.picks c)
+after-extend : (c : Pool) (xs : List ℕ) → isAccepted (turnOf (Event.extend xs) c .answer) ≡ true → next (Event.extend xs) c .roster ≡ extended (c .roster) (events.picks c)
 unfolding extend extendTurn
 after-extend c xs =
-    taken (λ t. t .pool .roster ≡ extended (c .pool .roster) (picked (c .pool .roster))) (extendRefusal (c .pool) (soundFor (c .pool) xs)) (extendDone (c .pool) (picked (c .pool .roster))) (c .pool)
+    taken (λ t. t .pool .roster ≡ extended (c .roster) (picked (c .roster))) (extendRefusal c (soundFor c xs)) (extendDone c (picked (c .roster))) c
     (λ e. added-roster c)
 
 long-extended : (ro : Roster) (id : ℕ) → Long ro → Long (extended ro id)
@@ -112,11 +111,11 @@ copied-bit p source j w n e l m h =
 -- ---- the messages
 
 -- the version lets a fill be taken
-version-top : (c : Client) → Valid (c .pool) → versionOf c ≤ versionTop
+version-top : (c : Pool) → Valid c → versionOf c ≤ versionTop
 version-top c v = omega (arith, v .ok .high)
 
 -- what extend told, and to whom it went
-told-is : (c : Client) (xs : List ℕ) (h : Extended c xs (Event.extend xs)) → toldBy c xs ≡ Told.Extended (h .told) (h .fills) (h .id) (versionOf c)
+told-is : (c : Pool) (xs : List ℕ) (h : Extended c xs (Event.extend xs)) → toldBy c xs ≡ Told.Extended (h .told) (h .fills) (h .id) (versionOf c)
 told-is c xs h = ap toldIn (h .answer) ∙ h .messages
 
 -- a NORMAL node gets both messages; one that is told gets the first; any other gets none
@@ -155,18 +154,18 @@ full-arrived n j others normals member version s a h m d e o v few =
 
 -- ---- where they go
 
-module _ (c : Client) (xs : List ℕ) (a : Accepts c (Event.extend xs)) where
-  v : Valid (c .pool)
+module _ (c : Pool) (xs : List ℕ) (a : Accepts c (Event.extend xs)) where
+  v : Valid c
   v = reached-valid c (a .reached)
 
   h : Extended c xs (Event.extend xs)
   h = extend-said c xs (reached-valid c (a .reached)) (a .done)
 
-  may : Extends (c .pool)
+  may : Extends c
   may = may-extend c xs (a .done)
 
-  k : Picks (c .pool .roster) (events.picks c)
-  k = picks (c .pool .roster) (reached-valid c (a .reached) .ok .long) (may .some)
+  k : Picks (c .roster) (events.picks c)
+  k = picks (c .roster) (reached-valid c (a .reached) .ok .long) (may .some)
 
   -- the id is the one picked
   same-id : h .id ≡ events.picks c
@@ -188,36 +187,36 @@ module _ (c : Client) (xs : List ℕ) (a : Accepts c (Event.extend xs)) where
   arrives f j = ap (λ (t : Told). arrived t f j) (told-is c xs h ∙ ap (λ (i : ℕ). Told.Extended (h .told) (h .fills) i (versionOf c)) same-id)
 
   -- an honest node is honest afterwards
-  able-after : (f : ℕ → Station) (j : ℕ) → j < 16 → Able (c .pool .chunks) j (f j) → Able (c .pool .chunks) j (arrived (toldBy c xs) f j)
+  able-after : (f : ℕ → Station) (j : ℕ) → j < 16 → Able (c .chunks) j (f j) → Able (c .chunks) j (arrived (toldBy c xs) f j)
   able-after f j l b =
-      subst (Able (c .pool .chunks) j) (sym (arrives f j))
-      (able-arrived (c .pool .chunks) j (h .told) (h .fills) (events.picks c) (versionOf c) (f j) b l (k .below) (other-told j) (normal-is-told j) (version-top c v))
+      subst (Able (c .chunks) j) (sym (arrives f j))
+      (able-arrived (c .chunks) j (h .told) (h .fills) (events.picks c) (versionOf c) (f j) b l (k .below) (other-told j) (normal-is-told j) (version-top c v))
 
-  full-after : (f : ℕ → Station) (j : ℕ) → isNormal (stateOf c j) ≡ true → Able (c .pool .chunks) j (f j) → Full (c .pool .chunks) (events.picks c) (arrived (toldBy c xs) f j .map)
+  full-after : (f : ℕ → Station) (j : ℕ) → isNormal (stateOf c j) ≡ true → Able (c .chunks) j (f j) → Full (c .chunks) (events.picks c) (arrived (toldBy c xs) f j .map)
   full-after f j is b =
       let e : has (h .fills) j ≡ true = h .normals j ∙ is in
       let o = normal-is-told j e in
-      subst (λ (s : Station). Full (c .pool .chunks) (events.picks c) (s .map)) (sym (arrives f j))
-      (full-arrived (c .pool .chunks) j (h .told) (h .fills) (events.picks c) (versionOf c) (f j) b (has-below (h .fills) j e) (k .below) (other-told j o) e o (version-top c v) (v .most))
+      subst (λ (s : Station). Full (c .chunks) (events.picks c) (s .map)) (sym (arrives f j))
+      (full-arrived (c .chunks) j (h .told) (h .fills) (events.picks c) (versionOf c) (f j) b (has-below (h .fills) j e) (k .below) (other-told j o) e o (version-top c v) (v .most))
 
   -- ---- the run
 
-  roster : next (Event.extend xs) c .pool .roster ≡ extended (c .pool .roster) (events.picks c)
+  roster : next (Event.extend xs) c .roster ≡ extended (c .roster) (events.picks c)
   roster = after-extend c xs (a .done)
 
   -- the NORMAL ones are as they were
-  normals-stay : idsOf Kind.Normals (extended (c .pool .roster) (events.picks c)) ≡ idsOf Kind.Normals (c .pool .roster)
-  normals-stay = ids-same Kind.Normals Kind.Normals (c .pool .roster) (extended (c .pool .roster) (events.picks c)) (v .ok .long) (long-extended (c .pool .roster) (events.picks c) (v .ok .long))
+  normals-stay : idsOf Kind.Normals (extended (c .roster) (events.picks c)) ≡ idsOf Kind.Normals (c .roster)
+  normals-stay = ids-same Kind.Normals Kind.Normals (c .roster) (extended (c .roster) (events.picks c)) (v .ok .long) (long-extended (c .roster) (events.picks c) (v .ok .long))
       (λ j l. elim (ℕ-discrete j (events.picks c)) [
-        | yes q ↦ rw q (ap (λ (s : Session). isNormal (s .state)) (extended-at (c .pool .roster) (events.picks c) (v .ok .long) (k .below)) ∙ sym (free-state (stateOf c (events.picks c)) (k .free) .0))
-        | no d ↦ ap (λ (s : Session). isNormal (s .state)) (extended-other (c .pool .roster) (events.picks c) j d)
+        | yes q ↦ rw q (ap (λ (s : Session). isNormal (s .state)) (extended-at (c .roster) (events.picks c) (v .ok .long) (k .below)) ∙ sym (free-state (stateOf c (events.picks c)) (k .free) .0))
+        | no d ↦ ap (λ (s : Session). isNormal (s .state)) (extended-other (c .roster) (events.picks c) j d)
       ])
 
-  normals-are : normals (poolOf c xs) ≡ idsOf Kind.Normals (c .pool .roster)
+  normals-are : normals (poolOf c xs) ≡ idsOf Kind.Normals (c .roster)
   normals-are = ap (λ (ro : Roster). idsOf Kind.Normals ro) roster ∙ normals-stay
 
   some-normal : normals (poolOf c xs) ≢ 0
-  some-normal z = eqb-false (idsOf Kind.Normals (c .pool .roster)) 0 (may .normal) (sym normals-are ∙ z)
+  some-normal z = eqb-false (idsOf Kind.Normals (c .roster)) 0 (may .normal) (sym normals-are ∙ z)
 
   long : Long (poolOf c xs .roster)
   long = reached-valid (next (Event.extend xs) c) (Reached.then c (Event.extend xs) (a .reached)) .ok .long
@@ -225,7 +224,7 @@ module _ (c : Client) (xs : List ℕ) (a : Accepts c (Event.extend xs)) where
   -- the new leg is a candidate
   is-candidate : has (candidates (poolOf c xs)) (events.picks c) ≡ true
   is-candidate = ids-has Kind.Candidates (poolOf c xs .roster) long (events.picks c) (k .below)
-      ∙ (ap (λ (ro : Roster). candidate (sessionAt ro (events.picks c))) roster ∙ ap candidate (extended-at (c .pool .roster) (events.picks c) (v .ok .long) (k .below)))
+      ∙ (ap (λ (ro : Roster). candidate (sessionAt ro (events.picks c))) roster ∙ ap candidate (extended-at (c .roster) (events.picks c) (v .ok .long) (k .below)))
 
   some-candidate : candidates (poolOf c xs) ≢ 0
   some-candidate z = clash is-candidate (ap (λ (s : ℕ). has s (events.picks c)) z ∙ has-none (events.picks c))
@@ -235,7 +234,7 @@ module _ (c : Client) (xs : List ℕ) (a : Accepts c (Event.extend xs)) where
   first = record { phase = Phase.Spread Step.Ready; source = lowest (normals (poolOf c xs)); left = candidates (poolOf c xs); taken = 0 }
 
   versions-are : poolOf c xs .roster .version ≡ versionOf c
-  versions-are = ap (λ (ro : Roster). ro .version) roster ∙ extended-numbers (c .pool .roster) (events.picks c) .versioned
+  versions-are = ap (λ (ro : Roster). ro .version) roster ∙ extended-numbers (c .roster) (events.picks c) .versioned
 
   starts : versionOf c ≤ versionLimit → bounds.Begins c (Event.extend xs) first
   starts low =
@@ -260,7 +259,7 @@ module _ (c : Client) (xs : List ℕ) (a : Accepts c (Event.extend xs)) where
   source-in = lowest-in (normals (poolOf c xs)) source-below
 
   source-normal : isNormal (stateOf c (lowest (normals (poolOf c xs)))) ≡ true
-  source-normal = sym (ids-has Kind.Normals (c .pool .roster) (v .ok .long) (lowest (normals (poolOf c xs))) source-below) ∙ (ap (λ (s : ℕ). has s (lowest (normals (poolOf c xs)))) (sym normals-are) ∙ source-in)
+  source-normal = sym (ids-has Kind.Normals (c .roster) (v .ok .long) (lowest (normals (poolOf c xs))) source-below) ∙ (ap (λ (s : ℕ). has s (lowest (normals (poolOf c xs)))) (sym normals-are) ∙ source-in)
 
   -- the source receives nothing
   not-receiver : has (candidates (poolOf c xs)) (lowest (normals (poolOf c xs))) ≡ false
@@ -272,8 +271,8 @@ module _ (c : Client) (xs : List ℕ) (a : Accepts c (Event.extend xs)) where
   honest-after : (f : ℕ → Station) → HonestBefore c xs f → (w : World) → ((j : ℕ) → w .nodes j ≡ arrived (toldBy c xs) f j) → ((t : ℕ) → Cuts (w .cuts t)) → HonestNodes (poolOf c xs) w
   honest-after f b w at cuts =
       record {
-        source = λ n. subst (Able (c .pool .chunks) (lowest (normals (poolOf c xs)))) (sym (at (lowest (normals (poolOf c xs))))) (able-after f (lowest (normals (poolOf c xs))) source-below (b .source));
-        others = λ j q. subst (Able (c .pool .chunks) j) (sym (at j)) (able-after f j (has-below (candidates (poolOf c xs)) j q) (b .others j q));
+        source = λ n. subst (Able (c .chunks) (lowest (normals (poolOf c xs)))) (sym (at (lowest (normals (poolOf c xs))))) (able-after f (lowest (normals (poolOf c xs))) source-below (b .source));
+        others = λ j q. subst (Able (c .chunks) j) (sym (at j)) (able-after f j (has-below (candidates (poolOf c xs)) j q) (b .others j q));
         versions = λ n m j q. absurd (some-normal n);
         cuts = cuts;
       }
@@ -295,7 +294,7 @@ module _ (c : Client) (xs : List ℕ) (a : Accepts c (Event.extend xs)) where
         up = g .up (events.picks c) is-candidate;
         map = g .map (events.picks c) is-candidate;
         full = λ n m. copied-bit (poolOf c xs) (lowest (normals (poolOf c xs))) (events.picks c) (exchanges (most (poolOf c xs .roster)) w) n (g .map (events.picks c) is-candidate) (k .below)
-            (ap (λ (ro : Roster). has (ro .members) (events.picks c)) roster ∙ (ap (λ (s : ℕ). has s (events.picks c)) (extended-numbers (c .pool .roster) (events.picks c) .held) ∙ has-with-same (c .pool .roster .members) (events.picks c) (k .below)))
+            (ap (λ (ro : Roster). has (ro .members) (events.picks c)) roster ∙ (ap (λ (s : ℕ). has s (events.picks c)) (extended-numbers (c .roster) (events.picks c) .held) ∙ has-with-same (c .roster .members) (events.picks c) (k .below)))
             (omega (arith, m, v .most))
             ∙ (ap (λ (s : Station). dirty (s .map) (events.picks c) n) (r .1 .others (lowest (normals (poolOf c xs))) not-receiver ∙ at (lowest (normals (poolOf c xs)))) ∙ full-after f (lowest (normals (poolOf c xs))) source-normal (b .source) n m);
       }

@@ -25,9 +25,9 @@ use Rattle.rules.specs.Rules.{rosterOk, allAsked, oneAsked, runOk, validPool}
 use Rattle.joins.specs.Joins.{joinTold, createRefusal, created, createDone, joinCreate}
 use Rattle.extending.specs.Extending.{picked, extendRefusal, extended, extendDone, extend}
 use Rattle.enables.specs.Enables.{enables, enableRefusal, enableDone, enable}
-use Rattle.client.specs.declared.Client.{Client}
-use Rattle.client.specs.Client.{fresh, extendTurn}
-use Rattle.events.specs.Events.{Event, outOf, next, isAccepted}
+use Rattle.state.specs.declared.Pool.{Pool}
+use Rattle.client.specs.Client.{freshPool, extendTurn}
+use Rattle.events.specs.Events.{Event, turnOf, next, isAccepted}
 use Rattle.events.specs.Demand2.{Reached}
 use Rattle.events.specs.Said.{Accepts}
 use Rattle.bounds.specs.Demand3.{through}
@@ -38,11 +38,11 @@ use Rattle.demand3.specs.Demand.{Leaves}
 use Rattle.added.specs.Added.{arrived, toldBy, HonestBefore, Ends}
 use Rattle.added.proofs.Added.{leg-added}
 
-abbrev two : Client
-two = through (Event.joinCreate 0 ∷ Event.joinCreate 1 ∷ Event.enable 0 ∷ Event.enable 1 ∷ []) (fresh false 12)
+abbrev two : Pool
+two = through (Event.joinCreate 0 ∷ Event.joinCreate 1 ∷ Event.enable 0 ∷ Event.enable 1 ∷ []) (freshPool false 12)
 
 two-reached : Reached two
-two-reached = reached-through (Event.joinCreate 0 ∷ Event.joinCreate 1 ∷ Event.enable 0 ∷ Event.enable 1 ∷ []) (fresh false 12) (Reached.start false 12 (omega arith) (omega arith))
+two-reached = reached-through (Event.joinCreate 0 ∷ Event.joinCreate 1 ∷ Event.enable 0 ∷ Event.enable 1 ∷ []) (freshPool false 12) (Reached.start false 12 (omega arith) (omega arith))
 
 abbrev silent : Sent
 silent = record { outcome = Outcome.Plain; told = Told.Nothing; awaited = Message.Nothing; number = 0 }
@@ -51,9 +51,9 @@ silent = record { outcome = Outcome.Plain; told = Told.Nothing; awaited = Messag
 abbrev world : World
 world =
     record {
-      pool = next (Event.extend bytes) two .pool;
+      pool = next (Event.extend bytes) two;
       map = bytes;
-      sent = lastSent (outOf (Event.extend bytes) two .answer) silent;
+      sent = lastSent (turnOf (Event.extend bytes) two .answer) silent;
       nodes = λ j. arrived (toldBy two bytes) station j;
       cuts = cuts;
     }
@@ -68,7 +68,7 @@ accepts = record { reached = two-reached; done = refl }
 
 leaves : Leaves (Event.extend bytes) two world
 unfolding bit has with without size lowest sound cleanFrom spare room idsOf entered possible posted tried cases.caseOf cases.begun rosterOk allAsked oneAsked runOk validPool joinTold createRefusal created createDone joinCreate enables enableRefusal enableDone enable picked extendRefusal extended extendDone extend extendTurn bytes
-leaves = record { pool = refl; sent = sends (outOf (Event.extend bytes) two .answer) refl; map = sound-bytes }
+leaves = record { pool = refl; sent = sends (turnOf (Event.extend bytes) two .answer) refl; map = sound-bytes }
 
 before : HonestBefore two bytes station
 unfolding bit has with without size lowest sound cleanFrom spare room idsOf entered possible posted tried cases.caseOf cases.begun rosterOk allAsked oneAsked runOk validPool joinTold createRefusal created createDone joinCreate enables enableRefusal enableDone enable picked extendRefusal extended extendDone extend extendTurn bytes

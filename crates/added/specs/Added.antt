@@ -14,8 +14,7 @@ use Rattle.state.specs.declared.Pool.{Pool}
 use Rattle.state.specs.declared.Told.{Told}
 use Rattle.state.specs.declared.Answer.{Answer}
 use Rattle.state.specs.Session.{isNormal}
-use Rattle.client.specs.declared.Client.{Client}
-use Rattle.events.specs.Events.{Event, outOf, picks, stateOf}
+use Rattle.events.specs.Events.{Event, turnOf, picks, stateOf}
 use Rattle.events.specs.Said.{Accepts, versionOf}
 use Rattle.bounds.specs.Demand3.{triedIn}
 use Rattle.node.specs.Events as node
@@ -50,8 +49,8 @@ arrived (Told.Off to) f j = f j
 arrived (Told.Extended others normals member version) f j = filledAt normals member version j (informedAt others member j (f j))
 
 -- what extend told at the client c
-abbrev pub toldBy : Client → List ℕ → Told
-toldBy c xs = toldIn (outOf (Event.extend xs) c .answer)
+abbrev pub toldBy : Pool → List ℕ → Told
+toldBy c xs = toldIn (turnOf (Event.extend xs) c .answer)
 
 -- ---- a full row
 
@@ -61,32 +60,32 @@ Full chunks m xs = (k : ℕ) → k < chunks → dirty xs m k ≡ 1
 
 -- After an accepted extend, once its messages arrived in the order sent, the new member's row is full on every NORMAL node that is honest.
 abbrev pub FullOnNormals : Type 0
-FullOnNormals = (c : Client) (xs : List ℕ) → Accepts c (Event.extend xs) → (f : ℕ → Station) (j : ℕ) → isNormal (stateOf c j) ≡ true → Able (c .pool .chunks) j (f j)
-    → Full (c .pool .chunks) (picks c) (arrived (toldBy c xs) f j .map)
+FullOnNormals = (c : Pool) (xs : List ℕ) → Accepts c (Event.extend xs) → (f : ℕ → Station) (j : ℕ) → isNormal (stateOf c j) ≡ true → Able (c .chunks) j (f j)
+    → Full (c .chunks) (picks c) (arrived (toldBy c xs) f j .map)
 
 -- ---- the run
 
 -- the pool in which recovery is tried
-abbrev pub poolOf : Client → List ℕ → Pool
+abbrev pub poolOf : Pool → List ℕ → Pool
 poolOf c xs = triedIn (Event.extend xs) c
 
 -- The nodes f before extend: those that take part in its run are honest. They are the source, the lowest NORMAL id, and the receivers, the new leg among them: its node is registered for adding and
 -- joined by assemble, so it serves.
-pub record HonestBefore (c : Client) (xs : List ℕ) (f : ℕ → Station) : Type 0 where
-  pub source : Able (c .pool .chunks) (lowest (normals (poolOf c xs))) (f (lowest (normals (poolOf c xs))))
-  pub others : (j : ℕ) → has (candidates (poolOf c xs)) j ≡ true → Able (c .pool .chunks) j (f j)
+pub record HonestBefore (c : Pool) (xs : List ℕ) (f : ℕ → Station) : Type 0 where
+  pub source : Able (c .chunks) (lowest (normals (poolOf c xs))) (f (lowest (normals (poolOf c xs))))
+  pub others : (j : ℕ) → has (candidates (poolOf c xs)) j ≡ true → Able (c .chunks) j (f j)
 
 -- After n answers the run is over; there were 3R of them, R being the receivers; the new leg is NORMAL on both sides, its map is the source's for every member and zero elsewhere, and its own row is full.
-pub record Ends (c : Client) (xs : List ℕ) (n : ℕ) (w : World) : Type 0 where
+pub record Ends (c : Pool) (xs : List ℕ) (n : ℕ) (w : World) : Type 0 where
   pub count : n ≡ 3 * size (candidates (poolOf c xs))
   pub over : exchanges n w .pool .job ≡ Job.Idle
   pub up : Up (poolOf c xs) (picks c) (exchanges n w)
   pub map : Copied (poolOf c xs) (lowest (normals (poolOf c xs))) (picks c) (exchanges n w)
-  pub full : Full (c .pool .chunks) (picks c) (exchanges n w .nodes (picks c) .map)
+  pub full : Full (c .chunks) (picks c) (exchanges n w .nodes (picks c) .map)
 
 -- With honest nodes, the messages arrived in the order sent, and a version that lets a run begin.
 abbrev pub LegAdded : Type 0
-LegAdded = (c : Client) (xs : List ℕ) → Accepts c (Event.extend xs) → versionOf c ≤ versionLimit
+LegAdded = (c : Pool) (xs : List ℕ) → Accepts c (Event.extend xs) → versionOf c ≤ versionLimit
     → (f : ℕ → Station) → HonestBefore c xs f
     → (w : World) → Leaves (Event.extend xs) c w → ((j : ℕ) → w .nodes j ≡ arrived (toldBy c xs) f j) → ((t : ℕ) → Cuts (w .cuts t))
     → Ends c xs (3 * size (candidates (poolOf c xs))) w

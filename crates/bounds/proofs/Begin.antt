@@ -29,7 +29,6 @@ use Rattle.recovery.specs.Recovery.{posted, beginning, tried}
 use Rattle.exits.specs.Exit.{refused}
 use Rattle.keeps.specs.Rosters.{Ok}
 use Rattle.answers.specs.Answers.{answerRefusal, answered, answer}
-use Rattle.client.specs.declared.Client.{Client}
 use Rattle.client.specs.Client.{soundFor, answerTurn}
 use Rattle.events.specs.Events.{Event, next}
 use Rattle.bounds.specs.Demand3.{most}
@@ -51,12 +50,12 @@ job-calm Job.Idle p a e i = ap isRunning e
 job-calm (Job.Running r) p a e i = clash refl i
 job-calm (Job.Removing m) p a e i = answered-calm m p a
 
-pub answer-calm : (c : Client) (xs : List ℕ) (number : ℕ) (a : Reply) → isRunning (c .pool .job) ≡ false → isRunning (next (Event.answer xs number a) c .pool .job) ≡ false
+pub answer-calm : (c : Pool) (xs : List ℕ) (number : ℕ) (a : Reply) → isRunning (c .job) ≡ false → isRunning (next (Event.answer xs number a) c .job) ≡ false
 unfolding answerTurn answer
-answer-calm c xs number a i = at (eqb (answerRefusal (c .pool) (soundFor (c .pool) xs) number) 0)
+answer-calm c xs number a i = at (eqb (answerRefusal c (soundFor c xs) number) 0)
   where
-    at : (b : Bool) → isRunning (pick b (answered (c .pool .job) (c .pool) a) (refused (c .pool) (answerRefusal (c .pool) (soundFor (c .pool) xs) number)) .pool .job) ≡ false
-    at true = job-calm (c .pool .job) (c .pool) a refl i
+    at : (b : Bool) → isRunning (pick b (answered (c .job) c a) (refused c (answerRefusal c (soundFor c xs) number)) .pool .job) ≡ false
+    at true = job-calm (c .job) c a refl i
     at false = i
 
 -- ---- how many answers a run can take that begins

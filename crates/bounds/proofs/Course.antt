@@ -32,7 +32,6 @@ use Rattle.keeps.specs.Runs.{RunOk, run-facts, entered-members}
 use Rattle.links.specs.Links.{downRefusal, downAt, downDone, linkDown}
 use Rattle.answers.specs.Answers as answers
 use Rattle.answers.proofs.Kept.{fit-of}
-use Rattle.client.specs.declared.Client.{Client}
 use Rattle.client.specs.Client.{soundFor, answerTurn}
 use Rattle.events.specs.Events.{Event, turnOf, next, isAccepted, testsOf, isAnswer, isDown}
 use Rattle.order.proofs.Order.{none-applies}
@@ -45,72 +44,72 @@ use Rattle.bounds.specs.Demand3.{through, awaitedAnswers, countOf, lastC
 -- ---- the course
 
 -- What becomes of a client in whose run t answers were taken and `left` are still possible.
-pub record Course (es : List Event) (c : Client) (t left : ℕ) : Type 0 where
+pub record Course (es : List Event) (c : Pool) (t left : ℕ) : Type 0 where
   pub few : awaitedAnswers es c ≤ left
   pub count : lastCount es c t ≡ t + awaitedAnswers es c
-  pub stands : anyCut es c ≡ false → Stands (through es c .pool .job) (t + awaitedAnswers es c) (t + left)
+  pub stands : anyCut es c ≡ false → Stands (through es c .job) (t + awaitedAnswers es c) (t + left)
 
 pub stands-on : (j : Job) (t t′ m m′ : ℕ) → t ≡ t′ → m ≤ m′ → Stands j t m → Stands j t′ m′
 stands-on Job.Idle t t′ m m′ e l s = tt
 stands-on (Job.Running r) t t′ m m′ e l s = (s .0 ∙ e, omega (arith, s .1))
 stands-on (Job.Removing d) t t′ m m′ e l s = s
 
--- the client of a pool
-abbrev of : Pool → Client
-of p = record { pool = p }
-
 -- The course after the turn of an event: `answer` and `down` say what it is, es is what follows.
 record CourseBy (answer down : Bool) (es : List Event) (u : Turn) (t left : ℕ) : Type 0 where
-  few : one (isAccepted (u .answer) && answer) + awaitedAnswers es (of (u .pool)) ≤ left
-  count : lastCount es (of (u .pool)) (countOf (u .answer) t) ≡ t + (one (isAccepted (u .answer) && answer) + awaitedAnswers es (of (u .pool)))
-  stands : ((isAccepted (u .answer) && down) || anyCut es (of (u .pool))) ≡ false
-      → Stands (through es (of (u .pool)) .pool .job) (t + (one (isAccepted (u .answer) && answer) + awaitedAnswers es (of (u .pool)))) (t + left)
+  few : one (isAccepted (u .answer) && answer) + awaitedAnswers es (u .pool) ≤ left
+  count : lastCount es (u .pool) (countOf (u .answer) t) ≡ t + (one (isAccepted (u .answer) && answer) + awaitedAnswers es (u .pool))
+  stands : ((isAccepted (u .answer) && down) || anyCut es (u .pool)) ≡ false
+      → Stands (through es (u .pool) .job) (t + (one (isAccepted (u .answer) && answer) + awaitedAnswers es (u .pool))) (t + left)
 
 -- what follows it, where the run lasts or not
 abbrev following : List Event → Bool → Pool → List Event
-following es lasts p = pick lasts (during es (of p)) []
+following es lasts p = pick lasts (during es p) []
 
-whole : (e : Event) (es : List Event) (c : Client) (u : Turn) (lasts : Bool) (t left : ℕ) → turnOf e c ≡ u → lastsPast e c ≡ lasts → CourseBy (isAnswer e) (isDown e) (following es lasts (u .pool)) u t left → Course (during (e ∷ es) c) c t left
+-- the run in hand lasts past the turn of an event, a link down or not
+abbrev lasting : Bool → Turn → Bool
+lasting down t = isRunning (t .pool .job) && not (isAccepted (t .answer) && down)
+
+whole : (e : Event) (es : List Event) (c : Pool) (u : Turn) (lasts : Bool) (t left : ℕ) → turnOf e c ≡ u → lastsPast e c ≡ lasts → CourseBy (isAnswer e) (isDown e) (following es lasts (u .pool)) u t left → Course (during (e ∷ es) c) c t left
 whole e es c u lasts t left q l h =
-    let k : CourseBy (isAnswer e) (isDown e) (following es (lastsPast e c) (next e c .pool)) (turnOf e c) t left =
+    let k : CourseBy (isAnswer e) (isDown e) (following es (lastsPast e c) (next e c)) (turnOf e c) t left =
     subst (λ (x : Turn). CourseBy (isAnswer e) (isDown e) (following es (lastsPast e c) (x .pool)) x t left) (sym q)
     (subst (λ (b : Bool). CourseBy (isAnswer e) (isDown e) (following es b (u .pool)) u t left) (sym l) h) in
     record { few = k .few; count = k .count; stands = k .stands }
 
 -- a refused event changes nothing
-passes : (answer down : Bool) (es : List Event) (c : Client) (n t left : ℕ) → Course (during es c) c t left → CourseBy answer down (during es c) (refused (c .pool) n) t left
+passes : (answer down : Bool) (es : List Event) (c : Pool) (n t left : ℕ) → Course (during es c) c t left → CourseBy answer down (during es c) (refused c n) t left
 passes answer down es c n t left h =
     let z : t + awaitedAnswers (during es c) c ≡ t + (0 + awaitedAnswers (during es c) c) = omega arith in
     record {
       few = omega (arith, h .few);
       count = h .count ∙ z;
-      stands = λ u. stands-on (through (during es c) c .pool .job) _ _ (t + left) (t + left) z (omega arith) (h .stands u);
+      stands = λ u. stands-on (through (during es c) c .job) _ _ (t + left) (t + left) z (omega arith) (h .stands u);
     }
 
 -- ---- a run is in hand
 
 -- what is known of it
-pub record InHand (c : Client) (r : Run) : Type 0 where
-  pub valid : Valid (c .pool)
-  pub job : c .pool .job ≡ Job.Running r
+pub record InHand (c : Pool) (r : Run) : Type 0 where
+  pub valid : Valid c
+  pub job : c .job ≡ Job.Running r
 
-pub facts : (c : Client) (r : Run) → InHand c r → RunOk (c .pool .roster) r
-facts c r h = run-facts (c .pool .roster) r (h .valid .ok .long) (subst (λ (j : Job). jobOk j (c .pool .roster) ≡ true) (h .job) (h .valid .job))
+pub facts : (c : Pool) (r : Run) → InHand c r → RunOk (c .roster) r
+facts c r h = run-facts (c .roster) r (h .valid .ok .long) (subst (λ (j : Job). jobOk j (c .roster) ≡ true) (h .job) (h .valid .job))
 
-abbrev pub takesIn : Client → Run → Reply → Move
-takesIn c r a = run.takes (c .pool .roster .members) (c .pool .roster .version) r a
+abbrev pub takesIn : Pool → Run → Reply → Move
+takesIn c r a = run.takes (c .roster .members) (c .roster .version) r a
 
-fewer : (c : Client) (r : Run) (a : Reply) → InHand c r → Lowers (taken-well (c .pool .roster .version) r a) (possible (c .pool .roster .members) r) (c .pool .roster .members) r (takesIn c r a)
+fewer : (c : Pool) (r : Run) (a : Reply) → InHand c r → Lowers (taken-well (c .roster .version) r a) (possible (c .roster .members) r) (c .roster .members) r (takesIn c r a)
 fewer c r a h =
     let q = facts c r h in
-    lowers (c .pool .roster .members) (c .pool .roster .version) r a (fit-of (r .phase) (c .pool .roster) r (h .valid .ok) q (q .some) (q .source))
+    lowers (c .roster .members) (c .roster .version) r a (fit-of (r .phase) (c .roster) r (h .valid .ok) q (q .some) (q .source))
 
 -- at least one answer is still possible
-some-possible : (c : Client) (r : Run) → InHand c r → 0 < possible (c .pool .roster .members) r
+some-possible : (c : Pool) (r : Run) → InHand c r → 0 < possible (c .roster .members) r
 some-possible c r h = omega (arith, fewer c r Reply.Failed h .fewer)
 
 -- the count is raised by one
-raised : (c : Client) (r : Run) → InHand c r → run.counted (r .taken) ≡ r .taken + 1
+raised : (c : Pool) (r : Run) → InHand c r → run.counted (r .taken) ≡ r .taken + 1
 raised c r h =
     counted-one (r .taken) (omega (arith, facts c r h .most, some-possible c r h))
 
@@ -120,10 +119,10 @@ same-members Who.Nobody ro e = refl
 same-members (Who.One id) ro e = entered-members ro id
 
 abbrev Ahead : List Event → Type 0
-Ahead es = (c : Client) (r : Run) → InHand c r → Course (during es c) c (r .taken) (possible (c .pool .roster .members) r)
+Ahead es = (c : Pool) (r : Run) → InHand c r → Course (during es c) c (r .taken) (possible (c .roster .members) r)
 
 -- a run that sends its message is in hand
-in-hand : (r : Run) (p : Pool) → Valid (goneOn (Next.On r) p .pool) → InHand (of (goneOn (Next.On r) p .pool)) r
+in-hand : (r : Run) (p : Pool) → Valid (goneOn (Next.On r) p .pool) → InHand ((goneOn (Next.On r) p .pool)) r
 unfolding posted
 in-hand r p v = record { valid = v; job = refl }
 
@@ -138,90 +137,90 @@ rest es n p = following es (isRunning (goneOn n p .pool .job)) (goneOn n p .pool
 -- the rest of the course, after an answer with which the count is t
 abbrev Onward : List Event → Next → Pool → ℕ → ℕ → Type 0
 Onward es n p t left =
-    (awaitedAnswers (rest es n p) (of (goneOn n p .pool)) < left)
-    × (lastCount (rest es n p) (of (goneOn n p .pool)) t ≡ t + awaitedAnswers (rest es n p) (of (goneOn n p .pool)))
-    × (anyCut (rest es n p) (of (goneOn n p .pool)) ≡ false
-    → Stands (through (rest es n p) (of (goneOn n p .pool)) .pool .job) (t + awaitedAnswers (rest es n p) (of (goneOn n p .pool))) (t + (left - 1)))
+    (awaitedAnswers (rest es n p) (goneOn n p .pool) < left)
+    × (lastCount (rest es n p) (goneOn n p .pool) t ≡ t + awaitedAnswers (rest es n p) (goneOn n p .pool))
+    × (anyCut (rest es n p) (goneOn n p .pool) ≡ false
+    → Stands (through (rest es n p) (goneOn n p .pool) .job) (t + awaitedAnswers (rest es n p) (goneOn n p .pool)) (t + (left - 1)))
 
-goes-on : (ds : List Event) (c : Client) (t t′ still left : ℕ) → t ≡ t′ → still < left → Course ds c t still
-    → (awaitedAnswers ds c < left) × (lastCount ds c t′ ≡ t′ + awaitedAnswers ds c) × (anyCut ds c ≡ false → Stands (through ds c .pool .job) (t′ + awaitedAnswers ds c) (t′ + (left - 1)))
+goes-on : (ds : List Event) (c : Pool) (t t′ still left : ℕ) → t ≡ t′ → still < left → Course ds c t still
+    → (awaitedAnswers ds c < left) × (lastCount ds c t′ ≡ t′ + awaitedAnswers ds c) × (anyCut ds c ≡ false → Stands (through ds c .job) (t′ + awaitedAnswers ds c) (t′ + (left - 1)))
 goes-on ds c t t′ still left k l h = (
   omega (arith, h .few),
   subst (λ (x : ℕ). lastCount ds c x ≡ x + awaitedAnswers ds c) k (h .count),
-  λ u. stands-on (through ds c .pool .job) (t + awaitedAnswers ds c) (t′ + awaitedAnswers ds c) (t + still) (t′ + (left - 1)) (ap (λ (x : ℕ). x + awaitedAnswers ds c) k) (omega (arith, k)) (h .stands u),
+  λ u. stands-on (through ds c .job) (t + awaitedAnswers ds c) (t′ + awaitedAnswers ds c) (t + still) (t′ + (left - 1)) (ap (λ (x : ℕ). x + awaitedAnswers ds c) k) (omega (arith, k)) (h .stands u),
 )
 
 onward : (es : List Event) → Ahead es → (n : Next) (p : Pool) (t left : ℕ) → Valid (goneOn n p .pool) → Carries t n → stillIn (p .roster .members) n < left → Onward es n p t left
 unfolding posted
 onward es rec Next.Over p t left v k l = (l, (let z : t ≡ t + 0 = omega arith in z), λ u. tt)
 onward es rec (Next.On r) p t left v k l =
-    goes-on (during es (of (goneOn (Next.On r) p .pool))) (of (goneOn (Next.On r) p .pool)) (r .taken) t (possible (p .roster .members) r) left k l
-    (rec (of (goneOn (Next.On r) p .pool)) r (in-hand r p v))
+    goes-on (during es ((goneOn (Next.On r) p .pool))) ((goneOn (Next.On r) p .pool)) (r .taken) t (possible (p .roster .members) r) left k l
+    (rec ((goneOn (Next.On r) p .pool)) r (in-hand r p v))
 
 -- ---- an awaited answer
 
 -- the pool after it
-abbrev movedOn : Client → Run → Reply → Pool
-movedOn c r a = withRoster (c .pool) (answers.enteredBy (takesIn c r a .normal) (c .pool .roster))
+abbrev movedOn : Pool → Run → Reply → Pool
+movedOn c r a = withRoster c (answers.enteredBy (takesIn c r a .normal) (c .roster))
 
-answer-turn : (c : Client) (xs : List ℕ) (number : ℕ) (a : Reply) → eqb (whyNot (Event.answer xs number a) c) 0 ≡ true → turnOf (Event.answer xs number a) c ≡ answers.answered (c .pool .job) (c .pool) a
+answer-turn : (c : Pool) (xs : List ℕ) (number : ℕ) (a : Reply) → eqb (whyNot (Event.answer xs number a) c) 0 ≡ true → turnOf (Event.answer xs number a) c ≡ answers.answered (c .job) c a
 unfolding answerTurn answers.answer answers.answerRefusal
 answer-turn c xs number a z = rw z refl
 
-pub took-turn : (c : Client) (r : Run) (xs : List ℕ) (number : ℕ) (a : Reply) → c .pool .job ≡ Job.Running r → eqb (whyNot (Event.answer xs number a) c) 0 ≡ true
-    → turnOf (Event.answer xs number a) c ≡ answers.reported (c .pool) (takesIn c r a)
-took-turn c r xs number a e z = answer-turn c xs number a z ∙ ap (λ (j : Job). answers.answered j (c .pool) a) e
+pub took-turn : (c : Pool) (r : Run) (xs : List ℕ) (number : ℕ) (a : Reply) → c .job ≡ Job.Running r → eqb (whyNot (Event.answer xs number a) c) 0 ≡ true
+    → turnOf (Event.answer xs number a) c ≡ answers.reported c (takesIn c r a)
+took-turn c r xs number a e z = answer-turn c xs number a z ∙ ap (λ (j : Job). answers.answered j c a) e
 
-pub took-lasts : (c : Client) (r : Run) (xs : List ℕ) (number : ℕ) (a : Reply) → c .pool .job ≡ Job.Running r → eqb (whyNot (Event.answer xs number a) c) 0 ≡ true
-    → lastsPast (Event.answer xs number a) c ≡ isRunning (answers.reported (c .pool) (takesIn c r a) .pool .job)
-took-lasts c r xs number a e z = rw (took-turn c r xs number a e z) (and-true (isRunning (answers.reported (c .pool) (takesIn c r a) .pool .job)))
+pub took-lasts : (c : Pool) (r : Run) (xs : List ℕ) (number : ℕ) (a : Reply) → c .job ≡ Job.Running r → eqb (whyNot (Event.answer xs number a) c) 0 ≡ true
+    → lastsPast (Event.answer xs number a) c ≡ isRunning (answers.reported c (takesIn c r a) .pool .job)
+took-lasts c r xs number a e z = ap (lasting false) (took-turn c r xs number a e z) ∙ and-true (isRunning (answers.reported c (takesIn c r a) .pool .job))
 
-took : (es : List Event) → Ahead es → (xs : List ℕ) (number : ℕ) (a : Reply) (c : Client) (r : Run) → InHand c r → eqb (whyNot (Event.answer xs number a) c) 0 ≡ true
-    → CourseBy true false (following es (isRunning (answers.reported (c .pool) (takesIn c r a) .pool .job)) (answers.reported (c .pool) (takesIn c r a) .pool)) (answers.reported (c .pool) (takesIn c r a)) (r .taken) (possible (c .pool .roster .members) r)
+took : (es : List Event) → Ahead es → (xs : List ℕ) (number : ℕ) (a : Reply) (c : Pool) (r : Run) → InHand c r → eqb (whyNot (Event.answer xs number a) c) 0 ≡ true
+    → CourseBy true false (following es (isRunning (answers.reported c (takesIn c r a) .pool .job)) (answers.reported c (takesIn c r a) .pool)) (answers.reported c (takesIn c r a)) (r .taken) (possible (c .roster .members) r)
 unfolding answers.movedOn
-took es rec xs number a c r h z = put (onward es rec (takesIn c r a .next) (movedOn c r a) (run.counted (r .taken)) (possible (c .pool .roster .members) r) valid′ (w .carries) fewer′)
+took es rec xs number a c r h z = put (onward es rec (takesIn c r a .next) (movedOn c r a) (run.counted (r .taken)) (possible (c .roster .members) r) valid′ (w .carries) fewer′)
   where
-    w : Lowers (taken-well (c .pool .roster .version) r a) (possible (c .pool .roster .members) r) (c .pool .roster .members) r (takesIn c r a)
+    w : Lowers (taken-well (c .roster .version) r a) (possible (c .roster .members) r) (c .roster .members) r (takesIn c r a)
     w = fewer c r a h
 
     valid′ : Valid (goneOn (takesIn c r a .next) (movedOn c r a) .pool)
     valid′ = subst (λ (u : Turn). Valid (u .pool)) (took-turn c r xs number a (h .job) z) (event-keeps (Event.answer xs number a) c (h .valid))
 
-    fewer′ : stillIn (movedOn c r a .roster .members) (takesIn c r a .next) < possible (c .pool .roster .members) r
+    fewer′ : stillIn (movedOn c r a .roster .members) (takesIn c r a .next) < possible (c .roster .members) r
     fewer′ =
-        subst (λ (m : ℕ). stillIn m (takesIn c r a .next) < possible (c .pool .roster .members) r)
-        (sym (same-members (takesIn c r a .normal) (c .pool .roster) (facts c r h .plain))) (w .fewer)
+        subst (λ (m : ℕ). stillIn m (takesIn c r a .next) < possible (c .roster .members) r)
+        (sym (same-members (takesIn c r a .normal) (c .roster) (facts c r h .plain))) (w .fewer)
 
-    c′ : Client
-    c′ = of (goneOn (takesIn c r a .next) (movedOn c r a) .pool)
+    c′ : Pool
+    c′ = goneOn (takesIn c r a .next) (movedOn c r a) .pool
 
     ds : List Event
     ds = rest es (takesIn c r a .next) (movedOn c r a)
 
-    put : Onward es (takesIn c r a .next) (movedOn c r a) (run.counted (r .taken)) (possible (c .pool .roster .members) r)
-        → CourseBy true false (following es (isRunning (answers.reported (c .pool) (takesIn c r a) .pool .job)) (answers.reported (c .pool) (takesIn c r a) .pool)) (answers.reported (c .pool) (takesIn c r a)) (r .taken) (possible (c .pool .roster .members) r)
+    put : Onward es (takesIn c r a .next) (movedOn c r a) (run.counted (r .taken)) (possible (c .roster .members) r)
+        → CourseBy true false (following es (isRunning (answers.reported c (takesIn c r a) .pool .job)) (answers.reported c (takesIn c r a) .pool)) (answers.reported c (takesIn c r a)) (r .taken) (possible (c .roster .members) r)
     put k =
         let one-more = raised c r h in
         let same : run.counted (r .taken) + awaitedAnswers ds c′ ≡ r .taken + (1 + awaitedAnswers ds c′) = omega (arith, one-more) in
         record {
           few = omega (arith, k .0);
           count = ap (λ (n : ℕ). lastCount ds c′ n) (w .raised) ∙ (k .1 ∙ same);
-          stands = λ u. stands-on (through ds c′ .pool .job) (run.counted (r .taken) + awaitedAnswers ds c′) (r .taken + (1 + awaitedAnswers ds c′)) (run.counted (r .taken) + (possible (c .pool .roster .members) r - 1)) (r .taken + possible (c .pool .roster .members) r) same (omega (arith, one-more, some-possible c r h)) (k .2 u);
+          stands = λ u. stands-on (through ds c′ .job) (run.counted (r .taken) + awaitedAnswers ds c′) (r .taken + (1 + awaitedAnswers ds c′)) (run.counted (r .taken) + (possible (c .roster .members) r - 1)) (r .taken + possible (c .roster .members) r) same (omega (arith, one-more, some-possible c r h)) (k .2 u);
         }
 
 -- ---- a link down
 
-down-turn : (c : Client) (id : ℕ) → eqb (whyNot (Event.linkDown id) c) 0 ≡ true → turnOf (Event.linkDown id) c ≡ downAt (c .pool .job) (c .pool) id
+down-turn : (c : Pool) (id : ℕ) → eqb (whyNot (Event.linkDown id) c) 0 ≡ true → turnOf (Event.linkDown id) c ≡ downAt (c .job) c id
 unfolding linkDown downDone downRefusal
 down-turn c id z = rw z refl
 
 -- one that is accepted ends the run
-pub cut-turn : (c : Client) (r : Run) (id : ℕ) → c .pool .job ≡ Job.Running r → eqb (whyNot (Event.linkDown id) c) 0 ≡ true → turnOf (Event.linkDown id) c ≡ downAt (Job.Running r) (c .pool) id
-cut-turn c r id e z = down-turn c id z ∙ ap (λ (j : Job). downAt j (c .pool) id) e
+pub cut-turn : (c : Pool) (r : Run) (id : ℕ) → c .job ≡ Job.Running r → eqb (whyNot (Event.linkDown id) c) 0 ≡ true → turnOf (Event.linkDown id) c ≡ downAt (Job.Running r) c id
+cut-turn c r id e z = down-turn c id z ∙ ap (λ (j : Job). downAt j c id) e
 
 -- and no event that follows comes to it
-pub cut-lasts : (c : Client) (r : Run) (id : ℕ) → c .pool .job ≡ Job.Running r → eqb (whyNot (Event.linkDown id) c) 0 ≡ true → lastsPast (Event.linkDown id) c ≡ false
-cut-lasts c r id e z = rw (cut-turn c r id e z) (and-false (isRunning (downAt (Job.Running r) (c .pool) id .pool .job)))
+pub cut-lasts : (c : Pool) (r : Run) (id : ℕ) → c .job ≡ Job.Running r → eqb (whyNot (Event.linkDown id) c) 0 ≡ true → lastsPast (Event.linkDown id) c ≡ false
+cut-lasts c r id e z = ap (lasting true) (cut-turn c r id e z) ∙ and-false (isRunning (downAt (Job.Running r) c id .pool .job))
 
 -- its result counts the answers taken
 cut : (p : Pool) (r : Run) (id left : ℕ) → CourseBy false true [] (downAt (Job.Running r) p id) (r .taken) left
@@ -230,23 +229,23 @@ cut p r id left = record { few = omega arith; count = omega arith; stands = λ u
 -- ---- any event
 
 -- one that is refused
-pub refused-lasts : (e : Event) (c : Client) (r : Run) → c .pool .job ≡ Job.Running r → eqb (whyNot e c) 0 ≡ false → lastsPast e c ≡ true
-refused-lasts e c r q z = rw (refused-turn e c z, q) refl
+pub refused-lasts : (e : Event) (c : Pool) (r : Run) → c .job ≡ Job.Running r → eqb (whyNot e c) 0 ≡ false → lastsPast e c ≡ true
+refused-lasts e c r q z = ap (lasting (isDown e)) (refused-turn e c z) ∙ ap (λ (j : Job). isRunning j && true) q
 
-refused-passes : (es : List Event) → Ahead es → (e : Event) (c : Client) (r : Run) → InHand c r → eqb (whyNot e c) 0 ≡ false → Course (during (e ∷ es) c) c (r .taken) (possible (c .pool .roster .members) r)
+refused-passes : (es : List Event) → Ahead es → (e : Event) (c : Pool) (r : Run) → InHand c r → eqb (whyNot e c) 0 ≡ false → Course (during (e ∷ es) c) c (r .taken) (possible (c .roster .members) r)
 refused-passes es rec e c r h z =
     whole e es c _ true _ _ (refused-turn e c z) (refused-lasts e c r (h .job) z) (passes (isAnswer e) (isDown e) es c (whyNot e c) _ _ (rec c r h))
 
 -- so none of them is accepted
-barred-out {ℓ} : {A : Type ℓ} (c : Client) (r : Run) → c .pool .job ≡ Job.Running r → (e : Event) → isAnswer e ≡ false → isDown e ≡ false → eqb (whyNot e c) 0 ≡ true → A
+barred-out {ℓ} : {A : Type ℓ} (c : Pool) (r : Run) → c .job ≡ Job.Running r → (e : Event) → isAnswer e ≡ false → isDown e ≡ false → eqb (whyNot e c) 0 ≡ true → A
 barred-out c r q e a d z = clash (law e c .six r q a d) (none-applies (testsOf e c) (eqb-true (whyNot e c) 0 z) 6 refl)
 
 -- one that is accepted
-accepted-course : (es : List Event) → Ahead es → (e : Event) (c : Client) (r : Run) → InHand c r → eqb (whyNot e c) 0 ≡ true → Course (during (e ∷ es) c) c (r .taken) (possible (c .pool .roster .members) r)
+accepted-course : (es : List Event) → Ahead es → (e : Event) (c : Pool) (r : Run) → InHand c r → eqb (whyNot e c) 0 ≡ true → Course (during (e ∷ es) c) c (r .taken) (possible (c .roster .members) r)
 accepted-course es rec (Event.answer xs number a) c r h z =
     whole (Event.answer xs number a) es c _ _ _ _ (took-turn c r xs number a (h .job) z) (took-lasts c r xs number a (h .job) z) (took es rec xs number a c r h z)
 accepted-course es rec (Event.linkDown id) c r h z =
-    whole (Event.linkDown id) es c _ false _ _ (cut-turn c r id (h .job) z) (cut-lasts c r id (h .job) z) (cut (c .pool) r id _)
+    whole (Event.linkDown id) es c _ false _ _ (cut-turn c r id (h .job) z) (cut-lasts c r id (h .job) z) (cut c r id _)
 accepted-course es rec (Event.joinCreate id) c r h z = barred-out c r (h .job) (Event.joinCreate id) refl refl z
 accepted-course es rec (Event.joinAssemble id set version) c r h z = barred-out c r (h .job) (Event.joinAssemble id set version) refl refl z
 accepted-course es rec (Event.enable id) c r h z = barred-out c r (h .job) (Event.enable id) refl refl z
@@ -259,7 +258,7 @@ accepted-course es rec (Event.write xs chunk reached) c r h z = barred-out c r (
 accepted-course es rec (Event.synced xs member chunk) c r h z = barred-out c r (h .job) (Event.synced xs member chunk) refl refl z
 accepted-course es rec (Event.extend xs) c r h z = barred-out c r (h .job) (Event.extend xs) refl refl z
 
-step : (es : List Event) → Ahead es → (e : Event) (c : Client) (r : Run) → InHand c r → (b : Bool) → eqb (whyNot e c) 0 ≡ b → Course (during (e ∷ es) c) c (r .taken) (possible (c .pool .roster .members) r)
+step : (es : List Event) → Ahead es → (e : Event) (c : Pool) (r : Run) → InHand c r → (b : Bool) → eqb (whyNot e c) 0 ≡ b → Course (during (e ∷ es) c) c (r .taken) (possible (c .roster .members) r)
 step es rec e c r h true z = accepted-course es rec e c r h z
 step es rec e c r h false z = refused-passes es rec e c r h z
 
@@ -269,35 +268,35 @@ course [] c r h =
     record {
       few = omega arith;
       count = omega arith;
-      stands = λ u. subst (λ (j : Job). Stands j (r .taken + 0) (r .taken + possible (c .pool .roster .members) r)) (sym (h .job)) ((let q : r .taken ≡ r .taken + 0 = omega arith in q), omega (arith, some-possible c r h));
+      stands = λ u. subst (λ (j : Job). Stands j (r .taken + 0) (r .taken + possible (c .roster .members) r)) (sym (h .job)) ((let q : r .taken ≡ r .taken + 0 = omega arith in q), omega (arith, some-possible c r h));
     }
 course (e ∷ es) c r h = step es (course es) e c r h (eqb (whyNot e c) 0) refl
 
 -- ---- replies under the awaited numbers
 
 -- with a sound map, an answer under the awaited number is not refused
-pub not-refused : (c : Client) (r : Run) (xs : List ℕ) (a : Reply) → InHand c r → soundFor (c .pool) xs ≡ true → whyNot (Event.answer xs (c .pool .number) a) c ≡ 0
-not-refused c r xs a h s = simp (valid-of (c .pool) (h .valid), s, h .job, eq-eqb (c .pool .number) (c .pool .number) refl)
+pub not-refused : (c : Pool) (r : Run) (xs : List ℕ) (a : Reply) → InHand c r → soundFor c xs ≡ true → whyNot (Event.answer xs (c .number) a) c ≡ 0
+not-refused c r xs a h s = simp (valid-of c (h .valid), s, h .job, eq-eqb (c .number) (c .number) refl)
 
 -- where nothing is awaited, replies change nothing
-idle-next : (c : Client) (xs : List ℕ) (a : Reply) → c .pool .job ≡ Job.Idle → next (Event.answer xs (c .pool .number) a) c .pool .job ≡ Job.Idle
-idle-next c xs a e = at (eqb (whyNot (Event.answer xs (c .pool .number) a) c) 0) refl
+idle-next : (c : Pool) (xs : List ℕ) (a : Reply) → c .job ≡ Job.Idle → next (Event.answer xs (c .number) a) c .job ≡ Job.Idle
+idle-next c xs a e = at (eqb (whyNot (Event.answer xs (c .number) a) c) 0) refl
   where
     n : ℕ
-    n = c .pool .number
+    n = c .number
 
-    at : (b : Bool) → eqb (whyNot (Event.answer xs (c .pool .number) a) c) 0 ≡ b → next (Event.answer xs (c .pool .number) a) c .pool .job ≡ Job.Idle
+    at : (b : Bool) → eqb (whyNot (Event.answer xs (c .number) a) c) 0 ≡ b → next (Event.answer xs (c .number) a) c .job ≡ Job.Idle
     at true z =
         clash (ap (λ (j : Job). not (not (isIdle j) && eqb n n)) e)
         (none-applies (testsOf (Event.answer xs n a) c) (eqb-true (whyNot (Event.answer xs n a) c) 0 z) 13 refl)
     at false z = ap (λ (u : Turn). u .pool .job) (refused-turn (Event.answer xs n a) c z) ∙ e
 
-idle-stays : (xs : List ℕ) (rs : List Reply) (c : Client) → c .pool .job ≡ Job.Idle → replied xs rs c .pool .job ≡ Job.Idle
+idle-stays : (xs : List ℕ) (rs : List Reply) (c : Pool) → c .job ≡ Job.Idle → replied xs rs c .job ≡ Job.Idle
 idle-stays xs [] c e = e
-idle-stays xs (a ∷ rs) c e = idle-stays xs rs (next (Event.answer xs (c .pool .number) a) c) (idle-next c xs a e)
+idle-stays xs (a ∷ rs) c e = idle-stays xs rs (next (Event.answer xs (c .number) a) c) (idle-next c xs a e)
 
 abbrev Ending : List ℕ → List Reply → Type 0
-Ending xs rs = (c : Client) (r : Run) → InHand c r → soundFor (c .pool) xs ≡ true → possible (c .pool .roster .members) r ≤ length rs → replied xs rs c .pool .job ≡ Job.Idle
+Ending xs rs = (c : Pool) (r : Run) → InHand c r → soundFor c xs ≡ true → possible (c .roster .members) r ≤ length rs → replied xs rs c .job ≡ Job.Idle
 
 same-chunks : (n : Next) (p : Pool) → goneOn n p .pool .chunks ≡ p .chunks
 unfolding posted
@@ -305,30 +304,30 @@ same-chunks Next.Over p = refl
 same-chunks (Next.On r) p = refl
 
 on-ending : (xs : List ℕ) (rs : List Reply) → Ending xs rs → (n : Next) (p : Pool) → Valid (goneOn n p .pool) → soundFor (goneOn n p .pool) xs ≡ true → stillIn (p .roster .members) n ≤ length rs
-    → replied xs rs (of (goneOn n p .pool)) .pool .job ≡ Job.Idle
-on-ending xs rs rec Next.Over p v s l = idle-stays xs rs (of (runEnded p)) refl
+    → replied xs rs (goneOn n p .pool) .job ≡ Job.Idle
+on-ending xs rs rec Next.Over p v s l = idle-stays xs rs (runEnded p) refl
 on-ending xs rs rec (Next.On r) p v s l =
-    rec (of (goneOn (Next.On r) p .pool)) r (in-hand r p v) s
+    rec ((goneOn (Next.On r) p .pool)) r (in-hand r p v) s
     (subst (λ (ro : Roster). possible (ro .members) r ≤ length rs) (sym (posted-roster r p)) l)
 
 reply-ends : (xs : List ℕ) (a : Reply) (rs : List Reply) → Ending xs rs → Ending xs (a ∷ rs)
 unfolding answers.movedOn
 reply-ends xs a rs rec c r h s l =
-    subst (λ (u : Turn). replied xs rs (of (u .pool)) .pool .job ≡ Job.Idle) (sym turn)
+    subst (λ (u : Turn). replied xs rs (u .pool) .job ≡ Job.Idle) (sym turn)
     (on-ending xs rs rec (takesIn c r a .next) (movedOn c r a) valid′
     (ap (λ (k : ℕ). sound k xs) (same-chunks (takesIn c r a .next) (movedOn c r a)) ∙ s)
     (omega (arith, fewer′, l)))
   where
-    turn : turnOf (Event.answer xs (c .pool .number) a) c ≡ answers.reported (c .pool) (takesIn c r a)
-    turn = took-turn c r xs (c .pool .number) a (h .job) (eq-eqb _ 0 (not-refused c r xs a h s))
+    turn : turnOf (Event.answer xs (c .number) a) c ≡ answers.reported c (takesIn c r a)
+    turn = took-turn c r xs (c .number) a (h .job) (eq-eqb _ 0 (not-refused c r xs a h s))
 
     valid′ : Valid (goneOn (takesIn c r a .next) (movedOn c r a) .pool)
-    valid′ = subst (λ (u : Turn). Valid (u .pool)) turn (event-keeps (Event.answer xs (c .pool .number) a) c (h .valid))
+    valid′ = subst (λ (u : Turn). Valid (u .pool)) turn (event-keeps (Event.answer xs (c .number) a) c (h .valid))
 
-    fewer′ : stillIn (movedOn c r a .roster .members) (takesIn c r a .next) < possible (c .pool .roster .members) r
+    fewer′ : stillIn (movedOn c r a .roster .members) (takesIn c r a .next) < possible (c .roster .members) r
     fewer′ =
-        subst (λ (m : ℕ). stillIn m (takesIn c r a .next) < possible (c .pool .roster .members) r)
-        (sym (same-members (takesIn c r a .normal) (c .pool .roster) (facts c r h .plain))) (fewer c r a h .fewer)
+        subst (λ (m : ℕ). stillIn m (takesIn c r a .next) < possible (c .roster .members) r)
+        (sym (same-members (takesIn c r a .normal) (c .roster) (facts c r h .plain))) (fewer c r a h .fewer)
 
 -- As many replies as are possible end the run, whatever they say.
 pub ends : (xs : List ℕ) (rs : List Reply) → Ending xs rs

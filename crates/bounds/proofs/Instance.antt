@@ -24,26 +24,26 @@ use Rattle.joins.specs.Joins.{joinTold, createRefusal, created, createDone, joi
 use Rattle.enables.specs.Enables.{enables, enableRefusal, enableDone, enable}
 use Rattle.links.specs.Links.{drops, downRefusal, dropped, downDone, linkDown, checks, checkRefusal, checkDone, storeCheck, tryRefusal, tryRun}
 use Rattle.answers.specs.Answers.{answerRefusal, movedOn, answer}
-use Rattle.client.specs.declared.Client.{Client}
-use Rattle.client.specs.Client.{fresh, answerTurn}
+use Rattle.state.specs.declared.Pool.{Pool}
+use Rattle.client.specs.Client.{freshPool, answerTurn}
 use Rattle.events.specs.Events.{Event, next}
 use Rattle.events.specs.Demand2.{Reached}
 use Rattle.bounds.specs.Demand3.{through, awaitedAnswers, lastCount, anyCut, during, most, Begins}
 
-pub reached-through : (es : List Event) (c : Client) → Reached c → Reached (through es c)
+pub reached-through : (es : List Event) (c : Pool) → Reached c → Reached (through es c)
 reached-through [] c q = q
 reached-through (e ∷ es) c q = reached-through es (next e c) (Reached.then c e q)
 
 -- Of three members 0 is NORMAL, 1 and 2 are CREATED. A good store check of 1 begins a run, which can take three answers.
-abbrev three : Client
-three = through (Event.joinCreate 0 ∷ Event.joinCreate 1 ∷ Event.joinCreate 2 ∷ Event.enable 0 ∷ []) (fresh false 8)
+abbrev three : Pool
+three = through (Event.joinCreate 0 ∷ Event.joinCreate 1 ∷ Event.joinCreate 2 ∷ Event.enable 0 ∷ []) (freshPool false 8)
 
 abbrev first : Run
 first = record { phase = Phase.Spread Step.Ready; source = 0; left = 2; taken = 0 }
 
 three-reached : Reached three
 three-reached =
-    reached-through (Event.joinCreate 0 ∷ Event.joinCreate 1 ∷ Event.joinCreate 2 ∷ Event.enable 0 ∷ []) (fresh false 8)
+    reached-through (Event.joinCreate 0 ∷ Event.joinCreate 1 ∷ Event.joinCreate 2 ∷ Event.enable 0 ∷ []) (freshPool false 8)
     (Reached.start false 8 (omega arith) (omega arith))
 
 pub begins : Begins three (Event.storeCheck 1) first
@@ -64,7 +64,7 @@ abbrev then : List Event
 then = during (early ++ late) (next (Event.storeCheck 1) three)
 
 -- Of the five the first four come while the run lasts; one is an awaited answer, and so says the result.
-pub four : (most (next (Event.storeCheck 1) three .pool .roster) ≡ 3)
+pub four : (most (next (Event.storeCheck 1) three .roster) ≡ 3)
     × (length then ≡ 4) × (awaitedAnswers then (next (Event.storeCheck 1) three) ≡ 1) × (lastCount then (next (Event.storeCheck 1) three) 0 ≡ 1) × (anyCut then (next (Event.storeCheck 1) three) ≡ true)
 unfolding bit has with without size lowest sound cleanFrom spare room idsOf entered left failed went run.receiver run.failedAnswer run.good run.awaitedIn possible cases.caseOf cases.begun posted tried rosterOk allAsked oneAsked runOk validPool joinTold createRefusal created createDone joinCreate enables enableRefusal enableDone enable drops downRefusal dropped downDone linkDown checks checkRefusal checkDone storeCheck tryRefusal tryRun answerRefusal movedOn answer answerTurn
 four = (refl, refl, refl, refl, refl)

@@ -29,7 +29,6 @@ use Rattle.rules.specs.Jobs.{isRunning}
 use Rattle.keeps.specs.Rosters.{below-top}
 use Rattle.answers.specs.Answers as answers
 use Rattle.answers.proofs.Kept.{run-roster}
-use Rattle.client.specs.declared.Client.{Client}
 use Rattle.events.specs.Events.{Event, turnOf, next, isAccepted, isAnswer, isDown, testsOf}
 use Rattle.events.proofs.Shape.{whyNot}
 use Rattle.events.proofs.Law.{law}
@@ -77,52 +76,52 @@ bears-tried p = bears-first (begun (p .roster)) p
 -- ---- one event
 
 -- one that is refused
-refused-keeps : (e : Event) (c : Client) (r : Run) → InHand c r → eqb (whyNot e c) 0 ≡ false → Versioned (c .pool .roster .version) e c
+refused-keeps : (e : Event) (c : Pool) (r : Run) → InHand c r → eqb (whyNot e c) 0 ≡ false → Versioned (c .roster .version) e c
 refused-keeps e c r h z =
     record {
       lasting = λ l. ap (λ (u : Turn). u .pool .roster .version) (refused-turn e c z);
       over = λ f k. clash (refused-lasts e c r (h .job) z) f;
-      carried = λ k. subst (λ (u : Turn). Bears (c .pool .roster .version) (awaitedBy (u .answer))) (sym (refused-turn e c z)) tt;
+      carried = λ k. subst (λ (u : Turn). Bears (c .roster .version) (awaitedBy (u .answer))) (sym (refused-turn e c z)) tt;
     }
 
-took-keeps : (xs : List ℕ) (number : ℕ) (a : Reply) (c : Client) (r : Run) → InHand c r → eqb (whyNot (Event.answer xs number a) c) 0 ≡ true → Versioned (c .pool .roster .version) (Event.answer xs number a) c
+took-keeps : (xs : List ℕ) (number : ℕ) (a : Reply) (c : Pool) (r : Run) → InHand c r → eqb (whyNot (Event.answer xs number a) c) 0 ≡ true → Versioned (c .roster .version) (Event.answer xs number a) c
 unfolding answers.movedOn
 took-keeps xs number a c r h z =
     record {
       lasting = λ l. version ∙ (ap (λ (b : Bool). pick (not b) (more (ro .version)) (ro .version)) (sym lasts ∙ l) ∙ same);
-      over = λ f k. version ∙ (ap (λ (b : Bool). pick (not b) (more (ro .version)) (ro .version)) (sym lasts ∙ f) ∙ (ap more same ∙ below-top (c .pool .roster .version) (omega (arith, facts c r h .limit))));
-      carried = λ k. subst (λ (u : Turn). Bears (c .pool .roster .version) (awaitedBy (u .answer))) (sym turn) (bears-next (m .next) (withRoster (c .pool) ro) (c .pool .roster .version) same);
+      over = λ f k. version ∙ (ap (λ (b : Bool). pick (not b) (more (ro .version)) (ro .version)) (sym lasts ∙ f) ∙ (ap more same ∙ below-top (c .roster .version) (omega (arith, facts c r h .limit))));
+      carried = λ k. subst (λ (u : Turn). Bears (c .roster .version) (awaitedBy (u .answer))) (sym turn) (bears-next (m .next) (withRoster c ro) (c .roster .version) same);
     }
   where
     m : Move
     m = takesIn c r a
 
     ro : Roster
-    ro = answers.enteredBy (takesIn c r a .normal) (c .pool .roster)
+    ro = answers.enteredBy (takesIn c r a .normal) (c .roster)
 
-    turn : turnOf (Event.answer xs number a) c ≡ answers.reported (c .pool) (takesIn c r a)
+    turn : turnOf (Event.answer xs number a) c ≡ answers.reported c (takesIn c r a)
     turn = took-turn c r xs number a (h .job) z
 
-    lasts : lastsPast (Event.answer xs number a) c ≡ isRunning (answers.reported (c .pool) (takesIn c r a) .pool .job)
+    lasts : lastsPast (Event.answer xs number a) c ≡ isRunning (answers.reported c (takesIn c r a) .pool .job)
     lasts = took-lasts c r xs number a (h .job) z
 
-    version : next (Event.answer xs number a) c .pool .roster .version
-        ≡ pick (not (isRunning (answers.reported (c .pool) (takesIn c r a) .pool .job))) (more (answers.enteredBy (takesIn c r a .normal) (c .pool .roster) .version)) (answers.enteredBy (takesIn c r a .normal) (c .pool .roster) .version)
-    version = ap (λ (u : Turn). u .pool .roster .version) turn ∙ ap (λ (q : Roster). q .version) (run-roster (c .pool) (takesIn c r a))
+    version : next (Event.answer xs number a) c .roster .version
+        ≡ pick (not (isRunning (answers.reported c (takesIn c r a) .pool .job))) (more (answers.enteredBy (takesIn c r a .normal) (c .roster) .version)) (answers.enteredBy (takesIn c r a .normal) (c .roster) .version)
+    version = ap (λ (u : Turn). u .pool .roster .version) turn ∙ ap (λ (q : Roster). q .version) (run-roster c (takesIn c r a))
 
-    same : answers.enteredBy (takesIn c r a .normal) (c .pool .roster) .version ≡ c .pool .roster .version
+    same : answers.enteredBy (takesIn c r a .normal) (c .roster) .version ≡ c .roster .version
     same = entered-same (takesIn c r a .normal) c .1
 
-cut-keeps : (id : ℕ) (c : Client) (r : Run) → InHand c r → eqb (whyNot (Event.linkDown id) c) 0 ≡ true → Versioned (c .pool .roster .version) (Event.linkDown id) c
+cut-keeps : (id : ℕ) (c : Pool) (r : Run) → InHand c r → eqb (whyNot (Event.linkDown id) c) 0 ≡ true → Versioned (c .roster .version) (Event.linkDown id) c
 cut-keeps id c r h z =
     let cuts : cutsOff (Event.linkDown id) c ≡ true = ap (λ (u : Turn). isAccepted (u .answer) && true) (cut-turn c r id (h .job) z) in
     record { lasting = λ l. clash l (cut-lasts c r id (h .job) z); over = λ f k. clash cuts k; carried = λ k. clash cuts k }
 
 -- any other is barred
-other-keeps : (e : Event) (c : Client) (r : Run) → InHand c r → isAnswer e ≡ false → isDown e ≡ false → eqb (whyNot e c) 0 ≡ true → Versioned (c .pool .roster .version) e c
+other-keeps : (e : Event) (c : Pool) (r : Run) → InHand c r → isAnswer e ≡ false → isDown e ≡ false → eqb (whyNot e c) 0 ≡ true → Versioned (c .roster .version) e c
 other-keeps e c r h a d z = clash (law e c .six r (h .job) a d) (none-applies (testsOf e c) (eqb-true (whyNot e c) 0 z) 6 refl)
 
-accepted-keeps : (e : Event) (c : Client) (r : Run) → InHand c r → eqb (whyNot e c) 0 ≡ true → Versioned (c .pool .roster .version) e c
+accepted-keeps : (e : Event) (c : Pool) (r : Run) → InHand c r → eqb (whyNot e c) 0 ≡ true → Versioned (c .roster .version) e c
 accepted-keeps (Event.joinCreate id) c r h z = other-keeps (Event.joinCreate id) c r h refl refl z
 accepted-keeps (Event.joinAssemble id set version) c r h z = other-keeps (Event.joinAssemble id set version) c r h refl refl z
 accepted-keeps (Event.enable id) c r h z = other-keeps (Event.enable id) c r h refl refl z
@@ -137,7 +136,7 @@ accepted-keeps (Event.synced xs member chunk) c r h z = other-keeps (Event.synce
 accepted-keeps (Event.answer xs number a) c r h z = took-keeps xs number a c r h z
 accepted-keeps (Event.extend xs) c r h z = other-keeps (Event.extend xs) c r h refl refl z
 
-event-versioned : (e : Event) (c : Client) (r : Run) → InHand c r → Versioned (c .pool .roster .version) e c
+event-versioned : (e : Event) (c : Pool) (r : Run) → InHand c r → Versioned (c .roster .version) e c
 event-versioned e c r h = by-cases (eqb (whyNot e c) 0) (accepted-keeps e c r h) (refused-keeps e c r h)
 
 -- ---- those that come while it lasts
@@ -148,24 +147,24 @@ running Job.Idle e P f = clash e refl
 running (Job.Running r) e P f = f r refl
 running (Job.Removing m) e P f = clash e refl
 
-all-versioned : (es : List Event) (c : Client) (r : Run) (v : ℕ) → InHand c r → c .pool .roster .version ≡ v → AllVersioned v (during es c) c
+all-versioned : (es : List Event) (c : Pool) (r : Run) (v : ℕ) → InHand c r → c .roster .version ≡ v → AllVersioned v (during es c) c
 all-versioned [] c r v h e = tt
 all-versioned (x ∷ es) c r v h e = (here, at (lastsPast x c) refl (λ r′ h′ e′. all-versioned es (next x c) r′ v h′ e′))
   where
     here : Versioned v x c
     here = subst (λ (n : ℕ). Versioned n x c) e (event-versioned x c r h)
 
-    at : (b : Bool) → lastsPast x c ≡ b → ((r′ : Run) → InHand (next x c) r′ → next x c .pool .roster .version ≡ v → AllVersioned v (during es (next x c)) (next x c))
+    at : (b : Bool) → lastsPast x c ≡ b → ((r′ : Run) → InHand (next x c) r′ → next x c .roster .version ≡ v → AllVersioned v (during es (next x c)) (next x c))
         → AllVersioned v (pick b (during es (next x c)) []) (next x c)
     at true l rec =
-        running (next x c .pool .job) (and-left (isRunning (next x c .pool .job)) (not (cutsOff x c)) l) (AllVersioned v (during es (next x c)) (next x c))
+        running (next x c .job) (and-left (isRunning (next x c .job)) (not (cutsOff x c)) l) (AllVersioned v (during es (next x c)) (next x c))
         (λ r′ j. rec r′ (record { valid = event-keeps x c (h .valid); job = j }) (here .lasting l))
     at false l rec = tt
 
 pub one-version : OneVersion
 one-version c e r b =
     let n = afresh c e r b in (
-      subst (λ (a : Answer). Bears (next e c .pool .roster .version) (awaitedBy a)) (sym (n .accepted))
-          (subst (λ (m : Message). Bears (next e c .pool .roster .version) m) (sym (n .awaited)) (bears-tried (triedIn e c))),
-      λ es. all-versioned es (next e c) r (next e c .pool .roster .version) (begin-hand c e r b) refl,
+      subst (λ (a : Answer). Bears (next e c .roster .version) (awaitedBy a)) (sym (n .accepted))
+          (subst (λ (m : Message). Bears (next e c .roster .version) m) (sym (n .awaited)) (bears-tried (triedIn e c))),
+      λ es. all-versioned es (next e c) r (next e c .roster .version) (begin-hand c e r b) refl,
     )

@@ -24,18 +24,19 @@ use Rattle.extending.specs.Extending.{extend}
 use Rattle.client.specs.declared.Client.{Client}
 use Rattle.client.specs.declared.Out.{Out}
 
--- a fresh client of a pool that is sync or not: no session, no member, version 1, nothing awaited
-abbrev pub fresh : Bool → ℕ → Client
-fresh sync chunks =
+-- a fresh pool, sync or not: no session, no member, version 1, nothing awaited
+abbrev pub freshPool : Bool → ℕ → Pool
+freshPool sync chunks =
     record {
-      pool =
-          record {
-            roster = record { sessions = replicate 16 free; count = 0; version = 1; members = 0; sync = sync; past = noPast };
-            job = Job.Idle;
-            number = 0;
-            chunks = chunks;
-          };
+      roster = record { sessions = replicate 16 free; count = 0; version = 1; members = 0; sync = sync; past = noPast };
+      job = Job.Idle;
+      number = 0;
+      chunks = chunks;
     }
+
+-- a fresh client of such a pool
+abbrev pub fresh : Bool → ℕ → Client
+fresh sync chunks = record { pool = freshPool sync chunks }
 
 -- what an event hands back: the answer, and the next client
 abbrev pub handed : Turn → Out

@@ -20,9 +20,8 @@ use Rattle.exits.specs.Exit.{refused}
 use Rattle.exits.proofs.Laws.{turn-of}
 use Rattle.keeps.specs.Ids.{below}
 use Rattle.enables.specs.Enables.{enables, enableTests, enableRefusal, enableDone, enable}
-use Rattle.client.specs.declared.Client.{Client}
-use Rattle.client.specs.Client.{handed}
-use Rattle.events.specs.Events.{Event, outOf, next, stateOf, turnOf, isAccepted}
+use Rattle.state.specs.declared.Pool.{Pool}
+use Rattle.events.specs.Events.{Event, turnOf, next, stateOf, isAccepted}
 use Rattle.events.specs.Demand2.{Reached}
 use Rattle.events.proofs.Demand2.{reached-valid, rules-kept}
 use Rattle.creation.specs.Creation.{acknowledges, takesOver, empties, InService, NoneEnabled, Seventeen, OnlyThere}
@@ -45,17 +44,17 @@ later-stays false false false true = refl
 later-stays false false false false = refl
 
 -- the client of a pool in service is reached
-pub service-reached : (c : Client) → InService c → Reached c
+pub service-reached : (c : Pool) → InService c → Reached c
 service-reached _ (InService.wrote c e r a) = Reached.then c e r
 service-reached _ (InService.tookOver c e r t) = Reached.then c e r
 service-reached _ (InService.stays c e s x) = Reached.then c e (service-reached c s)
 
 -- an event that acknowledges a write or takes a set over, or comes to a pool with a flag, and empties nothing, leaves a flag
-flag-after : (c : Client) (e : Event) → Reached c → empties e c ≡ false → (inService (pastOf c) || (acknowledges (outOf e c .answer) || takesOver e c)) ≡ true → inService (pastOf (next e c)) ≡ true
+flag-after : (c : Pool) (e : Event) → Reached c → empties e c ≡ false → (inService (pastOf c) || (acknowledges (turnOf e c .answer) || takesOver e c)) ≡ true → inService (pastOf (next e c)) ≡ true
 flag-after c e r x some =
     ap inService (law e c (reached-valid c r) .is)
-    ∙ (ap (λ (b : Bool). inService (later (pastOf c) (acknowledges (outOf e c .answer)) (takesOver e c) b)) x
-    ∙ (later-stays (pastOf c .written) (pastOf c .assembled) (acknowledges (outOf e c .answer)) (takesOver e c) ∙ some))
+    ∙ (ap (λ (b : Bool). inService (later (pastOf c) (acknowledges (turnOf e c .answer)) (takesOver e c) b)) x
+    ∙ (later-stays (pastOf c .written) (pastOf c .assembled) (acknowledges (turnOf e c .answer)) (takesOver e c) ∙ some))
 
 or-right : (a b : Bool) → b ≡ true → (a || b) ≡ true
 or-right true b e = refl
@@ -64,12 +63,12 @@ or-right false b e = e
 or-left : (a b : Bool) → a ≡ true → (a || b) ≡ true
 or-left a b e = rw e refl
 
-pub flagged : (c : Client) → InService c → inService (pastOf c) ≡ true
+pub flagged : (c : Pool) → InService c → inService (pastOf c) ≡ true
 flagged _ (InService.wrote c e r a) =
-    let some = or-left (acknowledges (outOf e c .answer)) (takesOver e c) a in
+    let some = or-left (acknowledges (turnOf e c .answer)) (takesOver e c) a in
     flag-after c e r (law e c (reached-valid c r) .one some) (or-right (inService (pastOf c)) _ some)
 flagged _ (InService.tookOver c e r t) =
-    let some = or-right (acknowledges (outOf e c .answer)) (takesOver e c) t in
+    let some = or-right (acknowledges (turnOf e c .answer)) (takesOver e c) t in
     flag-after c e r (law e c (reached-valid c r) .one some) (or-right (inService (pastOf c)) _ some)
 flagged _ (InService.stays c e s x) = flag-after c e (service-reached c s) x (or-left (inService (pastOf c)) _ (flagged c s))
 
@@ -77,23 +76,23 @@ or-none : (b : Bool) → (b || false) ≡ b
 or-none true = refl
 or-none false = refl
 
-pub in-service : (c : Client) → Reached c → inService (pastOf c) ≡ true → InService c
+pub in-service : (c : Pool) → Reached c → inService (pastOf c) ≡ true → InService c
 in-service _ (Reached.start sync chunks a b) f = clash f refl
 in-service _ (Reached.then c e r) f =
     by-cases (empties e c)
-    (λ x. clash f (ap inService (law e c (reached-valid c r) .is) ∙ (ap (λ (b : Bool). inService (later (pastOf c) (acknowledges (outOf e c .answer)) (takesOver e c) b)) x ∙ later-emptied (pastOf c) (acknowledges (outOf e c .answer)) (takesOver e c))))
-    (λ x. by-cases (acknowledges (outOf e c .answer))
+    (λ x. clash f (ap inService (law e c (reached-valid c r) .is) ∙ (ap (λ (b : Bool). inService (later (pastOf c) (acknowledges (turnOf e c .answer)) (takesOver e c) b)) x ∙ later-emptied (pastOf c) (acknowledges (turnOf e c .answer)) (takesOver e c))))
+    (λ x. by-cases (acknowledges (turnOf e c .answer))
     (λ w. InService.wrote c e r w)
     (λ w. by-cases (takesOver e c)
     (λ t. InService.tookOver c e r t)
     (λ t. InService.stays c e (in-service c r (before x w t)) x)))
   where
-    before : empties e c ≡ false → acknowledges (outOf e c .answer) ≡ false → takesOver e c ≡ false → inService (pastOf c) ≡ true
+    before : empties e c ≡ false → acknowledges (turnOf e c .answer) ≡ false → takesOver e c ≡ false → inService (pastOf c) ≡ true
     before x w t =
         sym (or-none (inService (pastOf c)))
         ∙ (sym (rw (w, t) refl)
-        ∙ (sym (later-stays (pastOf c .written) (pastOf c .assembled) (acknowledges (outOf e c .answer)) (takesOver e c))
-        ∙ (sym (ap inService (law e c (reached-valid c r) .is) ∙ ap (λ (b : Bool). inService (later (pastOf c) (acknowledges (outOf e c .answer)) (takesOver e c) b)) x) ∙ f)))
+        ∙ (sym (later-stays (pastOf c .written) (pastOf c .assembled) (acknowledges (turnOf e c .answer)) (takesOver e c))
+        ∙ (sym (ap inService (law e c (reached-valid c r) .is) ∙ ap (λ (b : Bool). inService (later (pastOf c) (acknowledges (turnOf e c .answer)) (takesOver e c) b)) x) ∙ f)))
 
 -- ---- the theorems
 
@@ -101,8 +100,8 @@ in-service _ (Reached.then c e r) f =
 pub none-enabled : NoneEnabled
 unfolding enable enableRefusal
 none-enabled c s id created =
-    turn-of (λ (t : Turn). (isAccepted (t .answer) ≡ false) × (handed t .client ≡ c)) (enableRefusal (c .pool) id) (enableDone (c .pool) id) (c .pool) (refl, refl)
-    (λ e. clash (rw (created, flagged c s) refl) (none-applies (enableTests (c .pool) id) e 17 refl))
+    turn-of (λ (t : Turn). (isAccepted (t .answer) ≡ false) × (t .pool ≡ c)) (enableRefusal c id) (enableDone c id) c (refl, refl)
+    (λ e. clash (rw (created, flagged c s) refl) (none-applies (enableTests c id) e 17 refl))
 
 created-lives : (st : State) → isCreated st ≡ true → isFree st ≡ false
 created-lives State.Free e = clash refl (sym e)
@@ -116,22 +115,22 @@ pub seventeen : Seventeen
 unfolding enable enableRefusal enables
 seventeen c s plain idle id created =
     let r = service-reached c s in
-    let h = below (λ (s : Session). isCreated (s .state)) (c .pool .roster) id (reached-valid c r .ok .long) refl created in
+    let h = below (λ (s : Session). isCreated (s .state)) (c .roster) id (reached-valid c r .ok .long) refl created in
     let b : ltb 15 id ≡ false = le-ltb 15 id (omega (arith, h)) in
     rw (rules-kept c r, b, plain, idle, created-lives (stateOf c id) created, created, flagged c s) refl
 
 -- the number given
-given : (c : Client) (id n : ℕ) → outOf (Event.enable id) c .answer ≡ Answer.Refused n → enableRefusal (c .pool) id ≡ n
+given : (c : Pool) (id n : ℕ) → turnOf (Event.enable id) c .answer ≡ Answer.Refused n → enableRefusal c id ≡ n
 unfolding enable enableDone
 given c id n =
-    turn-of (λ (t : Turn). t .answer ≡ Answer.Refused n → enableRefusal (c .pool) id ≡ n) (enableRefusal (c .pool) id) (enableDone (c .pool) id) (c .pool)
-    (λ e. let q : enableRefusal (c .pool) id ≡ n = cc e in q)
+    turn-of (λ (t : Turn). t .answer ≡ Answer.Refused n → enableRefusal c id ≡ n) (enableRefusal c id) (enableDone c id) c
+    (λ e. let q : enableRefusal c id ≡ n = cc e in q)
     (λ z e. clash (either (λ (t : Turn). isAccepted (t .answer) ≡ true) (isCreated (stateOf c id)) _ _ refl refl) (ap isAccepted e))
 
 pub only-there : OnlyThere
 unfolding enableRefusal
 only-there c r id e =
     let g = given c id 17 e in
-    let f = first-applies (enableTests (c .pool) id) (λ z. absurd (let y : ⊥ = omega (arith, g, z) in y)) in
-    let a : (isCreated (stateOf c id) && inService (pastOf c)) ≡ true = subst (λ (n : ℕ). applies n (enableTests (c .pool) id) ≡ true) g (f .given) in
+    let f = first-applies (enableTests c id) (λ z. absurd (let y : ⊥ = omega (arith, g, z) in y)) in
+    let a : (isCreated (stateOf c id) && inService (pastOf c)) ≡ true = subst (λ (n : ℕ). applies n (enableTests c id) ≡ true) g (f .given) in
     (in-service c r (and-right (isCreated (stateOf c id)) (inService (pastOf c)) a), and-left (isCreated (stateOf c id)) (inService (pastOf c)) a)

@@ -52,15 +52,14 @@ use Rattle.removal.specs.Removal.{modeOf, due, freedFrom, onward, departed, sta
 use Rattle.removal.specs.Remove.{removeRefusal, removeBegun, gone, remove}
 use Rattle.writes.specs.Writes.{writeRefusal, missStep, missed, loses, marks, writeDone, writeEnded, syncRefusal, syncDone, synced}
 use Rattle.answers.specs.Answers.{answerRefusal, enteredBy, movedOn, answered, answer}
-use Rattle.client.specs.declared.Client.{Client}
 use Rattle.client.specs.Client.{soundFor, extendTurn, removeTurn, writeTurn, answerTurn, syncedTurn, cleanTo}
-use Rattle.events.specs.Events.{Event, Part, answerPart, turnOf, outOf, next, stateOf, isSync, jobOf, partOf, isAccepted}
+use Rattle.events.specs.Events.{Event, Part, answerPart, turnOf, next, stateOf, isSync, jobOf, partOf, isAccepted}
 use Rattle.events.specs.Said.{membersOf, versionOf, notOwed, isGood, isLeave}
 use Rattle.events.proofs.States.{and-true, owes-is, mode-same}
 use Rattle.creation.specs.Creation.{acknowledges, takesOver, takesOne, empties}
 
-abbrev pub pastOf : Client → Past
-pastOf c = c .pool .roster .past
+abbrev pub pastOf : Pool → Past
+pastOf c = c .roster .past
 
 -- ---- the past as three tests make it
 
@@ -141,33 +140,33 @@ started-steps p id =
 
 -- ---- the law
 
-pub record Law (e : Event) (c : Client) : Type 0 where
-  pub is : pastOf (next e c) ≡ later (pastOf c) (acknowledges (outOf e c .answer)) (takesOver e c) (empties e c)
-  pub one : (acknowledges (outOf e c .answer) || takesOver e c) ≡ true → empties e c ≡ false
+pub record Law (e : Event) (c : Pool) : Type 0 where
+  pub is : pastOf (next e c) ≡ later (pastOf c) (acknowledges (turnOf e c .answer)) (takesOver e c) (empties e c)
+  pub one : (acknowledges (turnOf e c .answer) || takesOver e c) ≡ true → empties e c ≡ false
 
 -- an event that does nothing of the kind
-abbrev Calm : Client → Turn → Type 0
+abbrev Calm : Pool → Turn → Type 0
 Calm c t = (acknowledges (t .answer) ≡ false) × (t .pool .roster .past ≡ pastOf c)
 
-calm : (e : Event) (c : Client) → (acknowledges (outOf e c .answer) ≡ false) × (pastOf (next e c) ≡ pastOf c) → takesOver e c ≡ false → takesOne (partOf e c) c ≡ false → Law e c
+calm : (e : Event) (c : Pool) → (acknowledges (turnOf e c .answer) ≡ false) × (pastOf (next e c) ≡ pastOf c) → takesOver e c ≡ false → takesOne (partOf e c) c ≡ false → Law e c
 calm e c q t o =
-    let n : empties e c ≡ false = rw o (and-false (isAccepted (outOf e c .answer))) in
+    let n : empties e c ≡ false = rw o (and-false (isAccepted (turnOf e c .answer))) in
     record { is = q .1 ∙ sym (rw (q .0, t, n) (idle-past (pastOf c))); one = λ a. n }
 
 -- the past after recovery was tried
-tried-calm : (c : Client) (p : Pool) → p .roster .past ≡ pastOf c → triedAfter p p Outcome.Plain Told.Nothing .pool .roster .past ≡ pastOf c
+tried-calm : (c : Pool) (p : Pool) → p .roster .past ≡ pastOf c → triedAfter p p Outcome.Plain Told.Nothing .pool .roster .past ≡ pastOf c
 tried-calm c p e = ap (λ (ro : Roster). ro .past) (tried-roster p) ∙ e
 
-down-calm : (j : Job) (c : Client) (id : ℕ) → Calm c (downAt j (c .pool) id)
-down-calm Job.Idle c id = (refl, dropped-past (c .pool .roster) id)
-down-calm (Job.Running r) c id = (refl, tried-calm c (runEnded (withRoster (c .pool) (dropped (c .pool .roster) id))) (dropped-past (c .pool .roster) id))
+down-calm : (j : Job) (c : Pool) (id : ℕ) → Calm c (downAt j c id)
+down-calm Job.Idle c id = (refl, dropped-past (c .roster) id)
+down-calm (Job.Running r) c id = (refl, tried-calm c (runEnded (withRoster c (dropped (c .roster) id))) (dropped-past (c .roster) id))
 down-calm (Job.Removing m) c id =
-    (refl, halts (λ (q : Pool). q .roster .past ≡ pastOf c) (isPeer (Job.Removing m) id) (withRoster (c .pool) (dropped (c .pool .roster) id)) (dropped-past (c .pool .roster) id) (dropped-past (c .pool .roster) id))
+    (refl, halts (λ (q : Pool). q .roster .past ≡ pastOf c) (isPeer (Job.Removing m) id) (withRoster c (dropped (c .roster) id)) (dropped-past (c .roster) id) (dropped-past (c .roster) id))
 
-check-calm : (c : Client) (id : ℕ) → Calm c (checkDone (c .pool) id)
+check-calm : (c : Pool) (id : ℕ) → Calm c (checkDone c id)
 unfolding checkDone went
 check-calm c id =
-    either (Calm c) (isSync c) _ _ (refl, entered-past (c .pool .roster) id) (refl, tried-calm c (withRoster (c .pool) (went (c .pool .roster) id State.Reconnecting)) refl)
+    either (Calm c) (isSync c) _ _ (refl, entered-past (c .roster) id) (refl, tried-calm c (withRoster c (went (c .roster) id State.Reconnecting)) refl)
 
 run-calm : (n : Next) (w : Who) (p : Pool) → goneOn n (withRoster p (enteredBy w (p .roster))) .pool .roster .past ≡ p .roster .past
 unfolding posted
@@ -178,16 +177,16 @@ run-calm (Next.On r) (Who.One id) p = entered-past (p .roster) id
 
 -- ---- the two events that remember
 
-assemble-law : (id set version : ℕ) (c : Client) → Law (Event.joinAssemble id set version) c
+assemble-law : (id set version : ℕ) (c : Pool) → Law (Event.joinAssemble id set version) c
 unfolding joinAssemble assembleDone assembled went
 assemble-law id set version c =
     record {
       is =
           turn-of (λ (t : Turn). t .pool .roster .past ≡ later (pastOf c) (acknowledges (t .answer)) (isAccepted (t .answer) && eqb (membersOf c) 0) (isAccepted (t .answer) && (false && (not (isSync c) && eqb (t .pool .roster .members) 0))))
-          (assembleRefusal (c .pool) id set version) (assembleDone (c .pool) id set version) (c .pool)
+          (assembleRefusal c id set version) (assembleDone c id set version) c
           (sym (idle-past (pastOf c)))
-          (λ e. ap (λ (ro : Roster). ro .past) (tried-roster (withRoster (c .pool) (assembled (c .pool .roster) id set version))) ∙ sym (rw (or-none (pastOf c .written)) (kept-all (pastTakenOver (pastOf c) (eqb (membersOf c) 0)))));
-      one = λ a. and-false (isAccepted (outOf (Event.joinAssemble id set version) c .answer));
+          (λ e. ap (λ (ro : Roster). ro .past) (tried-roster (withRoster c (assembled (c .roster) id set version))) ∙ sym (rw (or-none (pastOf c .written)) (kept-all (pastTakenOver (pastOf c) (eqb (membersOf c) 0)))));
+      one = λ a. and-false (isAccepted (turnOf (Event.joinAssemble id set version) c .answer));
     }
 
 marked-is : (before after : Pool) (chunk reached : ℕ) → acknowledges (marks before after chunk reached .answer) ≡ not (eqb reached 0)
@@ -198,37 +197,37 @@ marked-pool : (P : Pool → Type 0) (before after : Pool) (chunk reached : ℕ) 
 unfolding marks
 marked-pool P before after chunk reached p = either (λ (t : Turn). P (t .pool)) (eqb reached 0) _ _ p p
 
-write-law : (xs : List ℕ) (chunk reached : ℕ) (c : Client) → Law (Event.write xs chunk reached) c
+write-law : (xs : List ℕ) (chunk reached : ℕ) (c : Pool) → Law (Event.write xs chunk reached) c
 unfolding writeTurn writeEnded writeDone missed
 write-law xs chunk reached c =
     record {
       is =
           turn-of (λ (t : Turn). t .pool .roster .past ≡ later (pastOf c) (acknowledges (t .answer)) false (isAccepted (t .answer) && (false && (not (isSync c) && eqb (t .pool .roster .members) 0))))
-          (writeRefusal (c .pool) (soundFor (c .pool) xs) chunk reached) (writeDone (c .pool) chunk reached) (c .pool)
+          (writeRefusal c (soundFor c xs) chunk reached) (writeDone c chunk reached) c
           (sym (idle-past (pastOf c)))
-          (λ e. past-is ∙ sym (rw (marked-is (c .pool) after chunk reached, and-false (isAccepted (marks (c .pool) after chunk reached .answer)), or-none (pastOf c .assembled)) (kept-all (pastWritten (pastOf c) (not (eqb reached 0))))));
-      one = λ a. and-false (isAccepted (outOf (Event.write xs chunk reached) c .answer));
+          (λ e. past-is ∙ sym (rw (marked-is c after chunk reached, and-false (isAccepted (marks c after chunk reached .answer)), or-none (pastOf c .assembled)) (kept-all (pastWritten (pastOf c) (not (eqb reached 0))))));
+      one = λ a. and-false (isAccepted (turnOf (Event.write xs chunk reached) c .answer));
     }
   where
     after : Pool
-    after = haltedIf (loses (c .pool .job) (c .pool .roster) reached) (withRoster (c .pool) (written (missed (c .pool .roster) reached) (not (eqb reached 0))))
+    after = haltedIf (loses (c .job) (c .roster) reached) (withRoster c (written (missed (c .roster) reached) (not (eqb reached 0))))
 
-    now-is : written (missed (c .pool .roster) reached) (not (eqb reached 0)) .past ≡ pastWritten (pastOf c) (not (eqb reached 0))
-    now-is = ap (λ (p : Past). pastWritten p (not (eqb reached 0))) (missed-past reached 16 0 (c .pool .roster))
+    now-is : written (missed (c .roster) reached) (not (eqb reached 0)) .past ≡ pastWritten (pastOf c) (not (eqb reached 0))
+    now-is = ap (λ (p : Past). pastWritten p (not (eqb reached 0))) (missed-past reached 16 0 (c .roster))
 
-    past-is : marks (c .pool) after chunk reached .pool .roster .past ≡ pastWritten (pastOf c) (not (eqb reached 0))
+    past-is : marks c after chunk reached .pool .roster .past ≡ pastWritten (pastOf c) (not (eqb reached 0))
     past-is =
-        marked-pool (λ (q : Pool). q .roster .past ≡ pastWritten (pastOf c) (not (eqb reached 0))) (c .pool) after chunk reached
-        (halts (λ (q : Pool). q .roster .past ≡ pastWritten (pastOf c) (not (eqb reached 0))) (loses (c .pool .job) (c .pool .roster) reached) (withRoster (c .pool) (written (missed (c .pool .roster) reached) (not (eqb reached 0)))) now-is now-is)
+        marked-pool (λ (q : Pool). q .roster .past ≡ pastWritten (pastOf c) (not (eqb reached 0))) c after chunk reached
+        (halts (λ (q : Pool). q .roster .past ≡ pastWritten (pastOf c) (not (eqb reached 0))) (loses (c .job) (c .roster) reached) (withRoster c (written (missed (c .roster) reached) (not (eqb reached 0)))) now-is now-is)
 
 -- ---- the two that forget
 
 -- what is said of a turn whose event has this part in a removal
-abbrev Forgets : Client → Part → Turn → Type 0
+abbrev Forgets : Pool → Part → Turn → Type 0
 Forgets c s t =
     (acknowledges (t .answer) ≡ false) × (t .pool .roster .past ≡ pastKept (pastOf c) (not (isAccepted (t .answer) && (takesOne s c && (not (isSync c) && eqb (t .pool .roster .members) 0)))))
 
-forgets : (e : Event) (c : Client) → takesOver e c ≡ false → Forgets c (partOf e c) (turnOf e c) → Law e c
+forgets : (e : Event) (c : Pool) → takesOver e c ≡ false → Forgets c (partOf e c) (turnOf e c) → Law e c
 forgets e c t q =
     record {
       is = q .1 ∙ sym (rw (q .0, t) (later-kept (pastOf c) (empties e c)));
@@ -236,7 +235,7 @@ forgets e c t q =
     }
 
 -- a refusal
-refused-forgets : (c : Client) (s : Part) (n : ℕ) → Forgets c s (refused (c .pool) n)
+refused-forgets : (c : Pool) (s : Part) (n : ℕ) → Forgets c s (refused c n)
 refused-forgets c s n = (refl, sym (kept-all (pastOf c)))
 
 owed-out : (n d s b : Bool) → (pick (not n) false (d && s) && b) ≡ ((d && n) && (s && b))
@@ -246,37 +245,37 @@ owed-out true false s b = refl
 owed-out false true s b = refl
 owed-out false false s b = refl
 
-remove-law : (xs : List ℕ) (id : ℕ) (mode : Mode) (c : Client) → Valid (c .pool) → Law (Event.remove xs id mode) c
+remove-law : (xs : List ℕ) (id : ℕ) (mode : Mode) (c : Pool) → Valid c → Law (Event.remove xs id mode) c
 unfolding removeTurn remove
 remove-law xs id mode c v =
     forgets (Event.remove xs id mode) c refl
-    (turn-of (Forgets c (Part.remove id mode)) (removeRefusal (c .pool) (soundFor (c .pool) xs) id mode) (gone (c .pool) (removeBegun (c .pool) id mode)) (c .pool)
-    (refused-forgets c (Part.remove id mode) (removeRefusal (c .pool) (soundFor (c .pool) xs) id mode))
-    (λ e. (refl, done (remove-passed (c .pool) (soundFor (c .pool) xs) id mode e .below))))
+    (turn-of (Forgets c (Part.remove id mode)) (removeRefusal c (soundFor c xs) id mode) (gone c (removeBegun c id mode)) c
+    (refused-forgets c (Part.remove id mode) (removeRefusal c (soundFor c xs) id mode))
+    (λ e. (refl, done (remove-passed c (soundFor c xs) id mode e .below))))
   where
     ro : Roster
-    ro = removing (c .pool .roster) id mode
+    ro = removing (c .roster) id mode
 
     -- nobody is a member afterwards
     none : Bool
-    none = eqb (removeBegun (c .pool) id mode .posted .pool .roster .members) 0
+    none = eqb (removeBegun c id mode .posted .pool .roster .members) 0
 
     here : id < 16 → sessionAt ro id .state ≡ State.Removing mode (owes (stateOf c id))
-    here h = ap (λ (s : Session). s .state) (removing-at (c .pool .roster) id mode (v .ok .long) h)
+    here h = ap (λ (s : Session). s .state) (removing-at (c .roster) id mode (v .ok .long) h)
 
     owed : id < 16 → isOwed (sessionAt ro id .state) ≡ not (notOwed (stateOf c id))
     owed h = ap isOwed (here h) ∙ owes-is (stateOf c id)
 
-    out : id < 16 → isOut (withRoster (c .pool) ro) id ≡ (isDelete mode && not (isSync c))
-    out h = ap (λ (st : State). isDeleting st && not (ro .sync)) (here h) ∙ ap (λ (b : Bool). isDelete mode && not b) (removing-numbers (c .pool .roster) id mode (isSync c) refl .kind)
+    out : id < 16 → isOut (withRoster c ro) id ≡ (isDelete mode && not (isSync c))
+    out h = ap (λ (st : State). isDeleting st && not (ro .sync)) (here h) ∙ ap (λ (b : Bool). isDelete mode && not b) (removing-numbers (c .roster) id mode (isSync c) refl .kind)
 
-    done : id < 16 → removeBegun (c .pool) id mode .posted .pool .roster .past ≡ pastKept (pastOf c) (not (true && (takesOne (Part.remove id mode) c && (not (isSync c) && eqb (removeBegun (c .pool) id mode .posted .pool .roster .members) 0))))
+    done : id < 16 → removeBegun c id mode .posted .pool .roster .past ≡ pastKept (pastOf c) (not (true && (takesOne (Part.remove id mode) c && (not (isSync c) && eqb (removeBegun c id mode .posted .pool .roster .members) 0))))
     done h =
-        started-steps (withRoster (c .pool) ro) id
-        ∙ (ap (λ (x : Bool). pastKept (ro .past) (not (pick x false (isOut (withRoster (c .pool) ro) id) && none))) (owed h)
+        started-steps (withRoster c ro) id
+        ∙ (ap (λ (x : Bool). pastKept (ro .past) (not (pick x false (isOut (withRoster c ro) id) && none))) (owed h)
         ∙ (ap (λ (x : Bool). pastKept (ro .past) (not (pick (not (notOwed (stateOf c id))) false x && none))) (out h)
         ∙ (ap (λ (x : Bool). pastKept (ro .past) (not x)) (owed-out (notOwed (stateOf c id)) (isDelete mode) (not (isSync c)) none)
-        ∙ (ap (λ (q : Past). pastKept q (not ((isDelete mode && notOwed (stateOf c id)) && (not (isSync c) && none)))) (removing-past (c .pool .roster) id mode)
+        ∙ (ap (λ (q : Past). pastKept q (not ((isDelete mode && notOwed (stateOf c id)) && (not (isSync c) && none)))) (removing-past (c .roster) id mode)
         ∙ sym (ap (λ (x : Bool). pastKept (pastOf c) (not ((x && (isDelete mode && notOwed (stateOf c id))) && (not (isSync c) && none)))) (eq-eqb id id refl))))))
 
 leave-out : (d s b : Bool) → ((d && s) && b) ≡ ((d && true) && (s && b))
@@ -287,79 +286,79 @@ paid-past : (p : Pool) (id : ℕ) → paid p id .roster .past ≡ p .roster .pas
 unfolding went
 paid-past p id = refl
 
-answered-forgets : (m : Removal) (c : Client) (a : Reply) → Valid (c .pool) → RemovalOk (c .pool .roster) m → Forgets c (Part.answer m a) (answered (Job.Removing m) (c .pool) a)
+answered-forgets : (m : Removal) (c : Pool) (a : Reply) → Valid c → RemovalOk (c .roster) m → Forgets c (Part.answer m a) (answered (Job.Removing m) c a)
 answered-forgets m c Reply.Failed v k = (refl, sym (rw (and-false (isDeleting (stateOf c (m .id))), and-false (eqb (m .id) (m .id))) (kept-all (pastOf c))))
 answered-forgets m c (Reply.Good b) v k = (refl, at (m .stage))
   where
-    out : isOut (paid (c .pool) (m .id)) (m .id) ≡ (isDeleting (stateOf c (m .id)) && not (isSync c))
+    out : isOut (paid c (m .id)) (m .id) ≡ (isDeleting (stateOf c (m .id)) && not (isSync c))
     out =
-        ap (λ (st : State). isDeleting st && not (paid (c .pool) (m .id) .roster .sync)) (ap (λ (s : Session). s .state) (paid-at (c .pool) (m .id) (v .ok .long) (k .below)))
-        ∙ (ap (λ (b : Bool). isDelete (modeOf (stateOf c (m .id))) && not b) (paid-numbers (c .pool) (m .id) .kind) ∙ ap (λ (b : Bool). b && not (isSync c)) (mode-same (stateOf c (m .id))))
+        ap (λ (st : State). isDeleting st && not (paid c (m .id) .roster .sync)) (ap (λ (s : Session). s .state) (paid-at c (m .id) (v .ok .long) (k .below)))
+        ∙ (ap (λ (b : Bool). isDelete (modeOf (stateOf c (m .id))) && not b) (paid-numbers c (m .id) .kind) ∙ ap (λ (b : Bool). b && not (isSync c)) (mode-same (stateOf c (m .id))))
 
     -- nobody is a member after LEAVE_POOL
     none : Bool
-    none = eqb (departed (paid (c .pool) (m .id)) (m .id) .posted .pool .roster .members) 0
+    none = eqb (departed (paid c (m .id)) (m .id) .posted .pool .roster .members) 0
 
-    at : (st : Stage) → wellAnswered st (c .pool) (m .id) .posted .pool .roster .past
-        ≡ pastKept (pastOf c) (not (true && ((eqb (m .id) (m .id) && (isDeleting (stateOf c (m .id)) && (true && isLeave st))) && (not (isSync c) && eqb (wellAnswered st (c .pool) (m .id) .posted .pool .roster .members) 0))))
+    at : (st : Stage) → wellAnswered st c (m .id) .posted .pool .roster .past
+        ≡ pastKept (pastOf c) (not (true && ((eqb (m .id) (m .id) && (isDeleting (stateOf c (m .id)) && (true && isLeave st))) && (not (isSync c) && eqb (wellAnswered st c (m .id) .posted .pool .roster .members) 0))))
     at Stage.Leave =
-        departed-steps (paid (c .pool) (m .id)) (m .id)
-        ∙ (ap (λ (x : Bool). pastKept (paid (c .pool) (m .id) .roster .past) (not (x && none))) out
-        ∙ (ap (λ (x : Bool). pastKept (paid (c .pool) (m .id) .roster .past) (not x)) (leave-out (isDeleting (stateOf c (m .id))) (not (isSync c)) none)
-        ∙ (ap (λ (q : Past). pastKept q (not ((isDeleting (stateOf c (m .id)) && true) && (not (isSync c) && none)))) (paid-past (c .pool) (m .id))
+        departed-steps (paid c (m .id)) (m .id)
+        ∙ (ap (λ (x : Bool). pastKept (paid c (m .id) .roster .past) (not (x && none))) out
+        ∙ (ap (λ (x : Bool). pastKept (paid c (m .id) .roster .past) (not x)) (leave-out (isDeleting (stateOf c (m .id))) (not (isSync c)) none)
+        ∙ (ap (λ (q : Past). pastKept q (not ((isDeleting (stateOf c (m .id)) && true) && (not (isSync c) && none)))) (paid-past c (m .id))
         ∙ sym (ap (λ (x : Bool). pastKept (pastOf c) (not ((x && (isDeleting (stateOf c (m .id)) && true)) && (not (isSync c) && none)))) (eq-eqb (m .id) (m .id) refl)))))
     at (Stage.Info peer) =
-        onward-past (c .pool) (m .id) (Stage.Info peer) Effect.Keep
+        onward-past c (m .id) (Stage.Info peer) Effect.Keep
         ∙ sym (rw (and-false (isDeleting (stateOf c (m .id))), and-false (eqb (m .id) (m .id))) (kept-all (pastOf c)))
 
-answer-law : (xs : List ℕ) (number : ℕ) (a : Reply) (c : Client) → Valid (c .pool) → Law (Event.answer xs number a) c
+answer-law : (xs : List ℕ) (number : ℕ) (a : Reply) (c : Pool) → Valid c → Law (Event.answer xs number a) c
 unfolding answerTurn answer movedOn
 answer-law xs number a c v =
     forgets (Event.answer xs number a) c refl
-    (turn-of (Forgets c (answerPart (jobOf c) a)) (answerRefusal (c .pool) (soundFor (c .pool) xs) number) (answered (c .pool .job) (c .pool) a) (c .pool)
-    (refused-forgets c (answerPart (jobOf c) a) (answerRefusal (c .pool) (soundFor (c .pool) xs) number))
+    (turn-of (Forgets c (answerPart (jobOf c) a)) (answerRefusal c (soundFor c xs) number) (answered (c .job) c a) c
+    (refused-forgets c (answerPart (jobOf c) a) (answerRefusal c (soundFor c xs) number))
     (λ e. at (jobOf c) refl))
   where
-    at : (k : Job) → jobOf c ≡ k → Forgets c (answerPart k a) (answered k (c .pool) a)
+    at : (k : Job) → jobOf c ≡ k → Forgets c (answerPart k a) (answered k c a)
     at Job.Idle j = refused-forgets c Part.none 13
-    at (Job.Running r) j = let m = takes (membersOf c) (versionOf c) r a in (refl, run-calm (m .next) (m .normal) (c .pool) ∙ sym (kept-all (pastOf c)))
-    at (Job.Removing m) j = answered-forgets m c a v (removal-facts (c .pool .roster) m (v .ok .long) (rw j at (v .job)))
+    at (Job.Running r) j = let m = takes (membersOf c) (versionOf c) r a in (refl, run-calm (m .next) (m .normal) c ∙ sym (kept-all (pastOf c)))
+    at (Job.Removing m) j = answered-forgets m c a v (removal-facts (c .roster) m (v .ok .long) (rw j at (v .job)))
 
 -- ---- every event
 
-pub law : (e : Event) (c : Client) → Valid (c .pool) → Law e c
+pub law : (e : Event) (c : Pool) → Valid c → Law e c
 unfolding joinCreate createDone created enable enableDone maintenance maintenanceDone linkDown downDone storeCheck checkDone rejoin tryRun synced syncDone syncedTurn extendTurn extend extendDone extended went
 law (Event.joinCreate id) c v =
     calm (Event.joinCreate id) c
-    (turn-of (Calm c) (createRefusal (c .pool) id) (createDone (c .pool) id) (c .pool) (refl, refl) (λ e. (refl, either (λ (ro : Roster). ro .past ≡ pastOf c) (isSync c) _ _ refl refl)))
+    (turn-of (Calm c) (createRefusal c id) (createDone c id) c (refl, refl) (λ e. (refl, either (λ (ro : Roster). ro .past ≡ pastOf c) (isSync c) _ _ refl refl)))
     refl refl
 law (Event.joinAssemble id set version) c v = assemble-law id set version c
 law (Event.enable id) c v =
     calm (Event.enable id) c
-    (turn-of (Calm c) (enableRefusal (c .pool) id) (enableDone (c .pool) id) (c .pool) (refl, refl)
-    (λ e. either (Calm c) (isCreated (stateOf c id)) _ _ (refl, entered-past (c .pool .roster) id) (refl, tried-calm c (withRoster (c .pool) (flaggedAt (c .pool .roster) id false)) refl)))
+    (turn-of (Calm c) (enableRefusal c id) (enableDone c id) c (refl, refl)
+    (λ e. either (Calm c) (isCreated (stateOf c id)) _ _ (refl, entered-past (c .roster) id) (refl, tried-calm c (withRoster c (flaggedAt (c .roster) id false)) refl)))
     refl refl
 law (Event.maintenance id) c v =
     calm (Event.maintenance id) c
-    (turn-of (Calm c) (maintenanceRefusal (c .pool) id) (maintenanceDone (c .pool) id) (c .pool) (refl, refl) (λ e. (refl, left-past (c .pool .roster) id Way.Maintenance)))
+    (turn-of (Calm c) (maintenanceRefusal c id) (maintenanceDone c id) c (refl, refl) (λ e. (refl, left-past (c .roster) id Way.Maintenance)))
     refl refl
 law (Event.linkDown id) c v =
-    calm (Event.linkDown id) c (turn-of (Calm c) (downRefusal (c .pool) id) (downDone (c .pool) id) (c .pool) (refl, refl) (λ e. down-calm (jobOf c) c id)) refl refl
+    calm (Event.linkDown id) c (turn-of (Calm c) (downRefusal c id) (downDone c id) c (refl, refl) (λ e. down-calm (jobOf c) c id)) refl refl
 law (Event.storeCheck id) c v =
-    calm (Event.storeCheck id) c (turn-of (Calm c) (checkRefusal (c .pool) id) (checkDone (c .pool) id) (c .pool) (refl, refl) (λ e. check-calm c id)) refl refl
+    calm (Event.storeCheck id) c (turn-of (Calm c) (checkRefusal c id) (checkDone c id) c (refl, refl) (λ e. check-calm c id)) refl refl
 law (Event.rejoin id) c v =
-    calm (Event.rejoin id) c (turn-of (Calm c) (rejoinRefusal (c .pool) id) (checkDone (c .pool) id) (c .pool) (refl, refl) (λ e. check-calm c id)) refl refl
+    calm (Event.rejoin id) c (turn-of (Calm c) (rejoinRefusal c id) (checkDone c id) c (refl, refl) (λ e. check-calm c id)) refl refl
 law Event.tryRun c v =
-    calm Event.tryRun c (turn-of (Calm c) (tryRefusal (c .pool)) (triedAfter (c .pool) (c .pool) Outcome.Plain Told.Nothing) (c .pool) (refl, refl) (λ e. (refl, tried-calm c (c .pool) refl))) refl refl
+    calm Event.tryRun c (turn-of (Calm c) (tryRefusal c) (triedAfter c c Outcome.Plain Told.Nothing) c (refl, refl) (λ e. (refl, tried-calm c c refl))) refl refl
 law (Event.remove xs id mode) c v = remove-law xs id mode c v
 law (Event.write xs chunk reached) c v = write-law xs chunk reached c
 law (Event.synced xs member chunk) c v =
     calm (Event.synced xs member chunk) c
-    (turn-of (Calm c) (syncRefusal (c .pool) (soundFor (c .pool) xs) member chunk (cleanTo xs chunk 16)) (syncDone (c .pool) member chunk) (c .pool) (refl, refl) (λ e. (refl, refl)))
+    (turn-of (Calm c) (syncRefusal c (soundFor c xs) member chunk (cleanTo xs chunk 16)) (syncDone c member chunk) c (refl, refl) (λ e. (refl, refl)))
     refl refl
 law (Event.answer xs number a) c v = answer-law xs number a c v
 law (Event.extend xs) c v =
     calm (Event.extend xs) c
-    (turn-of (Calm c) (extendRefusal (c .pool) (soundFor (c .pool) xs)) (extendDone (c .pool) (extending.picked (c .pool .roster))) (c .pool) (refl, refl)
-    (λ e. (refl, tried-calm c (withRoster (c .pool) (extended (c .pool .roster) (extending.picked (c .pool .roster)))) refl)))
+    (turn-of (Calm c) (extendRefusal c (soundFor c xs)) (extendDone c (extending.picked (c .roster))) c (refl, refl)
+    (λ e. (refl, tried-calm c (withRoster c (extended (c .roster) (extending.picked (c .roster)))) refl)))
     refl refl

@@ -26,29 +26,29 @@ use Rattle.writes.specs.Writes.{reachBars, writeRefusal, missStep, missed, mark
 use Rattle.removal.specs.Removal.{due, freedFrom, onward, departed, started}
 use Rattle.removal.specs.Remove.{removeRefusal, remove}
 use Rattle.answers.specs.Answers.{answerRefusal, movedOn, answer}
-use Rattle.client.specs.declared.Client.{Client}
-use Rattle.client.specs.Client.{fresh, removeTurn, writeTurn, answerTurn}
-use Rattle.events.specs.Events.{Event, outOf, next, isAccepted}
+use Rattle.state.specs.declared.Pool.{Pool}
+use Rattle.client.specs.Client.{freshPool, removeTurn, writeTurn, answerTurn}
+use Rattle.events.specs.Events.{Event, turnOf, next, isAccepted}
 
-abbrev after : List Event → Client → Client
+abbrev after : List Event → Pool → Pool
 after [] c = c
 after (e ∷ es) c = after es (next e c)
 
-abbrev accepted : List Event → Client → Bool
+abbrev accepted : List Event → Pool → Bool
 accepted [] c = true
-accepted (e ∷ es) c = isAccepted (outOf e c .answer) && accepted es (next e c)
+accepted (e ∷ es) c = isAccepted (turnOf e c .answer) && accepted es (next e c)
 
 abbrev zeros : List ℕ
 zeros = replicate 8192 0
 
-abbrev pool : Client
-pool = fresh false 4096
+abbrev pool : Pool
+pool = freshPool false 4096
 
 abbrev good : ℕ → Event
 good number = Event.answer zeros number (Reply.Good Brought.Nothing)
 
 abbrev normals : List Event → ℕ
-normals es = idsOf Kind.Normals (after es pool .pool .roster)
+normals es = idsOf Kind.Normals (after es pool .roster)
 
 -- legs A (0) and B (1) are created, A is enabled and takes a write
 abbrev wrote : List Event
@@ -70,11 +70,11 @@ deleted = Event.joinCreate 0 ∷ Event.enable 0 ∷ Event.write zeros 7 1 ∷ Ev
 -- member clears.
 worked :
     (accepted wrote pool ≡ true)
-    × (outOf (Event.enable 1) (after wrote pool) .answer ≡ Answer.Refused 17)
+    × (turnOf (Event.enable 1) (after wrote pool) .answer ≡ Answer.Refused 17)
     × (accepted recovered pool ≡ true)
     × (normals recovered ≡ 3)
     × (accepted disassembled pool ≡ true)
-    × (outOf (Event.enable 0) (after disassembled pool) .answer ≡ Answer.Refused 17)
+    × (turnOf (Event.enable 0) (after disassembled pool) .answer ≡ Answer.Refused 17)
     × (accepted deleted pool ≡ true)
     × (normals deleted ≡ 1)
 unfolding bit has with without size lowest sound cleanFrom spare room idsOf entered left failed went removing run.receiver run.failedAnswer run.good run.awaitedIn possible cases.caseOf cases.begun posted tried rosterOk allAsked oneAsked runOk validPool joinTold createRefusal created createDone joinCreate setBars assembleRefusal assembled assembleDone joinAssemble enables enableRefusal enableDone enable drops downRefusal dropped downDone linkDown checks checkRefusal checkDone storeCheck reachBars writeRefusal missStep missed marks writeDone writeEnded due freedFrom onward departed started removeRefusal remove answerRefusal movedOn answer removeTurn writeTurn answerTurn

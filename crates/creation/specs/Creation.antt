@@ -7,8 +7,8 @@ use Rattle.state.specs.declared.Job.{Job}
 use Rattle.state.specs.declared.Outcome.{Outcome}
 use Rattle.state.specs.declared.Answer.{Answer}
 use Rattle.state.specs.Session.{isCreated}
-use Rattle.client.specs.declared.Client.{Client}
-use Rattle.events.specs.Events.{Event, Part, outOf, next, stateOf, isSync, jobOf, partOf, isAccepted}
+use Rattle.state.specs.declared.Pool.{Pool}
+use Rattle.events.specs.Events.{Event, Part, turnOf, next, stateOf, isSync, jobOf, partOf, isAccepted}
 use Rattle.events.specs.Demand2.{Reached}
 use Rattle.events.specs.Said.{membersOf, takesOut}
 
@@ -26,9 +26,9 @@ acknowledges (Answer.Refused n) = false
 acknowledges (Answer.Done s) = isAcknowledged (s .outcome)
 
 -- a node's member set is taken over: a join assemble is accepted, and the membership was empty
-abbrev pub takesOver : Event → Client → Bool
+abbrev pub takesOver : Event → Pool → Bool
 takesOver (Event.joinCreate id) c = false
-takesOver (Event.joinAssemble id set version) c = isAccepted (outOf (Event.joinAssemble id set version) c .answer) && eqb (membersOf c) 0
+takesOver (Event.joinAssemble id set version) c = isAccepted (turnOf (Event.joinAssemble id set version) c .answer) && eqb (membersOf c) 0
 takesOver (Event.enable id) c = false
 takesOver (Event.maintenance id) c = false
 takesOver (Event.linkDown id) c = false
@@ -42,33 +42,33 @@ takesOver (Event.answer xs number a) c = false
 takesOver (Event.extend xs) c = false
 
 -- a delete takes out a member's entry, be it there or not; a sync pool has none
-abbrev pub takesOne : Part → Client → Bool
+abbrev pub takesOne : Part → Pool → Bool
 takesOne Part.none c = false
 takesOne (Part.remove id mode) c = takesOut (Part.remove id mode) c id
 takesOne (Part.answer m a) c = takesOut (Part.answer m a) c (m .id)
 
 -- a delete emptied the membership
-abbrev pub empties : Event → Client → Bool
-empties e c = isAccepted (outOf e c .answer) && (takesOne (partOf e c) c && (not (isSync c) && eqb (membersOf (next e c)) 0))
+abbrev pub empties : Event → Pool → Bool
+empties e c = isAccepted (turnOf e c .answer) && (takesOne (partOf e c) c && (not (isSync c) && eqb (membersOf (next e c)) 0))
 
 -- A pool in service: reached from a fresh one, a write was acknowledged in it or a set taken over, and no delete emptied the membership since.
-pub data InService : Client → Type 0 where
-  wrote : (c : Client) (e : Event) → Reached c → acknowledges (outOf e c .answer) ≡ true → InService (next e c)
-  tookOver : (c : Client) (e : Event) → Reached c → takesOver e c ≡ true → InService (next e c)
-  stays : (c : Client) (e : Event) → InService c → empties e c ≡ false → InService (next e c)
+pub data InService : Pool → Type 0 where
+  wrote : (c : Pool) (e : Event) → Reached c → acknowledges (turnOf e c .answer) ≡ true → InService (next e c)
+  tookOver : (c : Pool) (e : Event) → Reached c → takesOver e c ≡ true → InService (next e c)
+  stays : (c : Pool) (e : Event) → InService c → empties e c ≡ false → InService (next e c)
 
 -- ---- the theorems
 
 -- There no enable is accepted of a CREATED session: it does not become NORMAL, and nothing changes. Refused: a write that does not set the flag, one that a disassemble or a
 -- join clears; an enable that looks at one of the two alone.
 abbrev pub NoneEnabled : Type 0
-NoneEnabled = (c : Client) → InService c → (id : ℕ) → isCreated (stateOf c id) ≡ true → (isAccepted (outOf (Event.enable id) c .answer) ≡ false) × (next (Event.enable id) c ≡ c)
+NoneEnabled = (c : Pool) → InService c → (id : ℕ) → isCreated (stateOf c id) ≡ true → (isAccepted (turnOf (Event.enable id) c .answer) ≡ false) × (next (Event.enable id) c ≡ c)
 
 -- The number is 17, unless 5 or 6 comes before it: in a pool that is not sync, with no job in hand.
 abbrev pub Seventeen : Type 0
-Seventeen = (c : Client) → InService c → isSync c ≡ false → jobOf c ≡ Job.Idle → (id : ℕ) → isCreated (stateOf c id) ≡ true → outOf (Event.enable id) c .answer ≡ Answer.Refused 17
+Seventeen = (c : Pool) → InService c → isSync c ≡ false → jobOf c ≡ Job.Idle → (id : ℕ) → isCreated (stateOf c id) ≡ true → turnOf (Event.enable id) c .answer ≡ Answer.Refused 17
 
 -- And it is given to nobody else: in a pool that is not in service, or at the end of maintenance, never. Refused: a flag that outlasts the last member; 17 given to a session in
 -- maintenance.
 abbrev pub OnlyThere : Type 0
-OnlyThere = (c : Client) → Reached c → (id : ℕ) → outOf (Event.enable id) c .answer ≡ Answer.Refused 17 → InService c × (isCreated (stateOf c id) ≡ true)
+OnlyThere = (c : Pool) → Reached c → (id : ℕ) → turnOf (Event.enable id) c .answer ≡ Answer.Refused 17 → InService c × (isCreated (stateOf c id) ≡ true)

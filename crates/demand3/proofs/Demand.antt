@@ -21,7 +21,6 @@ use Rattle.exits.specs.Exit.{numberOf}
 use Rattle.keeps.specs.Ids.{ids-has}
 use Rattle.keeps.specs.Pools.{Valid, valid-of}
 use Rattle.keeps.specs.Runs.{strays-none}
-use Rattle.client.specs.declared.Client.{Client}
 use Rattle.events.specs.Events.{Event, next}
 use Rattle.events.specs.Demand2.{Reached}
 use Rattle.events.proofs.Demand2.{reached-valid, sound-stays}
@@ -39,12 +38,12 @@ use Rattle.demand3.specs.Demand.{Leaves, normals, candidates, authoritat
 -- ---- the run that the world begins with
 
 -- the pool in which recovery was tried keeps the state rules
-tried-valid : (c : Client) (e : Event) → Reached c → Valid (triedIn e c)
+tried-valid : (c : Pool) (e : Event) → Reached c → Valid (triedIn e c)
 tried-valid c e q =
     let v = reached-valid c q in
     record { some = v .some; most = v .most; ok = reached-valid (next e c) (Reached.then c e q) .ok; job = refl }
 
-begins : (c : Client) (e : Event) (r : Run) → bounds.Begins c e r → (w : World) → Leaves e c w → honest.Begins (triedIn e c) w
+begins : (c : Pool) (e : Event) (r : Run) → bounds.Begins c e r → (w : World) → Leaves e c w → honest.Begins (triedIn e c) w
 begins c e r b w l =
     record {
       array = tried-valid c e (b .reached) .ok .long;
@@ -63,10 +62,10 @@ begins c e r b w l =
     same : w .sent ≡ n .sent
     same = let z : Answer.Done (w .sent) ≡ Answer.Done (n .sent) = sym (l .sent) ∙ n .accepted in cc z
 
-    numbers : numberOf (n .sent .awaited) (next e c .pool .number) ≡ numberOf (tried (triedIn e c) .awaited) (tried (triedIn e c) .pool .number)
+    numbers : numberOf (n .sent .awaited) (next e c .number) ≡ numberOf (tried (triedIn e c) .awaited) (tried (triedIn e c) .pool .number)
     numbers = rw (n .awaited) (ap (λ (p : Pool). numberOf (tried (triedIn e c) .awaited) (p .number)) (n .pool))
 
-    chunks : w .pool .chunks ≡ c .pool .chunks
+    chunks : w .pool .chunks ≡ c .chunks
     chunks = ap (λ (p : Pool). p .chunks) (l .pool) ∙ sound-stays c (b .reached) e .0
 
 -- ---- the three cases

@@ -12,7 +12,7 @@ use Rattle.state.specs.declared.Told.{Told}
 use Rattle.state.specs.declared.Answer.{Answer}
 use Rattle.state.specs.declared.Turn.{Turn}
 use Rattle.rules.specs.Jobs.{isRunning}
-use Rattle.client.specs.declared.Client.{Client}
+use Rattle.state.specs.declared.Pool.{Pool}
 use Rattle.events.specs.Events.{turnOf, isAccepted}
 use Rattle.events.proofs.Demand2.{sound-stays}
 use Rattle.bounds.specs.Demand3.{New}
@@ -91,7 +91,7 @@ version-stays v = afterward-keeps (λ j s. s .node .version ≤ v) (λ j s p. rw
 
 pub heard-leaves : HeardLeaves
 heard-leaves w e r b snd = (
-  record { pool = refl; sent = rw (n .accepted) refl; map = rw (effect, sound-stays (of w) (b .reached) e .0) (left-sound (w .pool .chunks) (t .effect) (w .map) (t .fits) snd) },
+  record { pool = refl; sent = rw (n .accepted) refl; map = rw (effect, sound-stays (w .pool) (b .reached) e .0) (left-sound (w .pool .chunks) (t .effect) (w .map) (t .fits) snd) },
   λ h. record {
     source = λ k. able-stays _ a (w .nodes) _ (h .source k);
     others = λ j q. able-stays _ a (w .nodes) j (h .others j q);
@@ -100,17 +100,14 @@ heard-leaves w e r b snd = (
   },
 )
   where
-    of : World → Client
-    of x = record { pool = x .pool }
-
     a : Answer
-    a = turnOf e (of w) .answer
+    a = turnOf e (w .pool) .answer
 
-    n : New (of w) e r
-    n = afresh (of w) e r b
+    n : New (w .pool) e r
+    n = afresh (w .pool) e r b
 
-    t : ByTrial (w .pool) (turnOf e (of w))
-    t = law e (of w) .tries (n .event) (ap isAccepted (n .accepted)) (ap isRunning (b .run))
+    t : ByTrial (w .pool) (turnOf e (w .pool))
+    t = law e (w .pool) .tries (n .event) (ap isAccepted (n .accepted)) (ap isRunning (b .run))
 
-    effect : turnOf e (of w) .effect ≡ t .effect
+    effect : turnOf e (w .pool) .effect ≡ t .effect
     effect = ap (λ (u : Turn). u .effect) (t .turn)

@@ -34,9 +34,8 @@ use Rattle.joins.specs.Joins.{joinTold, createRefusal, created, createDone, joi
 use Rattle.enables.specs.Enables.{enables, enableRefusal, enableDone, enable}
 use Rattle.links.specs.Links.{drops, downRefusal, dropped, downDone, linkDown, checks, checkRefusal, checkDone, storeCheck}
 use Rattle.answers.specs.Answers.{answerRefusal, movedOn, answer}
-use Rattle.client.specs.declared.Client.{Client}
-use Rattle.client.specs.Client.{fresh, answerTurn}
-use Rattle.events.specs.Events.{Event, outOf, next, isAccepted}
+use Rattle.client.specs.Client.{freshPool, answerTurn}
+use Rattle.events.specs.Events.{Event, turnOf, next, isAccepted}
 use Rattle.events.specs.Demand2.{Reached}
 use Rattle.bounds.specs.Demand3.{through, Begins, triedIn}
 use Rattle.bounds.proofs.Instance.{reached-through}
@@ -49,25 +48,25 @@ use Rattle.demand3.proofs.Demand.{demand-3}
 -- ---- what all have in common
 
 -- a pool of twelve chunks after events
-abbrev after : List Event → Client
-after es = through es (fresh false 12)
+abbrev after : List Event → Pool
+after es = through es (freshPool false 12)
 
 reached : (es : List Event) → Reached (after es)
-reached es = reached-through es (fresh false 12) (Reached.start false 12 (omega arith) (omega arith))
+reached es = reached-through es (freshPool false 12) (Reached.start false 12 (omega arith) (omega arith))
 
 -- the world that an event leaves, with these nodes
 abbrev silent : Sent
 silent = record { outcome = Outcome.Plain; told = Told.Nothing; awaited = Message.Nothing; number = 0 }
 
-abbrev world : Event → Client → World
-world e c = record { pool = next e c .pool; map = bytes; sent = lastSent (outOf e c .answer) silent; nodes = station; cuts = cuts }
+abbrev world : Event → Pool → World
+world e c = record { pool = next e c; map = bytes; sent = lastSent (turnOf e c .answer) silent; nodes = station; cuts = cuts }
 
 sends : (a : Answer) → isAccepted a ≡ true → a ≡ Answer.Done (lastSent a silent)
 sends (Answer.Refused n) q = clash q refl
 sends (Answer.Done s) q = refl
 
-leaves : (e : Event) (c : Client) → isAccepted (outOf e c .answer) ≡ true → next e c .pool .chunks ≡ 12 → Leaves e c (world e c)
-leaves e c q k = record { pool = refl; sent = sends (outOf e c .answer) q; map = rw k sound-bytes }
+leaves : (e : Event) (c : Pool) → isAccepted (turnOf e c .answer) ≡ true → next e c .chunks ≡ 12 → Leaves e c (world e c)
+leaves e c q k = record { pool = refl; sent = sends (turnOf e c .answer) q; map = rw k sound-bytes }
 
 -- which case it is
 first-case : (p : Pool) (n : ℕ) (w : World) → normals p ≢ 0 → Exact p n w → Case1 p (lowest (normals p)) (candidates p) n w

@@ -12,8 +12,7 @@ use Rattle.state.specs.declared.Pool.{Pool}
 use Rattle.state.specs.declared.Answer.{Answer}
 use Rattle.roster.specs.declared.Kind.{Kind}
 use Rattle.roster.specs.Roster.{idsOf}
-use Rattle.client.specs.declared.Client.{Client}
-use Rattle.events.specs.Events.{Event, turnOf, outOf, next}
+use Rattle.events.specs.Events.{Event, turnOf, next}
 use Rattle.bounds.specs.Demand3.{during, most, Begins, triedIn, Bounded}
 use Rattle.node.specs.Cuts.{Cuts}
 use Rattle.world.specs.World.{World, heard}
@@ -24,9 +23,9 @@ use Rattle.honest.specs.Demand.{Able, Case1, Case2, Case3}
 -- What the accepted event e at the client c leaves: the client's state, what it handed back, and a sound client map. The nodes are meant as they are when its awaited
 -- message, the first of the run, is delivered: that is the first exchange. What it sends without awaiting it does not matter (POOL_INFO of a join assemble changes no
 -- node) or has been delivered (MAP_DISABLE of a link down, sent before).
-pub record Leaves (e : Event) (c : Client) (w : World) : Type 0 where
-  pub pool : w .pool ≡ next e c .pool
-  pub sent : outOf e c .answer ≡ Answer.Done (w .sent)
+pub record Leaves (e : Event) (c : Pool) (w : World) : Type 0 where
+  pub pool : w .pool ≡ next e c
+  pub sent : turnOf e c .answer ≡ Answer.Done (w .sent)
   pub map : sound (w .pool .chunks) (w .map) ≡ true
 
 -- ---- honest nodes
@@ -53,9 +52,9 @@ pub record HonestNodes (p : Pool) (w : World) : Type 0 where
 -- The client of the world w hears an event that begins a run, as in an exchange it hears an answer: the world afterwards, MAP_DISABLE delivered, is one that the event
 -- leaves, and honest nodes are honest in it.
 abbrev pub HeardLeaves : Type 0
-HeardLeaves = (w : World) (e : Event) (r : Run) → Begins (record { pool = w .pool }) e r → sound (w .pool .chunks) (w .map) ≡ true
-    → Leaves e (record { pool = w .pool }) (heard w (w .nodes) (turnOf e (record { pool = w .pool })))
-    × (HonestNodes (triedIn e (record { pool = w .pool })) w → HonestNodes (triedIn e (record { pool = w .pool })) (heard w (w .nodes) (turnOf e (record { pool = w .pool }))))
+HeardLeaves = (w : World) (e : Event) (r : Run) → Begins (w .pool) e r → sound (w .pool .chunks) (w .map) ≡ true
+    → Leaves e (w .pool) (heard w (w .nodes) (turnOf e (w .pool)))
+    × (HonestNodes (triedIn e (w .pool)) w → HonestNodes (triedIn e (w .pool)) (heard w (w .nodes) (turnOf e (w .pool))))
 
 -- With them the run takes exactly n answers and comes to what its case says (crate honest). Case 1: 3R. Case 2: 3R + 1. Case 3: 11K - 8.
 pub data Exact (p : Pool) (n : ℕ) (w : World) : Type 0 where
@@ -75,13 +74,13 @@ pub data Exact (p : Pool) (n : ℕ) (w : World) : Type 0 where
 -- ---- the demand
 
 -- what is said of a run that the event e at the client c began
-pub record Recovers (c : Client) (e : Event) : Type 0 where
+pub record Recovers (c : Pool) (e : Event) : Type 0 where
   -- It is over after at most 3R, 3R + 1 or 11K - 8 awaited answers (`most`), whatever they say and whatever comes between.
-  pub at-most : (es : List Event) → Bounded (during es (next e c)) (next e c) (most (next e c .pool .roster))
+  pub at-most : (es : List Event) → Bounded (during es (next e c)) (next e c) (most (next e c .roster))
   -- With honest nodes the count is exact, all end NORMAL on both sides, and each receiver's map equals the source's for every member and is zero elsewhere.
-  pub exact : (w : World) → Leaves e c w → HonestNodes (triedIn e c) w → Exact (triedIn e c) (most (next e c .pool .roster)) w
+  pub exact : (w : World) → Leaves e c w → HonestNodes (triedIn e c) w → Exact (triedIn e c) (most (next e c .roster)) w
 
 -- From any state reached from a fresh pool: c is reached, and after e, any event with any data, a run is in hand that was not before, or that began after a link down
 -- ended one (`Begins`). Every run in hand at a reached client began so (bounds: `EveryRun`).
 abbrev pub Demand3 : Type 0
-Demand3 = (c : Client) (e : Event) (r : Run) → Begins c e r → Recovers c e
+Demand3 = (c : Pool) (e : Event) (r : Run) → Begins c e r → Recovers c e

@@ -38,9 +38,9 @@ use Rattle.keeps.specs.Pools.{Valid, valid-of}
 use Rattle.joins.specs.Joins.{createRefusal, joinCreate}
 use Rattle.extending.specs.Extending.{picked, extendRefusal, extended, extendTold, extendDone, extend}
 use Rattle.extending.proofs.Kept.{Extends, Picks, extend-passed, picks, extended-at, extended-numbers}
-use Rattle.client.specs.declared.Client.{Client}
+use Rattle.state.specs.declared.Pool.{Pool}
 use Rattle.client.specs.Client.{carried, soundFor, extendTurn}
-use Rattle.events.specs.Events.{Event, outOf, next, isAccepted, testsOf, Lent, jobOf, stateOf, isSync}
+use Rattle.events.specs.Events.{Event, turnOf, next, isAccepted, testsOf, Lent, jobOf, stateOf, isSync}
 use Rattle.events.specs.Said.{membersOf, recoveryIn, isUnused, Extended}
 use Rattle.events.proofs.Extends.{added-roster}
 use Rattle.events.proofs.Sessions.{tried-job, idle-is}
@@ -93,134 +93,134 @@ row-filled xs id n m k len h hm hk = dirty-filled xs id n m k len h hm hk ∙ el
 -- ---- accepted
 
 -- one that nothing refuses
-accepted-at : (c : Client) (xs : List ℕ) → extendRefusal (c .pool) (soundFor (c .pool) xs) ≡ 0 → isAccepted (outOf (Event.extend xs) c .answer) ≡ true
+accepted-at : (c : Pool) (xs : List ℕ) → extendRefusal c (soundFor c xs) ≡ 0 → isAccepted (turnOf (Event.extend xs) c .answer) ≡ true
 unfolding extend extendDone extendTurn
 accepted-at c xs e = rw e refl
 
 -- what the turn of an accepted extend is
-record Does (c : Client) (xs : List ℕ) (t : Turn) : Type 0 where
-  may : Extends (c .pool)
-  lent : sound (c .pool .chunks) xs ≡ true
-  is : t ≡ extendDone (c .pool) (picked (c .pool .roster))
+record Does (c : Pool) (xs : List ℕ) (t : Turn) : Type 0 where
+  may : Extends c
+  lent : sound (c .chunks) xs ≡ true
+  is : t ≡ extendDone c (picked (c .roster))
 
-sound-at : (c : Client) (xs : List ℕ) → extendRefusal (c .pool) (soundFor (c .pool) xs) ≡ 0 → sound (c .pool .chunks) xs ≡ true
+sound-at : (c : Pool) (xs : List ℕ) → extendRefusal c (soundFor c xs) ≡ 0 → sound (c .chunks) xs ≡ true
 unfolding extendRefusal
-sound-at c xs e = not-false (sound (c .pool .chunks) xs) (none-applies (testsOf (Event.extend xs) c) e 2 refl)
+sound-at c xs e = not-false (sound (c .chunks) xs) (none-applies (testsOf (Event.extend xs) c) e 2 refl)
 
-does : (c : Client) (xs : List ℕ) → isAccepted (outOf (Event.extend xs) c .answer) ≡ true → Does c xs (extendTurn (c .pool) xs)
+does : (c : Pool) (xs : List ℕ) → isAccepted (turnOf (Event.extend xs) c .answer) ≡ true → Does c xs (extendTurn c xs)
 unfolding extend extendTurn
 does c xs =
-    taken (Does c xs) (extendRefusal (c .pool) (soundFor (c .pool) xs)) (extendDone (c .pool) (picked (c .pool .roster))) (c .pool)
-    (λ e. record { may = extend-passed (c .pool) (soundFor (c .pool) xs) e; lent = sound-at c xs e; is = refl })
+    taken (Does c xs) (extendRefusal c (soundFor c xs)) (extendDone c (picked (c .roster))) c
+    (λ e. record { may = extend-passed c (soundFor c xs) e; lent = sound-at c xs e; is = refl })
 
-extended-job : (c : Client) → jobOf c ≡ Job.Idle → extendDone (c .pool) (picked (c .pool .roster)) .pool .job ≡ recoveryIn (record { pool = extendDone (c .pool) (picked (c .pool .roster)) .pool })
+extended-job : (c : Pool) → jobOf c ≡ Job.Idle → extendDone c (picked (c .roster)) .pool .job ≡ recoveryIn (extendDone c (picked (c .roster)) .pool)
 unfolding extendDone
-extended-job c idle = tried-job (withRoster (c .pool) (extended (c .pool .roster) (picked (c .pool .roster)))) idle
+extended-job c idle = tried-job (withRoster c (extended (c .roster) (picked (c .roster)))) idle
 
 -- what it hands back
-handed-back : Client → Sent
+handed-back : Pool → Sent
 handed-back c =
     record {
-      outcome = Outcome.Picked (picked (c .pool .roster));
-      told = extendTold (c .pool .roster) (picked (c .pool .roster));
-      awaited = tried (withRoster (c .pool) (extended (c .pool .roster) (picked (c .pool .roster)))) .awaited;
-      number = numberOf (tried (withRoster (c .pool) (extended (c .pool .roster) (picked (c .pool .roster)))) .awaited) (tried (withRoster (c .pool) (extended (c .pool .roster) (picked (c .pool .roster)))) .pool .number);
+      outcome = Outcome.Picked (picked (c .roster));
+      told = extendTold (c .roster) (picked (c .roster));
+      awaited = tried (withRoster c (extended (c .roster) (picked (c .roster)))) .awaited;
+      number = numberOf (tried (withRoster c (extended (c .roster) (picked (c .roster)))) .awaited) (tried (withRoster c (extended (c .roster) (picked (c .roster)))) .pool .number);
     }
 
-answers : (c : Client) → extendDone (c .pool) (picked (c .pool .roster)) .answer ≡ Answer.Done (handed-back c)
+answers : (c : Pool) → extendDone c (picked (c .roster)) .answer ≡ Answer.Done (handed-back c)
 unfolding extendDone handed-back
 answers c = refl
 
-reports : (c : Client) → (handed-back c .outcome ≡ Outcome.Picked (picked (c .pool .roster))) × (handed-back c .told ≡ extendTold (c .pool .roster) (picked (c .pool .roster)))
+reports : (c : Pool) → (handed-back c .outcome ≡ Outcome.Picked (picked (c .roster))) × (handed-back c .told ≡ extendTold (c .roster) (picked (c .roster)))
 unfolding handed-back
 reports c = (refl, refl)
 
-fills-row : (c : Client) → extendDone (c .pool) (picked (c .pool .roster)) .effect ≡ Effect.FillRow (picked (c .pool .roster)) (c .pool .chunks)
+fills-row : (c : Pool) → extendDone c (picked (c .roster)) .effect ≡ Effect.FillRow (picked (c .roster)) (c .chunks)
 unfolding extendDone
 fills-row c = refl
 
-pub extend-said : (c : Client) (xs : List ℕ) → Valid (c .pool) → isAccepted (outOf (Event.extend xs) c .answer) ≡ true → Extended c xs (Event.extend xs)
+pub extend-said : (c : Pool) (xs : List ℕ) → Valid c → isAccepted (turnOf (Event.extend xs) c .answer) ≡ true → Extended c xs (Event.extend xs)
 extend-said c xs v d =
     record {
       id = id;
       below = k .below;
       unused = and-both (k .free) (ap not (k .outside));
       lowest = k .lowest;
-      begins = ap (λ (ro : Roster). sessionAt ro id .state) roster ∙ ap (λ (s : Session). s .state) (extended-at (c .pool .roster) id (v .ok .long) (k .below));
-      members = λ j. ap (λ (ro : Roster). has (ro .members) j) roster ∙ (ap (λ (n : ℕ). has n j) (extended-numbers (c .pool .roster) id .held) ∙ with-has (membersOf c) id j (k .below));
-      told = idsOf Kind.Told (c .pool .roster);
-      others = told-set (c .pool .roster) (v .ok .long);
-      fills = idsOf Kind.Normals (c .pool .roster);
-      normals = normal-set (c .pool .roster) (v .ok .long);
+      begins = ap (λ (ro : Roster). sessionAt ro id .state) roster ∙ ap (λ (s : Session). s .state) (extended-at (c .roster) id (v .ok .long) (k .below));
+      members = λ j. ap (λ (ro : Roster). has (ro .members) j) roster ∙ (ap (λ (n : ℕ). has n j) (extended-numbers (c .roster) id .held) ∙ with-has (membersOf c) id j (k .below));
+      told = idsOf Kind.Told (c .roster);
+      others = told-set (c .roster) (v .ok .long);
+      fills = idsOf Kind.Normals (c .roster);
+      normals = normal-set (c .roster) (v .ok .long);
       sent = handed-back c;
       answer = ap (λ (t : Turn). t .answer) (h .is) ∙ answers c;
       reports = reports c .0;
       messages = reports c .1;
-      tries = ap (λ (t : Turn). t .pool .job) (h .is) ∙ (extended-job c (idle-is (jobOf c) (h .may .idle)) ∙ sym (ap (λ (t : Turn). recoveryIn (record { pool = t .pool })) (h .is)));
+      tries = ap (λ (t : Turn). t .pool .job) (h .is) ∙ (extended-job c (idle-is (jobOf c) (h .may .idle)) ∙ sym (ap (λ (t : Turn). recoveryIn (t .pool)) (h .is)));
       map = ap (λ (t : Turn). Lent.some (carried (t .effect) xs)) (h .is) ∙ ap (λ (ef : Effect). Lent.some (carried ef xs)) (fills-row c);
-      row = λ m n hm hn. row-filled xs id (c .pool .chunks) m n (sound-length (c .pool .chunks) xs (h .lent)) (k .below) hm hn;
+      row = λ m n hm hn. row-filled xs id (c .chunks) m n (sound-length (c .chunks) xs (h .lent)) (k .below) hm hn;
     }
   where
     id : ℕ
-    id = picked (c .pool .roster)
+    id = picked (c .roster)
 
-    h : Does c xs (extendTurn (c .pool) xs)
+    h : Does c xs (extendTurn c xs)
     h = does c xs d
 
-    k : Picks (c .pool .roster) (picked (c .pool .roster))
-    k = picks (c .pool .roster) (v .ok .long) (h .may .some)
+    k : Picks (c .roster) (picked (c .roster))
+    k = picks (c .roster) (v .ok .long) (h .may .some)
 
-    roster : next (Event.extend xs) c .pool .roster ≡ extended (c .pool .roster) (picked (c .pool .roster))
+    roster : next (Event.extend xs) c .roster ≡ extended (c .roster) (picked (c .roster))
     roster = ap (λ (t : Turn). t .pool .roster) (h .is) ∙ added-roster c
 
 -- ---- refused
 
-refused-as : (c : Client) (xs : List ℕ) (n : ℕ) → extendRefusal (c .pool) (soundFor (c .pool) xs) ≡ n → eqb n 0 ≡ false → outOf (Event.extend xs) c .answer ≡ Answer.Refused n
+refused-as : (c : Pool) (xs : List ℕ) (n : ℕ) → extendRefusal c (soundFor c xs) ≡ n → eqb n 0 ≡ false → turnOf (Event.extend xs) c .answer ≡ Answer.Refused n
 unfolding extend extendTurn
 refused-as c xs n e z = rw (e, z) refl
 
-why-extend : (c : Client) (xs : List ℕ) → Valid (c .pool) → isSync c ≡ false → jobOf c ≡ Job.Idle → sound (c .pool .chunks) xs ≡ true
-    → extendRefusal (c .pool) (soundFor (c .pool) xs) ≡ pick (eqb (idsOf Kind.Normals (c .pool .roster)) 0) 11 (pick (eqb (idsOf Kind.Unused (c .pool .roster)) 0) 19 0)
+why-extend : (c : Pool) (xs : List ℕ) → Valid c → isSync c ≡ false → jobOf c ≡ Job.Idle → sound (c .chunks) xs ≡ true
+    → extendRefusal c (soundFor c xs) ≡ pick (eqb (idsOf Kind.Normals (c .roster)) 0) 11 (pick (eqb (idsOf Kind.Unused (c .roster)) 0) 19 0)
 unfolding extendRefusal
-why-extend c xs v plain idle snd = simp (valid-of (c .pool) v, plain, idle, snd)
+why-extend c xs v plain idle snd = simp (valid-of c v, plain, idle, snd)
 
-unused-none : (c : Client) → Long (c .pool .roster) → ((j : ℕ) → j < 16 → isUnused c j ≡ false) → idsOf Kind.Unused (c .pool .roster) ≡ 0
-unused-none c l f = none-ids Kind.Unused (c .pool .roster) l f
+unused-none : (c : Pool) → Long (c .roster) → ((j : ℕ) → j < 16 → isUnused c j ≡ false) → idsOf Kind.Unused (c .roster) ≡ 0
+unused-none c l f = none-ids Kind.Unused (c .roster) l f
 
-pub extend-none : (c : Client) (xs : List ℕ) → Valid (c .pool) → isSync c ≡ false → jobOf c ≡ Job.Idle → sound (c .pool .chunks) xs ≡ true
-    → ((n : ℕ) → isNormal (stateOf c n) ≡ true → ((j : ℕ) → j < 16 → isUnused c j ≡ false) → outOf (Event.extend xs) c .answer ≡ Answer.Refused 19)
-    × (outOf (Event.extend xs) c .answer ≡ Answer.Refused 19 → (j : ℕ) → j < 16 → isUnused c j ≡ false)
-    × (((n : ℕ) → isNormal (stateOf c n) ≡ false) → outOf (Event.extend xs) c .answer ≡ Answer.Refused 11)
+pub extend-none : (c : Pool) (xs : List ℕ) → Valid c → isSync c ≡ false → jobOf c ≡ Job.Idle → sound (c .chunks) xs ≡ true
+    → ((n : ℕ) → isNormal (stateOf c n) ≡ true → ((j : ℕ) → j < 16 → isUnused c j ≡ false) → turnOf (Event.extend xs) c .answer ≡ Answer.Refused 19)
+    × (turnOf (Event.extend xs) c .answer ≡ Answer.Refused 19 → (j : ℕ) → j < 16 → isUnused c j ≡ false)
+    × (((n : ℕ) → isNormal (stateOf c n) ≡ false) → turnOf (Event.extend xs) c .answer ≡ Answer.Refused 11)
 extend-none c xs v plain idle snd = (
-  (λ n is none. refused-as c xs 19 (why ∙ rw (some n is, eq-eqb (idsOf Kind.Unused (c .pool .roster)) 0 (unused-none c l none)) refl) refl),
+  (λ n is none. refused-as c xs 19 (why ∙ rw (some n is, eq-eqb (idsOf Kind.Unused (c .roster)) 0 (unused-none c l none)) refl) refl),
   given,
-  λ none. refused-as c xs 11 (why ∙ rw (eq-eqb (idsOf Kind.Normals (c .pool .roster)) 0 (none-ids Kind.Normals (c .pool .roster) l (λ j h. none j))) refl) refl,
+  λ none. refused-as c xs 11 (why ∙ rw (eq-eqb (idsOf Kind.Normals (c .roster)) 0 (none-ids Kind.Normals (c .roster) l (λ j h. none j))) refl) refl,
 )
   where
-    l : Long (c .pool .roster)
+    l : Long (c .roster)
     l = v .ok .long
 
-    why : extendRefusal (c .pool) (soundFor (c .pool) xs) ≡ pick (eqb (idsOf Kind.Normals (c .pool .roster)) 0) 11 (pick (eqb (idsOf Kind.Unused (c .pool .roster)) 0) 19 0)
+    why : extendRefusal c (soundFor c xs) ≡ pick (eqb (idsOf Kind.Normals (c .roster)) 0) 11 (pick (eqb (idsOf Kind.Unused (c .roster)) 0) 19 0)
     why = why-extend c xs v plain idle snd
 
-    some : (n : ℕ) → isNormal (stateOf c n) ≡ true → eqb (idsOf Kind.Normals (c .pool .roster)) 0 ≡ false
-    some n is = by-cases (eqb (idsOf Kind.Normals (c .pool .roster)) 0)
-        (λ z. clash (normal-set (c .pool .roster) l n ∙ is) (ap (λ (s : ℕ). has s n) (eqb-true (idsOf Kind.Normals (c .pool .roster)) 0 z) ∙ has-none n))
+    some : (n : ℕ) → isNormal (stateOf c n) ≡ true → eqb (idsOf Kind.Normals (c .roster)) 0 ≡ false
+    some n is = by-cases (eqb (idsOf Kind.Normals (c .roster)) 0)
+        (λ z. clash (normal-set (c .roster) l n ∙ is) (ap (λ (s : ℕ). has s n) (eqb-true (idsOf Kind.Normals (c .roster)) 0 z) ∙ has-none n))
         (λ z. z)
 
-    not-nineteen : eqb (idsOf Kind.Unused (c .pool .roster)) 0 ≡ false → outOf (Event.extend xs) c .answer ≡ Answer.Refused 19 → ⊥
-    not-nineteen z q = by-cases (eqb (idsOf Kind.Normals (c .pool .roster)) 0)
+    not-nineteen : eqb (idsOf Kind.Unused (c .roster)) 0 ≡ false → turnOf (Event.extend xs) c .answer ≡ Answer.Refused 19 → ⊥
+    not-nineteen z q = by-cases (eqb (idsOf Kind.Normals (c .roster)) 0)
         (λ w. let a : Answer.Refused 11 ≡ Answer.Refused 19 = sym (refused-as c xs 11 (why ∙ rw w refl) refl) ∙ q in let y : _≡_ {A = ℕ} 11 19 = cc a in omega (arith, y))
-        (λ w. let a : isAccepted (outOf (Event.extend xs) c .answer) ≡ true = accepted-at c xs (why ∙ rw (w, z) refl) in clash a (ap isAccepted q))
+        (λ w. let a : isAccepted (turnOf (Event.extend xs) c .answer) ≡ true = accepted-at c xs (why ∙ rw (w, z) refl) in clash a (ap isAccepted q))
 
-    given : outOf (Event.extend xs) c .answer ≡ Answer.Refused 19 → (j : ℕ) → j < 16 → isUnused c j ≡ false
-    given q = by-cases (eqb (idsOf Kind.Unused (c .pool .roster)) 0)
-        (λ z. ids-none Kind.Unused (c .pool .roster) l (eqb-true (idsOf Kind.Unused (c .pool .roster)) 0 z))
+    given : turnOf (Event.extend xs) c .answer ≡ Answer.Refused 19 → (j : ℕ) → j < 16 → isUnused c j ≡ false
+    given q = by-cases (eqb (idsOf Kind.Unused (c .roster)) 0)
+        (λ z. ids-none Kind.Unused (c .roster) l (eqb-true (idsOf Kind.Unused (c .roster)) 0 z))
         (λ z. absurd (not-nineteen z q))
 
 -- ---- join create
 
-pub create-ends : (c : Client) (id : ℕ) → Valid (c .pool) → id < 16 → jobOf c ≡ Job.Idle → isFree (stateOf c id) ≡ true → c .pool .roster .past .written ≡ true
-    → outOf (Event.joinCreate id) c .answer ≡ Answer.Refused 17
+pub create-ends : (c : Pool) (id : ℕ) → Valid c → id < 16 → jobOf c ≡ Job.Idle → isFree (stateOf c id) ≡ true → c .roster .past .written ≡ true
+    → turnOf (Event.joinCreate id) c .answer ≡ Answer.Refused 17
 unfolding joinCreate createRefusal
-create-ends c id v h idle none written = simp (valid-of (c .pool) v, le-ltb 15 id (omega (arith, h)), idle, none, written)
+create-ends c id v h idle none written = simp (valid-of c v, le-ltb 15 id (omega (arith, h)), idle, none, written)

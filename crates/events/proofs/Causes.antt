@@ -23,10 +23,10 @@ use Rattle.keeps.specs.Ids.{below}
 use Rattle.keeps.specs.Pools.{Valid, valid-of}
 use Rattle.links.proofs.Kept.{rejoin-same}
 use Rattle.links.specs.Links.{backTests, checks, rejoinRefusal}
-use Rattle.client.specs.Client.{fresh, handed}
-use Rattle.client.specs.declared.Client.{Client}
+use Rattle.client.specs.Client.{freshPool}
+use Rattle.state.specs.declared.Pool.{Pool}
 use Rattle.events.specs.Demand2.{Reached}
-use Rattle.events.specs.Events.{Event, turnOf, outOf, next, isAccepted, testsOf, stateOf, isSync, jobOf}
+use Rattle.events.specs.Events.{Event, turnOf, next, isAccepted, testsOf, stateOf, isSync, jobOf}
 use Rattle.events.specs.Said.{Brings, CauseSet, Caused, CauseOnly, Got, CauseTells, Rejoin}
 use Rattle.events.proofs.Demand1.{refused-turn, done-turn}
 use Rattle.events.proofs.Demand2.{reached-valid}
@@ -40,25 +40,25 @@ use Rattle.events.proofs.Written.{write-said}
 -- ---- one event
 
 -- one that is accepted, and one that is not
-accepted-why : (e : Event) (c : Client) → isAccepted (outOf e c .answer) ≡ true → whyNot e c ≡ 0
+accepted-why : (e : Event) (c : Pool) → isAccepted (turnOf e c .answer) ≡ true → whyNot e c ≡ 0
 accepted-why e c a =
     by-cases (eqb (whyNot e c) 0)
     (λ z. eqb-true (whyNot e c) 0 z)
     (λ z. clash a (ap (λ (t : Turn). isAccepted (t .answer)) (refused-turn e c z)))
 
-why-accepted : (e : Event) (c : Client) → whyNot e c ≡ 0 → isAccepted (outOf e c .answer) ≡ true
+why-accepted : (e : Event) (c : Pool) → whyNot e c ≡ 0 → isAccepted (turnOf e c .answer) ≡ true
 why-accepted e c z = ap (λ (t : Turn). isAccepted (t .answer)) (done-turn e c (eq-eqb (whyNot e c) 0 z)) ∙ law e c .plain z
 
-refused-stays : (e : Event) (c : Client) (id : ℕ) → isAccepted (outOf e c .answer) ≡ false → stateOf (next e c) id ≡ stateOf c id
+refused-stays : (e : Event) (c : Pool) (id : ℕ) → isAccepted (turnOf e c .answer) ≡ false → stateOf (next e c) id ≡ stateOf c id
 refused-stays e c id a =
     by-cases (eqb (whyNot e c) 0)
     (λ z. clash (why-accepted e c (eqb-true (whyNot e c) 0 z)) a)
-    (λ z. ap (λ (t : Turn). stateOf (record { pool = t .pool }) id) (refused-turn e c z))
+    (λ z. ap (λ (t : Turn). stateOf (t .pool) id) (refused-turn e c z))
 
 -- a session that becomes FAILED
-new-cause : (c : Client) (e : Event) (c′ : Client) (id : ℕ) (cause : Cause) → isFailed (stateOf c id) ≡ false → stateOf c′ id ≡ State.Failed cause → Fate c e c′ id → Brings c id e cause
+new-cause : (c : Pool) (e : Event) (c′ : Pool) (id : ℕ) (cause : Cause) → isFailed (stateOf c id) ≡ false → stateOf c′ id ≡ State.Failed cause → Fate c e c′ id → Brings c id e cause
 new-cause c e c′ id cause was is (Fate.kept k) = no-cause (stateOf c id) cause was (sym (kept-stands c c′ id k) ∙ is)
-new-cause c e c′ id cause was is (Fate.begins x st r) = no-cause _ cause (begun (c .pool .roster .sync)) (sym (state-of c′ id _ r) ∙ is)
+new-cause c e c′ id cause was is (Fate.begins x st r) = no-cause _ cause (begun (c .roster .sync)) (sym (state-of c′ id _ r) ∙ is)
   where
     begun : (b : Bool) → isFailed (pick b State.Normal State.Created) ≡ false
     begun true = refl
@@ -87,11 +87,11 @@ leaves-failed sync cause State.Reconnecting e = refl
 leaves-failed sync cause (State.Removing m owed) e = refl
 
 -- one that stays FAILED keeps its cause
-old-cause : (c : Client) (e : Event) (c′ : Client) (id : ℕ) (cause : Cause) → stateOf c id ≡ State.Failed cause → isFailed (stateOf c′ id) ≡ true → Fate c e c′ id → stateOf c′ id ≡ State.Failed cause
+old-cause : (c : Pool) (e : Event) (c′ : Pool) (id : ℕ) (cause : Cause) → stateOf c id ≡ State.Failed cause → isFailed (stateOf c′ id) ≡ true → Fate c e c′ id → stateOf c′ id ≡ State.Failed cause
 old-cause c e c′ id cause was is (Fate.kept k) = kept-stands c c′ id k ∙ was
 old-cause c e c′ id cause was is (Fate.begins x st r) = no-cause State.Free cause refl (sym st ∙ was)
 old-cause c e c′ id cause was is (Fate.joins set version x p st r) = no-cause State.Free cause refl (sym st ∙ was)
-old-cause c e c′ id cause was is (Fate.goes to l n b w r) = clash is (ap isFailed (state-of c′ id _ r) ∙ leaves-failed (c .pool .roster .sync) cause to (rw was at l))
+old-cause c e c′ id cause was is (Fate.goes to l n b w r) = clash is (ap isFailed (state-of c′ id _ r) ∙ leaves-failed (c .roster .sync) cause to (rw was at l))
 old-cause c e c′ id cause was is (Fate.fails k last w x n b r) = clash n (ap isNormal was)
 old-cause c e c′ id cause was is (Fate.maintained last x p n b r) = clash n (ap isNormal was)
 old-cause c e c′ id cause was is (Fate.unflagged x k r) = state-of c′ id _ r ∙ was
@@ -120,13 +120,13 @@ why (State.Failed cause) e = record { cause = cause; is = refl }
 why State.Reconnecting e = clash e refl
 why (State.Removing m owed) e = clash e refl
 
-fresh-free : (sync : Bool) (chunks id : ℕ) → isFailed (stateOf (fresh sync chunks) id) ≡ false
+fresh-free : (sync : Bool) (chunks id : ℕ) → isFailed (stateOf (freshPool sync chunks) id) ≡ false
 fresh-free sync chunks id =
-    by-cases (isFailed (stateOf (fresh sync chunks) id))
-    (λ e. ap (λ (s : Session). isFailed (s .state)) (getD-replicate 16 id free free (below (λ s. isFailed (s .state)) (fresh sync chunks .pool .roster) id refl refl e)))
+    by-cases (isFailed (stateOf (freshPool sync chunks) id))
+    (λ e. ap (λ (s : Session). isFailed (s .state)) (getD-replicate 16 id free free (below (λ s. isFailed (s .state)) (freshPool sync chunks .roster) id refl refl e)))
     (λ e. e)
 
-cause-of : (c : Client) (id : ℕ) (cause : Cause) → Got id cause c → stateOf c id ≡ State.Failed cause
+cause-of : (c : Pool) (id : ℕ) (cause : Cause) → Got id cause c → stateOf c id ≡ State.Failed cause
 cause-of _ id cause (Got.brought c e a b) = cause-set c e a id cause b
 cause-of _ id cause (Got.kept c e r g f) = old-cause c e (next e c) id cause (cause-of c id cause g) f (event-fate e c id (reached-valid c r))
 
@@ -141,14 +141,14 @@ cause-only c r e id cause is =
     fate : Fate c e (next e c) id
     fate = event-fate e c id (reached-valid c r)
 
-    accepted : isFailed (stateOf c id) ≡ false → isAccepted (outOf e c .answer) ≡ true
-    accepted f = by-cases (isAccepted (outOf e c .answer)) (λ a. a) (λ a. no-cause (stateOf c id) cause f (sym (refused-stays e c id a) ∙ is))
+    accepted : isFailed (stateOf c id) ≡ false → isAccepted (turnOf e c .answer) ≡ true
+    accepted f = by-cases (isAccepted (turnOf e c .answer)) (λ a. a) (λ a. no-cause (stateOf c id) cause f (sym (refused-stays e c id a) ∙ is))
 
-step-got : (c : Client) (e : Event) (id : ℕ) (cause : Cause) → Reached c → (stateOf c id ≡ State.Failed cause → Got id cause c) → stateOf (next e c) id ≡ State.Failed cause → Caused c e id cause → Got id cause (next e c)
+step-got : (c : Pool) (e : Event) (id : ℕ) (cause : Cause) → Reached c → (stateOf c id ≡ State.Failed cause → Got id cause c) → stateOf (next e c) id ≡ State.Failed cause → Caused c e id cause → Got id cause (next e c)
 step-got c e id cause r before is (Caused.stood was) = Got.kept c e r (before was) (ap isFailed is)
 step-got c e id cause r before is (Caused.brought f a b) = Got.brought c e (record { reached = r; done = a }) b
 
-got-of : (c : Client) → Reached c → (id : ℕ) (cause : Cause) → stateOf c id ≡ State.Failed cause → Got id cause c
+got-of : (c : Pool) → Reached c → (id : ℕ) (cause : Cause) → stateOf c id ≡ State.Failed cause → Got id cause c
 got-of _ (Reached.start sync chunks a b) id cause is = clash (ap isFailed is) (fresh-free sync chunks id)
 got-of _ (Reached.then c e r) id cause is = step-got c e id cause r (λ was. got-of c r id cause was) is (cause-only c r e id cause is)
 
@@ -167,13 +167,13 @@ cut-is State.Reconnecting e = clash e refl
 cut-is (State.Removing m owed) e = clash e refl
 
 -- nothing refuses an event that brings a session back before its ninth test
-ninth : (c : Client) (id : ℕ) (may : Bool) → Valid (c .pool) → jobOf c ≡ Job.Idle → isFree (stateOf c id) ≡ false → refusal (backTests (c .pool) id may) ≡ pick (not may) 9 0
-ninth c id may v job some = rw (valid-of (c .pool) v, within, job, some) refl
+ninth : (c : Pool) (id : ℕ) (may : Bool) → Valid c → jobOf c ≡ Job.Idle → isFree (stateOf c id) ≡ false → refusal (backTests c id may) ≡ pick (not may) 9 0
+ninth c id may v job some = rw (valid-of c v, within, job, some) refl
   where
     within : ltb 15 id ≡ false
     within =
         by-cases (ltb 15 id)
-        (λ l. let h = below (λ s. not (isFree (s .state))) (c .pool .roster) id (v .ok .long) refl (ap not some) in
+        (λ l. let h = below (λ s. not (isFree (s .state))) (c .roster) id (v .ok .long) refl (ap not some) in
         absurd (let z : ⊥ = omega (arith, ltb-true 15 id l, h) in z))
         (λ l. l)
 
@@ -186,16 +186,16 @@ rejoin-said c r id =
         idle-is (jobOf c) (not-false (isIdle (jobOf c)) (none-applies (testsOf (Event.rejoin id) c) z 6 refl)),
         cut-is (stateOf c id) (not-false (isCut (stateOf c id)) (none-applies (testsOf (Event.rejoin id) c) z 9 refl)),
       );
-      same = λ a. ap handed (rejoin-same (c .pool) id (accepted-why (Event.rejoin id) c a));
+      same = λ a. rejoin-same c id (accepted-why (Event.rejoin id) c a);
       nine = λ job some other. nine job some (by-cases (isCut (stateOf c id)) (λ k. absurd (other (cut-is (stateOf c id) k))) (λ k. k));
       both = λ cause job is. why-accepted (Event.storeCheck id) c
           (ninth c id (checks (isSync c) (stateOf c id)) v job (ap isFree is) ∙ ap (λ (st : State). pick (not (checks (isSync c) st)) 9 0) is);
     }
   where
-    v : Valid (c .pool)
+    v : Valid c
     v = reached-valid c r
 
-    nine : jobOf c ≡ Job.Idle → isFree (stateOf c id) ≡ false → isCut (stateOf c id) ≡ false → outOf (Event.rejoin id) c .answer ≡ Answer.Refused 9
+    nine : jobOf c ≡ Job.Idle → isFree (stateOf c id) ≡ false → isCut (stateOf c id) ≡ false → turnOf (Event.rejoin id) c .answer ≡ Answer.Refused 9
     nine job some other =
         let n : whyNot (Event.rejoin id) c ≡ 9 = ninth c id (isCut (stateOf c id)) v job some ∙ ap (λ (b : Bool). pick (not b) 9 0) other in
         ap (λ (t : Turn). t .answer) (refused-turn (Event.rejoin id) c (ap (λ (k : ℕ). eqb k 0) n)) ∙ ap Answer.Refused n

@@ -12,7 +12,6 @@ use Rattle.state.specs.declared.Pool.{Pool}
 use Rattle.state.specs.declared.Sent.{Sent}
 use Rattle.state.specs.declared.Turn.{Turn}
 use Rattle.exits.specs.Exit.{refused}
-use Rattle.client.specs.declared.Client.{Client}
 use Rattle.events.specs.Demand1.{Refuses, Verdict, Demand1}
 use Rattle.events.specs.Events.{Event, turnOf, isAccepted, testsOf}
 use Rattle.events.proofs.Law.{law}
@@ -27,25 +26,22 @@ sends (Answer.Refused n) e = clash e refl
 sends (Answer.Done s) e = record { what = s; is = refl }
 
 -- an event that is refused, and one that is not
-pub refused-turn : (e : Event) (c : Client) → eqb (whyNot e c) 0 ≡ false → turnOf e c ≡ refused (c .pool) (whyNot e c)
-refused-turn e c z = law e c .same ∙ ap (λ (b : Bool). pick b (law e c .does) (refused (c .pool) (whyNot e c))) z
+pub refused-turn : (e : Event) (c : Pool) → eqb (whyNot e c) 0 ≡ false → turnOf e c ≡ refused c (whyNot e c)
+refused-turn e c z = law e c .same ∙ ap (λ (b : Bool). pick b (law e c .does) (refused c (whyNot e c))) z
 
-pub done-turn : (e : Event) (c : Client) → eqb (whyNot e c) 0 ≡ true → turnOf e c ≡ law e c .does
-done-turn e c z = law e c .same ∙ ap (λ (b : Bool). pick b (law e c .does) (refused (c .pool) (whyNot e c))) z
+pub done-turn : (e : Event) (c : Pool) → eqb (whyNot e c) 0 ≡ true → turnOf e c ≡ law e c .does
+done-turn e c z = law e c .same ∙ ap (λ (b : Bool). pick b (law e c .does) (refused c (whyNot e c))) z
 
-refuses : (e : Event) (c : Client) → eqb (whyNot e c) 0 ≡ false → Refuses e c (whyNot e c)
+refuses : (e : Event) (c : Pool) → eqb (whyNot e c) 0 ≡ false → Refuses e c (whyNot e c)
 refuses e c z =
     let q = refused-turn e c z in
     let k : turnOf e c .effect ≡ Effect.Keep = ap (λ (t : Turn). t .effect) q in
     record {
       first = first-applies (testsOf e c) (eqb-false (whyNot e c) 0 z);
-      client = ap (λ (t : Turn). of (t .pool)) q;
+      pool = ap (λ (t : Turn). t .pool) q;
       effect = k;
       map = law e c .same-map k;
     }
-  where
-    of : Pool → Client
-    of p = record { pool = p }
 
 pub demand-1 : Demand1
 demand-1 e c = at (eqb (whyNot e c) 0) refl

@@ -8,10 +8,10 @@ use Rattle.state.specs.Table.{legal}
 use Rattle.state.specs.declared.Answer.{Answer}
 use Rattle.state.specs.declared.State.{State}
 use Rattle.keeps.specs.Pools.{Valid, valid-of}
-use Rattle.client.specs.declared.Client.{Client}
+use Rattle.state.specs.declared.Pool.{Pool}
 use Rattle.events.specs.Demand1.{Verdict}
 use Rattle.events.specs.Demand2.{Reached, RulesKept, NeverOne, Change, ByTheTable, VersionNeverFalls, OthersStay, MapOnly, SoundStays}
-use Rattle.events.specs.Events.{Event, testsOf, outOf, next, stateOf, isSync}
+use Rattle.events.specs.Events.{Event, testsOf, turnOf, next, stateOf, isSync}
 use Rattle.events.proofs.Demand1.{demand-1}
 use Rattle.events.proofs.Every.{event-keeps, event-touches, event-same, event-sound, event-others, event-fate, event-kind, event-never-falls}
 use Rattle.events.proofs.Fates.{Fate, state-of, kept-stands}
@@ -19,15 +19,15 @@ use Rattle.events.proofs.Keeps.{fresh-valid}
 use Rattle.events.proofs.Law.{law}
 use Rattle.events.proofs.States.{normal-is}
 
-pub reached-valid : (c : Client) → Reached c → Valid (c .pool)
+pub reached-valid : (c : Pool) → Reached c → Valid c
 reached-valid _ (Reached.start sync chunks a b) = fresh-valid sync chunks a b
 reached-valid _ (Reached.then c e r) = event-keeps e c (reached-valid c r)
 
 pub rules-kept : RulesKept
-rules-kept c r = valid-of (c .pool) (reached-valid c r)
+rules-kept c r = valid-of c (reached-valid c r)
 
 -- the refusal that was given
-refusal-of : (e : Event) (c : Client) (n : ℕ) → outOf e c .answer ≡ Answer.Refused n → applies n (testsOf e c) ≡ true
+refusal-of : (e : Event) (c : Pool) (n : ℕ) → turnOf e c .answer ≡ Answer.Refused n → applies n (testsOf e c) ≡ true
 refusal-of e c n q = at (demand-1 e c)
   where
     at : Verdict e c → applies n (testsOf e c) ≡ true
@@ -43,7 +43,7 @@ never-one c r e n q z =
 from-normal : (sync : Bool) → sync ≡ false → legal sync State.Normal State.Reconnecting ≡ true
 from-normal sync e = rw e refl
 
-by-fate : (c : Client) (e : Event) (c′ : Client) (id : ℕ) → Fate c e c′ id → Change (isSync c) e id (stateOf c id) (stateOf c′ id)
+by-fate : (c : Pool) (e : Event) (c′ : Pool) (id : ℕ) → Fate c e c′ id → Change (isSync c) e id (stateOf c id) (stateOf c′ id)
 by-fate c e c′ id (Fate.kept k) = Change.stays (kept-stands c c′ id k)
 by-fate c e c′ id (Fate.begins x st r) = Change.created x st (state-of c′ id _ r)
 by-fate c e c′ id (Fate.joins set version x plain st r) = Change.assembled set version x plain st (state-of c′ id _ r)

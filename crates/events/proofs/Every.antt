@@ -14,9 +14,9 @@ use Rattle.state.specs.declared.Job.{Job}
 use Rattle.state.specs.declared.Turn.{Turn}
 use Rattle.rules.specs.Jobs.{isRunning}
 use Rattle.keeps.specs.Pools.{Valid}
-use Rattle.client.specs.declared.Client.{Client}
+use Rattle.state.specs.declared.Pool.{Pool}
 use Rattle.events.specs.Demand2.{Kept, soundLent}
-use Rattle.events.specs.Events.{Event, turnOf, isAccepted, lentTo, mapLeft, outOf, next, stateOf, isSync, jobOf, concerns, partOf, touches, raises, isAnswer, isDown, testsOf}
+use Rattle.events.specs.Events.{Event, turnOf, isAccepted, lentTo, mapLeft, next, stateOf, isSync, jobOf, concerns, partOf, touches, raises, isAnswer, isDown, testsOf}
 use Rattle.events.specs.Said.{membersOf, versionOf, endsRun, frees, takesOut}
 use Rattle.events.proofs.Fates.{isPart, Fate}
 use Rattle.events.proofs.Law.{law}
@@ -24,25 +24,25 @@ use Rattle.events.proofs.Shape.{whyNot}
 use Rattle.events.proofs.Removals.{part-none, unfreed}
 use Rattle.events.proofs.Versions.{unleft, RisenBy, none-risen}
 
-pub event-keeps : (e : Event) (c : Client) → Valid (c .pool) → Valid (next e c .pool)
+pub event-keeps : (e : Event) (c : Pool) → Valid c → Valid (next e c)
 event-keeps e c = law e c .rules
 
-pub event-touches : (e : Event) (c : Client) → Valid (c .pool) → touches e c (next e c .pool .roster) (turnOf e c .effect) ≡ true
+pub event-touches : (e : Event) (c : Pool) → Valid c → touches e c (next e c .roster) (turnOf e c .effect) ≡ true
 event-touches e c = law e c .touch
 
-pub event-same : (e : Event) (c : Client) → next e c .pool .chunks ≡ c .pool .chunks
+pub event-same : (e : Event) (c : Pool) → next e c .chunks ≡ c .chunks
 event-same e c = law e c .count
 
-pub event-sound : (e : Event) (c : Client) → Valid (c .pool) → soundLent (c .pool .chunks) (lentTo e) ≡ true → soundLent (next e c .pool .chunks) (mapLeft e c) ≡ true
+pub event-sound : (e : Event) (c : Pool) → Valid c → soundLent (c .chunks) (lentTo e) ≡ true → soundLent (next e c .chunks) (mapLeft e c) ≡ true
 event-sound e c v s = subst (λ (n : ℕ). soundLent n (mapLeft e c) ≡ true) (sym (law e c .count)) (law e c .left v s)
 
-pub event-others : (e : Event) (c : Client) (j : ℕ) → Valid (c .pool) → concerns e c j ≡ false → Kept c (next e c) j
+pub event-others : (e : Event) (c : Pool) (j : ℕ) → Valid c → concerns e c j ≡ false → Kept c (next e c) j
 event-others e c = law e c .others
 
-pub event-fate : (e : Event) (c : Client) (j : ℕ) → Valid (c .pool) → Fate c e (next e c) j
+pub event-fate : (e : Event) (c : Pool) (j : ℕ) → Valid c → Fate c e (next e c) j
 event-fate e c j v = by-cases (concerns e c j) (law e c .fate j v) (λ n. Fate.kept (law e c .others j v n))
 
-pub event-kind : (e : Event) (c : Client) → Valid (c .pool) → isSync (next e c) ≡ isSync c
+pub event-kind : (e : Event) (c : Pool) → Valid c → isSync (next e c) ≡ isSync c
 event-kind e c v = by-cases (raises e) (λ f. law e c .loud v f .0) (λ f. law e c .level v f .kind)
 
 -- an event that may not raise the version is barred in a run
@@ -62,7 +62,7 @@ quiet-barred (Event.answer xs number a) f = clash refl f
 quiet-barred (Event.extend xs) f = (refl, refl)
 
 -- only an answer and a link down end a run: it bars all other events
-barred-lasts : (e : Event) (c : Client) → isAnswer e ≡ false → isDown e ≡ false → endsRun e c ≡ false
+barred-lasts : (e : Event) (c : Pool) → isAnswer e ≡ false → isDown e ≡ false → endsRun e c ≡ false
 barred-lasts e c a d = at (jobOf c) refl
   where
     at : (j : Job) → jobOf c ≡ j → endsRun e c ≡ false
@@ -72,26 +72,26 @@ barred-lasts e c a d = at (jobOf c) refl
         let w : eqb (whyNot e c) 0 ≡ false = by-cases (eqb (whyNot e c) 0)
         (λ z. clash (law e c .six r q a d) (none-applies (testsOf e c) (eqb-true (whyNot e c) 0 z) 6 refl))
         (λ z. z) in
-        let t : next e c .pool .job ≡ Job.Running r = ap (λ (u : Turn). u .pool .job) (law e c .same) ∙ rw w q in
+        let t : next e c .job ≡ Job.Running r = ap (λ (u : Turn). u .pool .job) (law e c .same) ∙ rw w q in
         rw (d, t) (and-false (isRunning (jobOf c)))
 
-pub event-rises : (e : Event) (c : Client) → Valid (c .pool) → ((id set version : ℕ) → e ≢ Event.joinAssemble id set version) → RisenBy c (next e c .pool) (endsRun e c)
+pub event-rises : (e : Event) (c : Pool) → Valid c → ((id set version : ℕ) → e ≢ Event.joinAssemble id set version) → RisenBy c (next e c) (endsRun e c)
 event-rises e c v n =
     by-cases (raises e)
     (λ f. law e c .loud v f .2 n)
     (λ f. let q = quiet-barred e f in
-    rw (barred-lasts e c (q .0) (q .1)) (none-risen c (next e c .pool) (law e c .level v f .version) (λ j. unleft c e (next e c) j f (event-fate e c j v))))
+    rw (barred-lasts e c (q .0) (q .1)) (none-risen c (next e c) (law e c .level v f .version) (λ j. unleft c e (next e c) j f (event-fate e c j v))))
 
-pub event-never-falls : (e : Event) (c : Client) → Valid (c .pool) → versionOf c ≤ versionOf (next e c)
+pub event-never-falls : (e : Event) (c : Pool) → Valid c → versionOf c ≤ versionOf (next e c)
 event-never-falls e c v = by-cases (raises e) (λ f. law e c .loud v f .1) (λ f. omega (arith, law e c .level v f .version))
 
-pub freed-said : (e : Event) (c : Client) → Valid (c .pool) → isAccepted (outOf e c .answer) ≡ true → (id : ℕ) → isFree (stateOf c id) ≡ false → isFree (stateOf (next e c) id) ≡ frees (partOf e c) c id
+pub freed-said : (e : Event) (c : Pool) → Valid c → isAccepted (turnOf e c .answer) ≡ true → (id : ℕ) → isFree (stateOf c id) ≡ false → isFree (stateOf (next e c) id) ≡ frees (partOf e c) c id
 freed-said e c v d id was =
     by-cases (isPart (partOf e c))
     (λ p. law e c .freeing v d p id was)
     (λ p. unfreed c e (next e c) id p was (event-fate e c id v) ∙ sym (part-none (partOf e c) c id p .0))
 
-pub members-said : (e : Event) (c : Client) → Valid (c .pool) → isAccepted (outOf e c .answer) ≡ true → (id : ℕ) → has (membersOf c) id ≡ true → has (membersOf (next e c)) id ≡ not (takesOut (partOf e c) c id)
+pub members-said : (e : Event) (c : Pool) → Valid c → isAccepted (turnOf e c .answer) ≡ true → (id : ℕ) → has (membersOf c) id ≡ true → has (membersOf (next e c)) id ≡ not (takesOut (partOf e c) c id)
 members-said e c v d id was =
     by-cases (isPart (partOf e c))
     (λ p. law e c .taking v d p id was)

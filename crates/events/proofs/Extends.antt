@@ -18,10 +18,10 @@ use Rattle.keeps.specs.Pools.{Valid}
 use Rattle.keeps.specs.Tried.{tried-roster}
 use Rattle.extending.specs.Extending.{picked, extendRefusal, extended, extendDone, extend}
 use Rattle.extending.proofs.Kept.{picks, extend-passed, extended-at, extended-other, extended-numbers}
-use Rattle.client.specs.declared.Client.{Client}
+use Rattle.state.specs.declared.Pool.{Pool}
 use Rattle.client.specs.Client.{soundFor, extendTurn}
 use Rattle.events.specs.Demand2.{Kept}
-use Rattle.events.specs.Events.{Event, turnOf, outOf, next, isAccepted, isAnswer, testsOf, stateOf, concerns, partOf, touches, extendTouches, raises}
+use Rattle.events.specs.Events.{Event, turnOf, next, isAccepted, isAnswer, testsOf, stateOf, concerns, partOf, touches, extendTouches, raises}
 use Rattle.events.specs.Said.{membersOf}
 use Rattle.events.proofs.Fates.{Fate, isPart}
 use Rattle.events.proofs.Shape.{taken}
@@ -31,65 +31,65 @@ use Rattle.events.proofs.Tries.{Tries, by-trial-with, idle-at}
 use Rattle.events.proofs.Versions.{Level, as-was}
 
 -- the sessions that it leaves
-abbrev added : Client → Roster
-added c = extended (c .pool .roster) (picked (c .pool .roster))
+abbrev added : Pool → Roster
+added c = extended (c .roster) (picked (c .roster))
 
-pub added-roster : (c : Client) → extendDone (c .pool) (picked (c .pool .roster)) .pool .roster ≡ added c
+pub added-roster : (c : Pool) → extendDone c (picked (c .roster)) .pool .roster ≡ added c
 unfolding extendDone
-added-roster c = tried-roster (withRoster (c .pool) (added c))
+added-roster c = tried-roster (withRoster c (added c))
 
-pub extend-others : (xs : List ℕ) (c : Client) (j : ℕ) → Valid (c .pool) → concerns (Event.extend xs) c j ≡ false → Kept c (next (Event.extend xs) c) j
+pub extend-others : (xs : List ℕ) (c : Pool) (j : ℕ) → Valid c → concerns (Event.extend xs) c j ≡ false → Kept c (next (Event.extend xs) c) j
 unfolding extend extendTurn
 extend-others xs c j v n =
-    turned (λ q. Kept c (record { pool = q }) j) (extendRefusal (c .pool) (soundFor (c .pool) xs)) _ (c .pool) (Kept.equal refl)
-    (λ e. Kept.equal (ap (λ (ro : Roster). sessionAt ro j) (added-roster c) ∙ extended-other (c .pool .roster) (picked (c .pool .roster)) j (eqb-false j (picked (c .pool .roster)) n)))
+    turned (λ q. Kept c (q) j) (extendRefusal c (soundFor c xs)) _ c (Kept.equal refl)
+    (λ e. Kept.equal (ap (λ (ro : Roster). sessionAt ro j) (added-roster c) ∙ extended-other (c .roster) (picked (c .roster)) j (eqb-false j (picked (c .roster)) n)))
 
-pub extend-fate : (c : Client) (xs : List ℕ) → Valid (c .pool) → Fate c (Event.extend xs) (next (Event.extend xs) c) (picked (c .pool .roster))
+pub extend-fate : (c : Pool) (xs : List ℕ) → Valid c → Fate c (Event.extend xs) (next (Event.extend xs) c) (picked (c .roster))
 unfolding extend extendTurn
 extend-fate c xs v =
-    turned (λ q. Fate c (Event.extend xs) (record { pool = q }) (picked (c .pool .roster))) (extendRefusal (c .pool) (soundFor (c .pool) xs)) _ (c .pool) (Fate.kept (Kept.equal refl))
-    (λ e. let h = extend-passed (c .pool) (soundFor (c .pool) xs) e in
-    let k = picks (c .pool .roster) (v .ok .long) (h .some) in
-    Fate.extends xs refl (h .plain) (free-is (stateOf c (picked (c .pool .roster))) (k .free))
-    (ap (λ (ro : Roster). sessionAt ro (picked (c .pool .roster))) (added-roster c) ∙ extended-at (c .pool .roster) (picked (c .pool .roster)) (v .ok .long) (k .below)))
+    turned (λ q. Fate c (Event.extend xs) (q) (picked (c .roster))) (extendRefusal c (soundFor c xs)) _ c (Fate.kept (Kept.equal refl))
+    (λ e. let h = extend-passed c (soundFor c xs) e in
+    let k = picks (c .roster) (v .ok .long) (h .some) in
+    Fate.extends xs refl (h .plain) (free-is (stateOf c (picked (c .roster))) (k .free))
+    (ap (λ (ro : Roster). sessionAt ro (picked (c .roster))) (added-roster c) ∙ extended-at (c .roster) (picked (c .roster)) (v .ok .long) (k .below)))
 
-pub extend-level : (xs : List ℕ) (c : Client) → Valid (c .pool) → raises (Event.extend xs) ≡ false → Level c (next (Event.extend xs) c .pool)
+pub extend-level : (xs : List ℕ) (c : Pool) → Valid c → raises (Event.extend xs) ≡ false → Level c (next (Event.extend xs) c)
 unfolding extend extendTurn
 extend-level xs c v f =
-    turned (Level c) (extendRefusal (c .pool) (soundFor (c .pool) xs)) _ (c .pool) (as-was c (c .pool) refl)
-    (λ e. let n = extended-numbers (c .pool .roster) (picked (c .pool .roster)) in
+    turned (Level c) (extendRefusal c (soundFor c xs)) _ c (as-was c c refl)
+    (λ e. let n = extended-numbers (c .roster) (picked (c .roster)) in
     record { kind = ap (λ (ro : Roster). ro .sync) (added-roster c) ∙ n .kind; version = ap (λ (ro : Roster). ro .version) (added-roster c) ∙ n .versioned })
 
-pub extend-stays : (xs : List ℕ) (c : Client) → Valid (c .pool) → isPart (partOf (Event.extend xs) c) ≡ false → (id : ℕ) → has (membersOf c) id ≡ true → has (membersOf (next (Event.extend xs) c)) id ≡ true
+pub extend-stays : (xs : List ℕ) (c : Pool) → Valid c → isPart (partOf (Event.extend xs) c) ≡ false → (id : ℕ) → has (membersOf c) id ≡ true → has (membersOf (next (Event.extend xs) c)) id ≡ true
 unfolding extend extendTurn
 extend-stays xs c v p id was =
-    turned (λ q. has (q .roster .members) id ≡ true) (extendRefusal (c .pool) (soundFor (c .pool) xs)) _ (c .pool) was
-    (λ e. ap (λ (ro : Roster). has (ro .members) id) (added-roster c) ∙ (ap (λ (n : ℕ). has n id) (extended-numbers (c .pool .roster) (picked (c .pool .roster)) .held) ∙ elim (ℕ-discrete id (picked (c .pool .roster))) [
+    turned (λ q. has (q .roster .members) id ≡ true) (extendRefusal c (soundFor c xs)) _ c was
+    (λ e. ap (λ (ro : Roster). has (ro .members) id) (added-roster c) ∙ (ap (λ (n : ℕ). has n id) (extended-numbers (c .roster) (picked (c .roster)) .held) ∙ elim (ℕ-discrete id (picked (c .roster))) [
       | yes q ↦ rw (← q) (has-with-same (membersOf c) id (has-below (membersOf c) id was))
-      | no d ↦ has-with-other (membersOf c) (picked (c .pool .roster)) id d ∙ was
+      | no d ↦ has-with-other (membersOf c) (picked (c .roster)) id d ∙ was
     ]))
 
-pub extend-count : (xs : List ℕ) (c : Client) → next (Event.extend xs) c .pool .chunks ≡ c .pool .chunks
+pub extend-count : (xs : List ℕ) (c : Pool) → next (Event.extend xs) c .chunks ≡ c .chunks
 unfolding extend extendDone extendTurn
-extend-count xs c = turned (Same (c .pool)) (extendRefusal (c .pool) (soundFor (c .pool) xs)) _ (c .pool) refl (λ e. tried-same (withRoster (c .pool) (added c)))
+extend-count xs c = turned (Same c) (extendRefusal c (soundFor c xs)) _ c refl (λ e. tried-same (withRoster c (added c)))
 
-pub extend-touches : (xs : List ℕ) (c : Client) → Valid (c .pool) → touches (Event.extend xs) c (next (Event.extend xs) c .pool .roster) (turnOf (Event.extend xs) c .effect) ≡ true
+pub extend-touches : (xs : List ℕ) (c : Pool) → Valid c → touches (Event.extend xs) c (next (Event.extend xs) c .roster) (turnOf (Event.extend xs) c .effect) ≡ true
 unfolding extend extendDone extendTurn
 extend-touches xs c v =
-    turn-of (λ t. extendTouches c (t .effect) ≡ true) (extendRefusal (c .pool) (soundFor (c .pool) xs)) _ (c .pool) refl
-    (λ e. and-both (eq-eqb (picked (c .pool .roster)) (picked (c .pool .roster)) refl) (eq-eqb (c .pool .chunks) (c .pool .chunks) refl))
+    turn-of (λ t. extendTouches c (t .effect) ≡ true) (extendRefusal c (soundFor c xs)) _ c refl
+    (λ e. and-both (eq-eqb (picked (c .roster)) (picked (c .roster)) refl) (eq-eqb (c .chunks) (c .chunks) refl))
 
 same-le : (n : ℕ) → n ≤ n
 same-le n = omega arith
 
-pub extend-inside : (xs : List ℕ) (c : Client) → inside (c .pool .chunks) (extendTurn (c .pool) xs .effect) ≡ true
+pub extend-inside : (xs : List ℕ) (c : Pool) → inside (c .chunks) (extendTurn c xs .effect) ≡ true
 unfolding extend extendDone extendTurn
 extend-inside xs c =
-    turn-of (λ t. inside (c .pool .chunks) (t .effect) ≡ true) (extendRefusal (c .pool) (soundFor (c .pool) xs)) _ (c .pool) refl
-    (λ e. le-leb (c .pool .chunks) (c .pool .chunks) (same-le (c .pool .chunks)))
+    turn-of (λ t. inside (c .chunks) (t .effect) ≡ true) (extendRefusal c (soundFor c xs)) _ c refl
+    (λ e. le-leb (c .chunks) (c .chunks) (same-le (c .chunks)))
 
-pub extend-trial : (xs : List ℕ) (c : Client) → isAnswer (Event.extend xs) ≡ false → isAccepted (outOf (Event.extend xs) c .answer) ≡ true → Tries (c .pool) (turnOf (Event.extend xs) c)
+pub extend-trial : (xs : List ℕ) (c : Pool) → isAnswer (Event.extend xs) ≡ false → isAccepted (turnOf (Event.extend xs) c .answer) ≡ true → Tries c (turnOf (Event.extend xs) c)
 unfolding extend extendRefusal extendDone extendTurn
 extend-trial xs c n =
-    taken (Tries (c .pool)) (extendRefusal (c .pool) (soundFor (c .pool) xs)) _ (c .pool)
-    (λ e. by-trial-with (c .pool) _ _ _ _ (le-leb (c .pool .chunks) (c .pool .chunks) (same-le (c .pool .chunks))) (idle-at (c .pool) (none-applies (testsOf (Event.extend xs) c) e 6 refl)))
+    taken (Tries c) (extendRefusal c (soundFor c xs)) _ c
+    (λ e. by-trial-with c _ _ _ _ (le-leb (c .chunks) (c .chunks) (same-le (c .chunks))) (idle-at c (none-applies (testsOf (Event.extend xs) c) e 6 refl)))

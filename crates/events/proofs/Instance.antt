@@ -30,9 +30,9 @@ use Rattle.writes.specs.Writes.{reachBars, writeRefusal, missStep, missed, mark
 use Rattle.removal.specs.Removal.{due, freedFrom, onward, departed, started}
 use Rattle.removal.specs.Remove.{removeRefusal, remove}
 use Rattle.answers.specs.Answers.{answerRefusal, movedOn, answer}
-use Rattle.client.specs.declared.Client.{Client}
-use Rattle.client.specs.Client.{fresh, extendTurn, removeTurn, writeTurn, answerTurn}
-use Rattle.events.specs.Events.{Event, outOf, next, isAccepted}
+use Rattle.state.specs.declared.Pool.{Pool}
+use Rattle.client.specs.Client.{freshPool, extendTurn, removeTurn, writeTurn, answerTurn}
+use Rattle.events.specs.Events.{Event, turnOf, next, isAccepted}
 use Rattle.events.specs.Demand1.{Verdict}
 use Rattle.events.specs.Demand2.{Reached}
 use Rattle.events.specs.Said.{Accepts, countOf, membersOf, versionOf, reported}
@@ -40,27 +40,27 @@ use Rattle.events.proofs.Demand1.{demand-1}
 
 -- ---- histories
 
-abbrev after : List Event → Client → Client
+abbrev after : List Event → Pool → Pool
 after [] c = c
 after (e ∷ es) c = after es (next e c)
 
 -- every event of it is accepted
-abbrev accepted : List Event → Client → Bool
+abbrev accepted : List Event → Pool → Bool
 accepted [] c = true
-accepted (e ∷ es) c = isAccepted (outOf e c .answer) && accepted es (next e c)
+accepted (e ∷ es) c = isAccepted (turnOf e c .answer) && accepted es (next e c)
 
 -- So each is an accepted event at a reached client.
-accepts : (es : List Event) (e : Event) (rest : List Event) (c : Client) → Reached c → accepted (es ++ (e ∷ rest)) c ≡ true → Accepts (after es c) e
-accepts [] e rest c r d = record { reached = r; done = and-left (isAccepted (outOf e c .answer)) (accepted rest (next e c)) d }
-accepts (f ∷ es) e rest c r d = accepts es e rest (next f c) (Reached.then c f r) (and-right (isAccepted (outOf f c .answer)) (accepted (es ++ (e ∷ rest)) (next f c)) d)
+accepts : (es : List Event) (e : Event) (rest : List Event) (c : Pool) → Reached c → accepted (es ++ (e ∷ rest)) c ≡ true → Accepts (after es c) e
+accepts [] e rest c r d = record { reached = r; done = and-left (isAccepted (turnOf e c .answer)) (accepted rest (next e c)) d }
+accepts (f ∷ es) e rest c r d = accepts es e rest (next f c) (Reached.then c f r) (and-right (isAccepted (turnOf f c .answer)) (accepted (es ++ (e ∷ rest)) (next f c)) d)
 
 -- ---- three members
 
 abbrev zeros : List ℕ
 zeros = replicate 8192 0
 
-abbrev pool : Client
-pool = fresh false 4096
+abbrev pool : Pool
+pool = freshPool false 4096
 
 abbrev good : ℕ → Event
 good number = Event.answer zeros number (Reply.Good Brought.Nothing)
@@ -111,10 +111,10 @@ Left = ℕ × ℕ × ℕ × ℕ × ℕ
 abbrev left-by : List Event → Left
 left-by es = (
   versionOf (after es pool),
-  idsOf Kind.Normals (after es pool .pool .roster),
-  idsOf Kind.Marked (after es pool .pool .roster),
-  idsOf Kind.Maintained (after es pool .pool .roster),
-  idsOf Kind.Present (after es pool .pool .roster),
+  idsOf Kind.Normals (after es pool .roster),
+  idsOf Kind.Marked (after es pool .roster),
+  idsOf Kind.Maintained (after es pool .roster),
+  idsOf Kind.Present (after es pool .roster),
 )
 
 worked :
@@ -130,11 +130,11 @@ worked :
     × (accepted tight pool ≡ true)
     × (left-by tight ≡ (2 ^ 63 - 33, 65535, 0, 0, 65535))
     × (versionOf (after tight pool) + countOf (after tight pool) ≡ versionTop)
-    × (validPool (after tight pool .pool) ≡ true)
+    × (validPool (after tight pool) ≡ true)
     × (accepted rejoins pool ≡ true)
     × (left-by rejoins ≡ (3, 7, 0, 0, 7))
     × (accepted misses pool ≡ true)
-    × (outOf (Event.rejoin 0) (after misses pool) .answer ≡ Answer.Refused 9)
+    × (turnOf (Event.rejoin 0) (after misses pool) .answer ≡ Answer.Refused 9)
 unfolding bit has with without size lowest sound cleanFrom spare room idsOf entered left failed went removing run.receiver run.failedAnswer run.good run.awaitedIn possible cases.caseOf cases.begun posted tried rosterOk allAsked oneAsked runOk validPool joinTold createRefusal created createDone joinCreate setBars assembleRefusal assembled assembleDone joinAssemble enables enableRefusal enableDone enable maintenanceRefusal maintenanceDone maintenance drops downRefusal dropped downDone linkDown checks checkRefusal checkDone storeCheck rejoinRefusal rejoin reachBars writeRefusal missStep missed marks writeDone writeEnded due freedFrom onward departed started removeRefusal remove answerRefusal movedOn answer removeTurn writeTurn answerTurn
 worked = (refl, refl, refl, refl, refl, refl, refl, refl, refl, refl, refl, refl, refl, refl, refl, refl, refl)
 
@@ -156,21 +156,21 @@ sixteen =
 
 -- With 0, 1 and 2 there the lowest unused id is 3; with 1 deleted it is 1, and the leg becomes NORMAL. With sixteen legs extend is 19, and nothing changes.
 extends :
-    (reported (outOf (Event.extend zeros) (after three pool) .answer) ≡ Outcome.Picked 3)
-    × (reported (outOf (Event.extend zeros) (after deleted pool) .answer) ≡ Outcome.Picked 1)
+    (reported (turnOf (Event.extend zeros) (after three pool) .answer) ≡ Outcome.Picked 3)
+    × (reported (turnOf (Event.extend zeros) (after deleted pool) .answer) ≡ Outcome.Picked 1)
     × (accepted again pool ≡ true)
     × (left-by again ≡ (3, 7, 0, 0, 7))
     × (membersOf (after again pool) ≡ 7)
-    × (outOf (Event.extend zeros) (after sixteen pool) .answer ≡ Answer.Refused 19)
+    × (turnOf (Event.extend zeros) (after sixteen pool) .answer ≡ Answer.Refused 19)
 unfolding bit has with without size lowest sound cleanFrom spare room idsOf entered left failed went removing run.receiver run.failedAnswer run.good run.awaitedIn possible cases.caseOf cases.begun posted tried rosterOk allAsked oneAsked runOk validPool joinTold createRefusal created createDone joinCreate enables enableRefusal enableDone enable due freedFrom onward departed started removeRefusal remove answerRefusal movedOn answer removeTurn answerTurn picked extendRefusal extended extendDone extend extendTurn
 extends = (refl, refl, refl, refl, refl, refl)
 
 -- a refusal changes nothing
-unchanged : (e : Event) (c : Client) (n : ℕ) → outOf e c .answer ≡ Answer.Refused n → next e c ≡ c
+unchanged : (e : Event) (c : Pool) (n : ℕ) → turnOf e c .answer ≡ Answer.Refused n → next e c ≡ c
 unchanged e c n q = at (demand-1 e c)
   where
     at : Verdict e c → next e c ≡ c
-    at (Verdict.refused m p h) = h .client
+    at (Verdict.refused m p h) = h .pool
     at (Verdict.done s p h) = let z : Answer.Done s ≡ Answer.Refused n = sym p ∙ q in cc z
 
 -- with sixteen legs

@@ -13,7 +13,7 @@ use Rattle.roster.specs.Roster.{idsOf}
 use Rattle.rules.specs.Rules.{rosterOk}
 use Rattle.keeps.specs.Pools.{Valid}
 use Rattle.keeps.specs.Rosters.{ok-facts}
-use Rattle.client.specs.Client.{fresh}
+use Rattle.client.specs.Client.{freshPool}
 
 -- ---- a fresh client keeps the rules
 
@@ -25,7 +25,7 @@ unfolding rosterOk idsOf size has bit
 fresh-ok true = refl
 fresh-ok false = refl
 
-pub fresh-valid : (sync : Bool) (chunks : ℕ) → 1 ≤ chunks → chunks ≤ chunkLimit → Valid (fresh sync chunks .pool)
+pub fresh-valid : (sync : Bool) (chunks : ℕ) → 1 ≤ chunks → chunks ≤ chunkLimit → Valid (freshPool sync chunks)
 fresh-valid sync chunks a b = record { some = a; most = b; ok = ok-facts (freshRoster sync) refl (fresh-ok sync); job = refl }
 
 -- ---- every event

@@ -34,9 +34,9 @@ use Rattle.writes.specs.Writes.{writeRefusal, writeEnded, marks, writeDone, syn
 use Rattle.answers.proofs.Kept.{answer-keeps}
 use Rattle.answers.specs.Answers.{answerRefusal, answered, answer, awaits}
 use Rattle.client.specs.Client.{carried, soundFor, extendTurn, removeTurn, writeTurn, answerTurn, syncedTurn, cleanTo}
-use Rattle.client.specs.declared.Client.{Client}
+use Rattle.state.specs.declared.Pool.{Pool}
 use Rattle.events.specs.Demand2.{Kept, soundLent}
-use Rattle.events.specs.Events.{Event, turnOf, isAccepted, Lent, lentTo, mapLeft, testsOf, outOf, next, stateOf, keeps, concerns, partOf, touches, raises, isAnswer, isDown}
+use Rattle.events.specs.Events.{Event, turnOf, isAccepted, Lent, lentTo, mapLeft, testsOf, next, stateOf, keeps, concerns, partOf, touches, raises, isAnswer, isDown}
 use Rattle.events.specs.Said.{membersOf, frees, takesOut}
 use Rattle.extending.proofs.Kept.{extend-keeps}
 use Rattle.extending.specs.Extending.{picked, extendRefusal, extend, extendDone}
@@ -53,36 +53,36 @@ use Rattle.events.proofs.Versions.{Level, as-was, create-level, enable-
 -- does, same, plain: an event is what it does where nothing refuses it, else it is refused by the first that applies. one, six: what its first and sixth test say. rules: the
 -- state rules. count: the chunk count. touch, same-map, left: the lent map. others, fate: the sessions that it is not about, and those that it is. level, loud: the version.
 -- freeing, stays, taking: its part in a removal. tries: a run that is in hand after it is one that recovery tried began.
-pub record Law (e : Event) (c : Client) : Type 0 where
+pub record Law (e : Event) (c : Pool) : Type 0 where
   pub does : Turn
-  pub same : turnOf e c ≡ pick (eqb (whyNot e c) 0) does (refused (c .pool) (whyNot e c))
+  pub same : turnOf e c ≡ pick (eqb (whyNot e c) 0) does (refused c (whyNot e c))
   pub plain : whyNot e c ≡ 0 → isAccepted (does .answer) ≡ true
-  pub one : applies 1 (testsOf e c) ≡ not (validPool (c .pool))
-  pub six : (r : Run) → c .pool .job ≡ Job.Running r → isAnswer e ≡ false → isDown e ≡ false → applies 6 (testsOf e c) ≡ true
-  pub rules : Valid (c .pool) → Valid (next e c .pool)
-  pub count : next e c .pool .chunks ≡ c .pool .chunks
-  pub touch : Valid (c .pool) → touches e c (next e c .pool .roster) (turnOf e c .effect) ≡ true
+  pub one : applies 1 (testsOf e c) ≡ not (validPool c)
+  pub six : (r : Run) → c .job ≡ Job.Running r → isAnswer e ≡ false → isDown e ≡ false → applies 6 (testsOf e c) ≡ true
+  pub rules : Valid c → Valid (next e c)
+  pub count : next e c .chunks ≡ c .chunks
+  pub touch : Valid c → touches e c (next e c .roster) (turnOf e c .effect) ≡ true
   pub same-map : turnOf e c .effect ≡ Effect.Keep → mapLeft e c ≡ lentTo e
-  pub left : Valid (c .pool) → soundLent (c .pool .chunks) (lentTo e) ≡ true → soundLent (c .pool .chunks) (mapLeft e c) ≡ true
-  pub others : (j : ℕ) → Valid (c .pool) → concerns e c j ≡ false → Kept c (next e c) j
-  pub fate : (j : ℕ) → Valid (c .pool) → concerns e c j ≡ true → Fate c e (next e c) j
-  pub level : Valid (c .pool) → raises e ≡ false → Level c (next e c .pool)
-  pub loud : Valid (c .pool) → raises e ≡ true → Loud e c
-  pub freeing : Valid (c .pool) → isAccepted (outOf e c .answer) ≡ true → isPart (partOf e c) ≡ true → (id : ℕ) → isFree (stateOf c id) ≡ false → isFree (stateOf (next e c) id) ≡ frees (partOf e c) c id
-  pub stays : Valid (c .pool) → isPart (partOf e c) ≡ false → (id : ℕ) → has (membersOf c) id ≡ true → has (membersOf (next e c)) id ≡ true
-  pub taking : Valid (c .pool) → isAccepted (outOf e c .answer) ≡ true → isPart (partOf e c) ≡ true → (id : ℕ) → has (membersOf c) id ≡ true → has (membersOf (next e c)) id ≡ not (takesOut (partOf e c) c id)
-  pub tries : isAnswer e ≡ false → isAccepted (outOf e c .answer) ≡ true → Tries (c .pool) (turnOf e c)
+  pub left : Valid c → soundLent (c .chunks) (lentTo e) ≡ true → soundLent (c .chunks) (mapLeft e c) ≡ true
+  pub others : (j : ℕ) → Valid c → concerns e c j ≡ false → Kept c (next e c) j
+  pub fate : (j : ℕ) → Valid c → concerns e c j ≡ true → Fate c e (next e c) j
+  pub level : Valid c → raises e ≡ false → Level c (next e c)
+  pub loud : Valid c → raises e ≡ true → Loud e c
+  pub freeing : Valid c → isAccepted (turnOf e c .answer) ≡ true → isPart (partOf e c) ≡ true → (id : ℕ) → isFree (stateOf c id) ≡ false → isFree (stateOf (next e c) id) ≡ frees (partOf e c) c id
+  pub stays : Valid c → isPart (partOf e c) ≡ false → (id : ℕ) → has (membersOf c) id ≡ true → has (membersOf (next e c)) id ≡ true
+  pub taking : Valid c → isAccepted (turnOf e c .answer) ≡ true → isPart (partOf e c) ≡ true → (id : ℕ) → has (membersOf c) id ≡ true → has (membersOf (next e c)) id ≡ not (takesOut (partOf e c) c id)
+  pub tries : isAnswer e ≡ false → isAccepted (turnOf e c .answer) ≡ true → Tries c (turnOf e c)
 
-pub law : (e : Event) (c : Client) → Law e c
+pub law : (e : Event) (c : Pool) → Law e c
 unfolding joinCreate createRefusal createDone extend extendRefusal extendDone extendTurn joinAssemble assembleRefusal assembleDone enable enableRefusal enableDone maintenance maintenanceRefusal maintenanceDone linkDown downRefusal downDone storeCheck checkRefusal checkDone rejoin rejoinRefusal tryRun tryRefusal remove removeRefusal removeTurn writeEnded writeRefusal writeDone marks writeTurn synced syncRefusal syncDone syncedTurn answer answerRefusal answerTurn
 law (Event.joinCreate id) c =
     record {
-      does = createDone (c .pool) id;
+      does = createDone c id;
       same = refl;
       plain = λ e. refl;
       one = refl;
       six = λ r q a d. ap (λ (j : Job). not (isIdle j)) q;
-      rules = create-keeps (c .pool) id;
+      rules = create-keeps c id;
       count = create-count id c;
       touch = create-touches id c;
       same-map = λ q. refl;
@@ -98,12 +98,12 @@ law (Event.joinCreate id) c =
     }
 law (Event.joinAssemble id set version) c =
     record {
-      does = assembleDone (c .pool) id set version;
+      does = assembleDone c id set version;
       same = refl;
       plain = λ e. refl;
       one = refl;
       six = λ r q a d. ap (λ (j : Job). not (isIdle j)) q;
-      rules = assemble-keeps (c .pool) id set version;
+      rules = assemble-keeps c id set version;
       count = assemble-count id set version c;
       touch = assemble-touches id set version c;
       same-map = λ q. refl;
@@ -119,12 +119,12 @@ law (Event.joinAssemble id set version) c =
     }
 law (Event.enable id) c =
     record {
-      does = enableDone (c .pool) id;
+      does = enableDone c id;
       same = refl;
-      plain = λ e. either (λ (t : Turn). isAccepted (t .answer) ≡ true) (isCreated (sessionAt (c .pool .roster) id .state)) _ _ refl refl;
+      plain = λ e. either (λ (t : Turn). isAccepted (t .answer) ≡ true) (isCreated (sessionAt (c .roster) id .state)) _ _ refl refl;
       one = refl;
       six = λ r q a d. ap (λ (j : Job). not (isIdle j)) q;
-      rules = enable-keeps (c .pool) id;
+      rules = enable-keeps c id;
       count = enable-count id c;
       touch = enable-touches id c;
       same-map = λ q. refl;
@@ -140,18 +140,18 @@ law (Event.enable id) c =
     }
 law (Event.maintenance id) c =
     record {
-      does = maintenanceDone (c .pool) id;
+      does = maintenanceDone c id;
       same = refl;
       plain = λ e. refl;
       one = refl;
       six = λ r q a d. ap (λ (j : Job). not (isIdle j)) q;
-      rules = maintenance-keeps (c .pool) id;
+      rules = maintenance-keeps c id;
       count = maintenance-count id c;
       touch = maintenance-touches id c;
       same-map = λ q. refl;
       left = λ v s. refl;
       others = maintenance-others id c;
-      fate = λ j v n. rw (eqb-true j id n) (maintenance-fate c id v (maintenance-keeps (c .pool) id v));
+      fate = λ j v n. rw (eqb-true j id n) (maintenance-fate c id v (maintenance-keeps c id v));
       level = λ v f. clash refl f;
       loud = λ v f. loud-of (Event.maintenance id) c (maintenance-rises id c v);
       freeing = λ v d p id was. clash p refl;
@@ -161,18 +161,18 @@ law (Event.maintenance id) c =
     }
 law (Event.linkDown id) c =
     record {
-      does = downDone (c .pool) id;
+      does = downDone c id;
       same = refl;
-      plain = λ e. down-done (c .pool .job) (c .pool) id;
+      plain = λ e. down-done (c .job) c id;
       one = refl;
       six = λ r q a d. clash refl d;
-      rules = down-keeps (c .pool) id;
+      rules = down-keeps c id;
       count = down-count id c;
       touch = down-touches id c;
       same-map = λ q. refl;
       left = λ v s. refl;
       others = down-others id c;
-      fate = λ j v n. rw (eqb-true j id n) (down-fate c id v (down-keeps (c .pool) id v));
+      fate = λ j v n. rw (eqb-true j id n) (down-fate c id v (down-keeps c id v));
       level = λ v f. clash refl f;
       loud = λ v f. loud-of (Event.linkDown id) c (down-rises id c v);
       freeing = λ v d p id was. clash p refl;
@@ -182,12 +182,12 @@ law (Event.linkDown id) c =
     }
 law (Event.storeCheck id) c =
     record {
-      does = checkDone (c .pool) id;
+      does = checkDone c id;
       same = refl;
-      plain = λ e. either (λ (t : Turn). isAccepted (t .answer) ≡ true) (c .pool .roster .sync) _ _ refl refl;
+      plain = λ e. either (λ (t : Turn). isAccepted (t .answer) ≡ true) (c .roster .sync) _ _ refl refl;
       one = refl;
       six = λ r q a d. ap (λ (j : Job). not (isIdle j)) q;
-      rules = check-keeps (c .pool) id;
+      rules = check-keeps c id;
       count = check-count id c;
       touch = check-touches id c;
       same-map = λ q. refl;
@@ -203,33 +203,33 @@ law (Event.storeCheck id) c =
     }
 law (Event.rejoin id) c =
     record {
-      does = checkDone (c .pool) id;
+      does = checkDone c id;
       same = refl;
-      plain = λ e. either (λ (t : Turn). isAccepted (t .answer) ≡ true) (c .pool .roster .sync) _ _ refl refl;
+      plain = λ e. either (λ (t : Turn). isAccepted (t .answer) ≡ true) (c .roster .sync) _ _ refl refl;
       one = refl;
       six = λ r q a d. ap (λ (j : Job). not (isIdle j)) q;
-      rules = rejoin-keeps (c .pool) id;
-      count = as-check (λ t. t .pool .chunks ≡ c .pool .chunks) (c .pool) id (λ n. refl) (check-count id c);
-      touch = λ v. as-check (λ t. keeps (t .effect) ≡ true) (c .pool) id (λ n. refl) (check-touches id c v);
+      rules = rejoin-keeps c id;
+      count = as-check (λ t. t .pool .chunks ≡ c .chunks) c id (λ n. refl) (check-count id c);
+      touch = λ v. as-check (λ t. keeps (t .effect) ≡ true) c id (λ n. refl) (check-touches id c v);
       same-map = λ q. refl;
       left = λ v s. refl;
-      others = λ j v f. as-check (λ t. Kept c (record { pool = t .pool }) j) (c .pool) id (λ n. Kept.equal refl) (check-others id c j v f);
+      others = λ j v f. as-check (λ t. Kept c (t .pool) j) c id (λ n. Kept.equal refl) (check-others id c j v f);
       fate = λ j v n. rw (eqb-true j id n) (rejoin-fate c id v);
-      level = λ v f. as-check (λ t. Level c (t .pool)) (c .pool) id (λ n. as-was c (c .pool) refl) (check-level id c v f);
+      level = λ v f. as-check (λ t. Level c (t .pool)) c id (λ n. as-was c c refl) (check-level id c v f);
       loud = λ v f. clash f refl;
       freeing = λ v d p id was. clash p refl;
-      stays = λ v p j was. as-check (λ t. has (t .pool .roster .members) j ≡ true) (c .pool) id (λ n. was) (check-stays id c v p j was);
+      stays = λ v p j was. as-check (λ t. has (t .pool .roster .members) j ≡ true) c id (λ n. was) (check-stays id c v p j was);
       taking = λ v d p id was. clash p refl;
-      tries = λ a d. as-check (λ t. isAccepted (t .answer) ≡ true → Tries (c .pool) t) (c .pool) id (λ n z. clash z refl) (λ z. check-trial id c a z) d;
+      tries = λ a d. as-check (λ t. isAccepted (t .answer) ≡ true → Tries c t) c id (λ n z. clash z refl) (λ z. check-trial id c a z) d;
     }
 law Event.tryRun c =
     record {
-      does = triedAfter (c .pool) (c .pool) Outcome.Plain Told.Nothing;
+      does = triedAfter c c Outcome.Plain Told.Nothing;
       same = refl;
       plain = λ e. refl;
       one = refl;
       six = λ r q a d. ap (λ (j : Job). not (isIdle j)) q;
-      rules = try-keeps (c .pool);
+      rules = try-keeps c;
       count = try-count c;
       touch = try-touches c;
       same-map = λ q. refl;
@@ -245,16 +245,16 @@ law Event.tryRun c =
     }
 law (Event.remove xs id mode) c =
     record {
-      does = gone (c .pool) (removeBegun (c .pool) id mode);
+      does = gone c (removeBegun c id mode);
       same = refl;
       plain = λ e. refl;
       one = refl;
       six = λ r q a d. ap (λ (j : Job). not (isIdle j)) q;
-      rules = remove-keeps (c .pool) (soundFor (c .pool) xs) id mode;
+      rules = remove-keeps c (soundFor c xs) id mode;
       count = remove-count xs id mode c;
       touch = remove-touches xs id mode c;
       same-map = ap (λ (ef : Effect). Lent.some (carried ef xs));
-      left = λ v s. left-sound (c .pool .chunks) (removeTurn (c .pool) xs id mode .effect) xs (removal-inside (c .pool .chunks) id (isDelete mode) (next (Event.remove xs id mode) c .pool .roster) (removeTurn (c .pool) xs id mode .effect) (remove-touches xs id mode c v)) s;
+      left = λ v s. left-sound (c .chunks) (removeTurn c xs id mode .effect) xs (removal-inside (c .chunks) id (isDelete mode) (next (Event.remove xs id mode) c .roster) (removeTurn c xs id mode .effect) (remove-touches xs id mode c v)) s;
       others = remove-others xs id mode c;
       fate = λ j v n. rw (eqb-true j id n) (remove-fate c xs id mode v);
       level = λ v f. clash refl f;
@@ -266,16 +266,16 @@ law (Event.remove xs id mode) c =
     }
 law (Event.write xs chunk reached) c =
     record {
-      does = writeDone (c .pool) chunk reached;
+      does = writeDone c chunk reached;
       same = refl;
       plain = λ e. either (λ (t : Turn). isAccepted (t .answer) ≡ true) (eqb reached 0) _ _ refl refl;
       one = refl;
       six = λ r q a d. ap isRunning q;
-      rules = write-keeps (c .pool) (soundFor (c .pool) xs) chunk reached;
+      rules = write-keeps c (soundFor c xs) chunk reached;
       count = write-count xs chunk reached c;
       touch = write-touches xs chunk reached c;
       same-map = ap (λ (ef : Effect). Lent.some (carried ef xs));
-      left = λ v s. left-sound (c .pool .chunks) (writeTurn (c .pool) xs chunk reached .effect) xs (write-inside c xs chunk reached) s;
+      left = λ v s. left-sound (c .chunks) (writeTurn c xs chunk reached .effect) xs (write-inside c xs chunk reached) s;
       others = write-others xs chunk reached c;
       fate = write-fate c xs chunk reached;
       level = λ v f. clash refl f;
@@ -287,12 +287,12 @@ law (Event.write xs chunk reached) c =
     }
 law (Event.synced xs member chunk) c =
     record {
-      does = syncDone (c .pool) member chunk;
+      does = syncDone c member chunk;
       same = refl;
       plain = λ e. refl;
       one = refl;
       six = λ r q a d. ap isRunning q;
-      rules = synced-keeps (c .pool) (soundFor (c .pool) xs) member chunk (cleanTo xs chunk 16);
+      rules = synced-keeps c (soundFor c xs) member chunk (cleanTo xs chunk 16);
       count = synced-count xs member chunk c;
       touch = synced-touches xs member chunk c;
       same-map = λ q. refl;
@@ -308,16 +308,16 @@ law (Event.synced xs member chunk) c =
     }
 law (Event.answer xs number a) c =
     record {
-      does = answered (c .pool .job) (c .pool) a;
+      does = answered (c .job) c a;
       same = refl;
-      plain = λ e. let w : awaits (c .pool) number ≡ true = not-false (awaits (c .pool) number) (none-applies (testsOf (Event.answer xs number a) c) e 13 refl) in answer-done (c .pool .job) (c .pool) a (off (isIdle (c .pool .job)) (and-left (not (isIdle (c .pool .job))) (eqb number (c .pool .number)) w));
+      plain = λ e. let w : awaits c number ≡ true = not-false (awaits c number) (none-applies (testsOf (Event.answer xs number a) c) e 13 refl) in answer-done (c .job) c a (off (isIdle (c .job)) (and-left (not (isIdle (c .job))) (eqb number (c .number)) w));
       one = refl;
       six = λ r q a d. clash refl a;
-      rules = answer-keeps (c .pool) (soundFor (c .pool) xs) number a;
+      rules = answer-keeps c (soundFor c xs) number a;
       count = answer-count xs number a c;
       touch = answer-touches xs number a c;
       same-map = ap (λ (ef : Effect). Lent.some (carried ef xs));
-      left = λ v s. left-sound (c .pool .chunks) (answerTurn (c .pool) xs number a .effect) xs (answer-inside (c .pool .job) (c .pool .chunks) c (next (Event.answer xs number a) c .pool .roster) (answerTurn (c .pool) xs number a .effect) (answer-touches xs number a c v)) s;
+      left = λ v s. left-sound (c .chunks) (answerTurn c xs number a .effect) xs (answer-inside (c .job) (c .chunks) c (next (Event.answer xs number a) c .roster) (answerTurn c xs number a .effect) (answer-touches xs number a c v)) s;
       others = answer-others xs number a c;
       fate = answer-fate c xs number a;
       level = λ v f. clash refl f;
@@ -329,18 +329,18 @@ law (Event.answer xs number a) c =
     }
 law (Event.extend xs) c =
     record {
-      does = extendDone (c .pool) (picked (c .pool .roster));
+      does = extendDone c (picked (c .roster));
       same = refl;
       plain = λ e. refl;
       one = refl;
       six = λ r q a d. ap (λ (j : Job). not (isIdle j)) q;
-      rules = extend-keeps (c .pool) (soundFor (c .pool) xs);
+      rules = extend-keeps c (soundFor c xs);
       count = extend-count xs c;
       touch = extend-touches xs c;
       same-map = ap (λ (ef : Effect). Lent.some (carried ef xs));
-      left = λ v s. left-sound (c .pool .chunks) (extendTurn (c .pool) xs .effect) xs (extend-inside xs c) s;
+      left = λ v s. left-sound (c .chunks) (extendTurn c xs .effect) xs (extend-inside xs c) s;
       others = extend-others xs c;
-      fate = λ j v n. rw (eqb-true j (picked (c .pool .roster)) n) (extend-fate c xs v);
+      fate = λ j v n. rw (eqb-true j (picked (c .roster)) n) (extend-fate c xs v);
       level = extend-level xs c;
       loud = λ v f. clash f refl;
       freeing = λ v d p id was. clash p refl;

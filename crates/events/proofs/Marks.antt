@@ -21,7 +21,7 @@ use Rattle.keeps.specs.Links.{counted}
 use Rattle.keeps.specs.Pools.{Valid}
 use Rattle.keeps.specs.Records.{normal-below, placed}
 use Rattle.keeps.specs.Rosters.{count-is}
-use Rattle.client.specs.declared.Client.{Client}
+use Rattle.state.specs.declared.Pool.{Pool}
 use Rattle.events.specs.Demand2.{Kept}
 use Rattle.events.specs.Events.{Event, stateOf, isSync, recordOf}
 use Rattle.events.specs.Said.{countOf, markOf, flagOf, bears, lastNormal}
@@ -38,31 +38,31 @@ and-swap false false = refl
 -- ---- by the state rules
 
 -- past the end there is no session
-past : (c : Client) (id : ℕ) → Valid (c .pool) → (id < 16 → ⊥) → recordOf c id ≡ free
-past c id v n = List·getD-eq-default (c .pool .roster .sessions) free (let l = v .ok .long in omega (arith, n))
+past : (c : Pool) (id : ℕ) → Valid c → (id < 16 → ⊥) → recordOf c id ≡ free
+past c id v n = List·getD-eq-default (c .roster .sessions) free (let l = v .ok .long in omega (arith, n))
 
 -- mark and flag stand on FAILED and RECONNECTING only
-pub borne : (c : Client) (id : ℕ) → Valid (c .pool) → (markOf c id ≡ (markOf c id && bears (stateOf c id))) × (flagOf c id ≡ (flagOf c id && bears (stateOf c id)))
+pub borne : (c : Pool) (id : ℕ) → Valid c → (markOf c id ≡ (markOf c id && bears (stateOf c id))) × (flagOf c id ≡ (flagOf c id && bears (stateOf c id)))
 borne c id v = elim (decLt id 16) [
-  | yes h ↦ placed (c .pool .roster) (v .ok) id h
+  | yes h ↦ placed (c .roster) (v .ok) id h
   | no n ↦ let e = past c id v n in (ap (λ (s : Session). s .mark) e ∙ sym (ap (λ (s : Session). s .mark && bears (s .state)) e), ap (λ (s : Session). s .maintenance) e ∙ sym (ap (λ (s : Session). s .maintenance && bears (s .state)) e))
 ]
 
 -- no session, no mark and no flag
-nobodys : (c : Client) (id : ℕ) → Valid (c .pool) → stateOf c id ≡ State.Free → (markOf c id ≡ false) × (flagOf c id ≡ false)
+nobodys : (c : Pool) (id : ℕ) → Valid c → stateOf c id ≡ State.Free → (markOf c id ≡ false) × (flagOf c id ≡ false)
 nobodys c id v st = (borne c id v .0 ∙ rw st (and-false (markOf c id)), borne c id v .1 ∙ rw st (and-false (flagOf c id)))
 
 -- where the count is 0 nobody is NORMAL
-none-normal : (c : Client) → Valid (c .pool) → isSync c ≡ false → countOf c ≡ 0 → (id : ℕ) → isNormal (stateOf c id) ≡ false
+none-normal : (c : Pool) → Valid c → isSync c ≡ false → countOf c ≡ 0 → (id : ℕ) → isNormal (stateOf c id) ≡ false
 none-normal c v plain z id =
     by-cases (isNormal (stateOf c id))
-    (λ n. let k = counted (c .pool .roster) id (v .ok) (normal-below (c .pool .roster) id (v .ok .long) n) plain n in absurd (let y : ⊥ = omega (arith, k, z) in y))
+    (λ n. let k = counted (c .roster) id (v .ok) (normal-below (c .roster) id (v .ok .long) n) plain n in absurd (let y : ⊥ = omega (arith, k, z) in y))
     (λ n. n)
 
 -- where it is not, nobody is marked
-none-marked : (c : Client) → Valid (c .pool) → isSync c ≡ false → eqb (countOf c) 0 ≡ false → (id : ℕ) → markOf c id ≡ false
+none-marked : (c : Pool) → Valid c → isSync c ≡ false → eqb (countOf c) 0 ≡ false → (id : ℕ) → markOf c id ≡ false
 none-marked c v plain some id = elim (decLt id 16) [
-  | yes h ↦ ids-none Kind.Marked (c .pool .roster) (v .ok .long) none id h
+  | yes h ↦ ids-none Kind.Marked (c .roster) (v .ok .long) none id h
   | no n ↦ ap (λ (s : Session). s .mark) (past c id v n)
 ]
   where
@@ -70,22 +70,22 @@ none-marked c v plain some id = elim (decLt id 16) [
     either true b e f = refl
     either false b e f = clash e f
 
-    normals : eqb (idsOf Kind.Normals (c .pool .roster)) 0 ≡ false
+    normals : eqb (idsOf Kind.Normals (c .roster)) 0 ≡ false
     normals =
-        by-cases (eqb (idsOf Kind.Normals (c .pool .roster)) 0)
-        (λ e. absurd (eqb-false (countOf c) 0 some (count-is (c .pool .roster) (v .ok) plain ∙ (ap size (eqb-true (idsOf Kind.Normals (c .pool .roster)) 0 e) ∙ size-zero))))
+        by-cases (eqb (idsOf Kind.Normals (c .roster)) 0)
+        (λ e. absurd (eqb-false (countOf c) 0 some (count-is (c .roster) (v .ok) plain ∙ (ap size (eqb-true (idsOf Kind.Normals (c .roster)) 0 e) ∙ size-zero))))
         (λ e. e)
 
-    none : idsOf Kind.Marked (c .pool .roster) ≡ 0
-    none = eqb-true (idsOf Kind.Marked (c .pool .roster)) 0 (either (eqb (idsOf Kind.Marked (c .pool .roster)) 0) (eqb (idsOf Kind.Normals (c .pool .roster)) 0) (v .ok .no-mark) normals)
+    none : idsOf Kind.Marked (c .roster) ≡ 0
+    none = eqb-true (idsOf Kind.Marked (c .roster)) 0 (either (eqb (idsOf Kind.Marked (c .roster)) 0) (eqb (idsOf Kind.Normals (c .roster)) 0) (v .ok .no-mark) normals)
 
 -- ---- the mark
 
 -- a record that is now s
-mark-is : (c : Client) (id : ℕ) (s : Session) (b : Bool) → recordOf c id ≡ s → s .mark ≡ (bears (s .state) && b) → markOf c id ≡ (bears (stateOf c id) && b)
+mark-is : (c : Pool) (id : ℕ) (s : Session) (b : Bool) → recordOf c id ≡ s → s .mark ≡ (bears (s .state) && b) → markOf c id ≡ (bears (stateOf c id) && b)
 mark-is c id s b r e = ap (λ (s : Session). s .mark) r ∙ (e ∙ sym (ap (λ (s : Session). bears (s .state) && b) r))
 
-module _ (c : Client) (e : Event) (c′ : Client) (id : ℕ) (v : Valid (c .pool)) (v′ : Valid (c′ .pool)) (plain : isSync c ≡ false) (plain′ : isSync c′ ≡ false) (over : countOf c′ ≡ 0) where
+module _ (c : Pool) (e : Event) (c′ : Pool) (id : ℕ) (v : Valid c) (v′ : Valid c′) (plain : isSync c ≡ false) (plain′ : isSync c′ ≡ false) (over : countOf c′ ≡ 0) where
   -- nobody was NORMAL before
   mark-stays : countOf c ≡ 0 → Fate c e c′ id → markOf c′ id ≡ (bears (stateOf c′ id) && markOf c id)
   mark-stays z (Fate.kept (Kept.equal r)) = mark-is c′ id _ (markOf c id) r (borne c id v .0 ∙ and-swap (markOf c id) (bears (stateOf c id)))
@@ -122,7 +122,7 @@ module _ (c : Client) (e : Event) (c′ : Client) (id : ℕ) (v : Valid (c .pool
   mark-appears z (Fate.extends xs x p st r) = mark-is c′ id _ (lastNormal c id) r (rw st refl)
 
 -- The mark after an event, by the fate of the session.
-pub mark-after : (c : Client) (e : Event) (c′ : Client) (id : ℕ) → Valid (c .pool) → Valid (c′ .pool) → isSync c ≡ false → isSync c′ ≡ false → Fate c e c′ id
+pub mark-after : (c : Pool) (e : Event) (c′ : Pool) (id : ℕ) → Valid c → Valid c′ → isSync c ≡ false → isSync c′ ≡ false → Fate c e c′ id
     → markOf c′ id ≡ (eqb (countOf c′) 0 && (bears (stateOf c′ id) && pick (eqb (countOf c) 0) (markOf c id) (lastNormal c id)))
 mark-after c e c′ id v v′ plain plain′ f =
     by-cases (eqb (countOf c′) 0)
@@ -134,10 +134,10 @@ mark-after c e c′ id v v′ plain plain′ f =
 
 -- ---- the flag
 
-flag-is : (c : Client) (id : ℕ) (s : Session) (b : Bool) → recordOf c id ≡ s → s .maintenance ≡ (b && bears (s .state)) → flagOf c id ≡ (b && bears (stateOf c id))
+flag-is : (c : Pool) (id : ℕ) (s : Session) (b : Bool) → recordOf c id ≡ s → s .maintenance ≡ (b && bears (s .state)) → flagOf c id ≡ (b && bears (stateOf c id))
 flag-is c id s b r e = ap (λ (s : Session). s .maintenance) r ∙ (e ∙ sym (ap (λ (s : Session). b && bears (s .state)) r))
 
-pub flag-after : (c : Client) (e : Event) (c′ : Client) (id : ℕ) → Valid (c .pool) → e ≢ Event.maintenance id → e ≢ Event.enable id → Fate c e c′ id → flagOf c′ id ≡ (flagOf c id && bears (stateOf c′ id))
+pub flag-after : (c : Pool) (e : Event) (c′ : Pool) (id : ℕ) → Valid c → e ≢ Event.maintenance id → e ≢ Event.enable id → Fate c e c′ id → flagOf c′ id ≡ (flagOf c id && bears (stateOf c′ id))
 flag-after c e c′ id v m n (Fate.kept (Kept.equal r)) = flag-is c′ id _ (flagOf c id) r (borne c id v .1)
 flag-after c e c′ id v m n (Fate.kept (Kept.cleared r w)) = flag-is c′ id _ (flagOf c id) r (borne c id v .1)
 flag-after c e c′ id v m n (Fate.begins x st r) = flag-is c′ id _ (flagOf c id) r (rw (nobodys c id v st .1) refl)

@@ -34,8 +34,7 @@ use Rattle.enables.proofs.Kept.{enable-passed, enabled-at, maintenance-passed, 
 use Rattle.enables.specs.Enables.{enables, enableRefusal, enable, maintenanceRefusal, maintenanceDone, enableDone, maintenance}
 use Rattle.links.proofs.Kept.{down-passed, down-roster, dropped-at, dropped-other, check-passed, checked-at}
 use Rattle.links.specs.Links.{downRefusal, dropped, downDone, linkDown, checkRefusal, storeCheck, checkDone, downAt}
-use Rattle.client.specs.declared.Client.{Client}
-use Rattle.events.specs.Events.{Event, isAccepted, outOf, next, stateOf, isSync, recordOf, jobOf}
+use Rattle.events.specs.Events.{Event, isAccepted, turnOf, next, stateOf, isSync, recordOf, jobOf}
 use Rattle.events.specs.Said.{reported, versionOf, Becomes, flagOf, sends, begins, recoveryIn, Dropped}
 use Rattle.events.proofs.Fates.{Fate, state-of, kept-stands}
 use Rattle.events.proofs.Shape.{taken}
@@ -44,38 +43,38 @@ use native.Mathlib.Decide.{ℕ-discrete}
 
 -- ---- joins
 
-pub create-said : (c : Client) (id : ℕ) → Valid (c .pool) → isAccepted (outOf (Event.joinCreate id) c .answer) ≡ true → stateOf (next (Event.joinCreate id) c) id ≡ pick (isSync c) State.Normal State.Created
+pub create-said : (c : Pool) (id : ℕ) → Valid c → isAccepted (turnOf (Event.joinCreate id) c .answer) ≡ true → stateOf (next (Event.joinCreate id) c) id ≡ pick (isSync c) State.Normal State.Created
 unfolding joinCreate createDone
 create-said c id v =
-    taken (λ t. sessionAt (t .pool .roster) id .state ≡ pick (isSync c) State.Normal State.Created) (createRefusal (c .pool) id) (createDone (c .pool) id) (c .pool)
-    (λ e. ap (λ (s : Session). s .state) (created-at (c .pool .roster) id (v .ok .long) (create-passed (c .pool) id e .below)))
+    taken (λ t. sessionAt (t .pool .roster) id .state ≡ pick (isSync c) State.Normal State.Created) (createRefusal c id) (createDone c id) c
+    (λ e. ap (λ (s : Session). s .state) (created-at (c .roster) id (v .ok .long) (create-passed c id e .below)))
 
-pub assemble-said : (c : Client) (id set version : ℕ) → Valid (c .pool) → isAccepted (outOf (Event.joinAssemble id set version) c .answer) ≡ true
+pub assemble-said : (c : Pool) (id set version : ℕ) → Valid c → isAccepted (turnOf (Event.joinAssemble id set version) c .answer) ≡ true
     → (stateOf (next (Event.joinAssemble id set version) c) id ≡ State.Reconnecting) × (versionOf (next (Event.joinAssemble id set version) c) ≡ max (versionOf c) version)
 unfolding joinAssemble assembleDone
 assemble-said c id set version v =
     taken (λ t. (sessionAt (t .pool .roster) id .state ≡ State.Reconnecting) × (t .pool .roster .version ≡ max (versionOf c) version))
-    (assembleRefusal (c .pool) id set version) (assembleDone (c .pool) id set version) (c .pool)
-    (λ e. let same = tried-roster (withRoster (c .pool) (assembled (c .pool .roster) id set version)) in (
-      ap (λ (ro : Roster). sessionAt ro id .state) same ∙ ap (λ (s : Session). s .state) (assembled-at (c .pool .roster) id set version (v .ok .long) (assemble-passed (c .pool) id set version e .below)),
-      ap (λ (ro : Roster). ro .version) same ∙ assembled-numbers (c .pool .roster) id set version .versioned,
+    (assembleRefusal c id set version) (assembleDone c id set version) c
+    (λ e. let same = tried-roster (withRoster c (assembled (c .roster) id set version)) in (
+      ap (λ (ro : Roster). sessionAt ro id .state) same ∙ ap (λ (s : Session). s .state) (assembled-at (c .roster) id set version (v .ok .long) (assemble-passed c id set version e .below)),
+      ap (λ (ro : Roster). ro .version) same ∙ assembled-numbers (c .roster) id set version .versioned,
     ))
 
 -- ---- store check
 
-pub check-reconnects : (c : Client) (id : ℕ) → Valid (c .pool) → isSync c ≡ false → isAccepted (outOf (Event.storeCheck id) c .answer) ≡ true → stateOf (next (Event.storeCheck id) c) id ≡ State.Reconnecting
+pub check-reconnects : (c : Pool) (id : ℕ) → Valid c → isSync c ≡ false → isAccepted (turnOf (Event.storeCheck id) c .answer) ≡ true → stateOf (next (Event.storeCheck id) c) id ≡ State.Reconnecting
 unfolding storeCheck
 check-reconnects c id v plain =
-    taken (λ t. sessionAt (t .pool .roster) id .state ≡ State.Reconnecting) (checkRefusal (c .pool) id) (checkDone (c .pool) id) (c .pool)
-    (λ e. ap (λ (s : Session). s .state) (checked-at (c .pool) id (v .ok .long) (check-passed (c .pool) id e .below)) ∙ ap (λ (b : Bool). pick b State.Normal State.Reconnecting) plain)
+    taken (λ t. sessionAt (t .pool .roster) id .state ≡ State.Reconnecting) (checkRefusal c id) (checkDone c id) c
+    (λ e. ap (λ (s : Session). s .state) (checked-at c id (v .ok .long) (check-passed c id e .below)) ∙ ap (λ (b : Bool). pick b State.Normal State.Reconnecting) plain)
 
 -- ---- how a session becomes NORMAL
 
 -- NORMAL after, by what its state is then
-after-normal : (c′ : Client) (id : ℕ) (st : State) → stateOf c′ id ≡ st → isNormal (stateOf c′ id) ≡ true → isNormal st ≡ true
+after-normal : (c′ : Pool) (id : ℕ) (st : State) → stateOf c′ id ≡ st → isNormal (stateOf c′ id) ≡ true → isNormal st ≡ true
 after-normal c′ id st e n = sym (ap isNormal e) ∙ n
 
-pub becomes : (c : Client) (e : Event) (c′ : Client) (id : ℕ) → isSync c ≡ false → isNormal (stateOf c id) ≡ false → isNormal (stateOf c′ id) ≡ true → Fate c e c′ id → Becomes c id e
+pub becomes : (c : Pool) (e : Event) (c′ : Pool) (id : ℕ) → isSync c ≡ false → isNormal (stateOf c id) ≡ false → isNormal (stateOf c′ id) ≡ true → Fate c e c′ id → Becomes c id e
 becomes c e c′ id plain was is (Fate.kept k) = clash (after-normal c′ id _ (kept-stands c c′ id k) is) was
 becomes c e c′ id plain was is (Fate.begins x st r) = clash (after-normal c′ id _ (state-of c′ id _ r) is) (rw plain refl)
 becomes c e c′ id plain was is (Fate.joins set version x p st r) = clash (after-normal c′ id _ (state-of c′ id _ r) is) refl
@@ -96,7 +95,7 @@ idle-is (Job.Running r) e = clash e refl
 idle-is (Job.Removing m) e = clash e refl
 
 -- after recovery was tried with no job in hand
-pub tried-job : (p : Pool) → p .job ≡ Job.Idle → tried p .pool .job ≡ recoveryIn (record { pool = tried p .pool })
+pub tried-job : (p : Pool) → p .job ≡ Job.Idle → tried p .pool .job ≡ recoveryIn (tried p .pool)
 unfolding tried posted
 tried-job p idle = at (begun (p .roster)) refl
   where
@@ -106,44 +105,44 @@ tried-job p idle = at (begun (p .roster)) refl
 
 -- ---- enable
 
-abbrev EnabledTo : Client → ℕ → Turn → Type 0
+abbrev EnabledTo : Pool → ℕ → Turn → Type 0
 EnabledTo c id t =
     (isCreated (stateOf c id) ≡ true → (sessionAt (t .pool .roster) id .state ≡ State.Normal) × (t .pool .job ≡ Job.Idle) × (t .answer ≡ sends Outcome.Plain Told.Nothing))
     × (isCreated (stateOf c id) ≡ false
-    → (sessionAt (t .pool .roster) id .state ≡ State.Reconnecting) × (sessionAt (t .pool .roster) id .maintenance ≡ false) × (t .pool .job ≡ recoveryIn (record { pool = t .pool })))
+    → (sessionAt (t .pool .roster) id .state ≡ State.Reconnecting) × (sessionAt (t .pool .roster) id .maintenance ≡ false) × (t .pool .job ≡ recoveryIn (t .pool)))
 
-enabled-to : (c : Client) (id : ℕ) → Valid (c .pool) → Enables (c .pool) id → EnabledTo c id (enableDone (c .pool) id)
+enabled-to : (c : Pool) (id : ℕ) → Valid c → Enables c id → EnabledTo c id (enableDone c id)
 unfolding enableDone enables
 enabled-to c id v h = (
   (λ b. (ap (λ (s : Session). s .state) (r true b), rw b idle, rw b refl)),
   λ b. (
     ap (λ (s : Session). s .state) (r false b) ∙ reconnecting-is (stateOf c id) (and-left (isReconnecting (stateOf c id)) (recordOf c id .maintenance) (rw b at (h .may))),
     ap (λ (s : Session). s .maintenance) (r false b),
-    rw b (tried-job (withRoster (c .pool) (flaggedAt (c .pool .roster) id false)) idle),
+    rw b (tried-job (withRoster c (flaggedAt (c .roster) id false)) idle),
   ),
 )
   where
     idle : jobOf c ≡ Job.Idle
-    idle = idle-is (c .pool .job) (h .idle)
+    idle = idle-is (c .job) (h .idle)
 
-    r : (b : Bool) → isCreated (stateOf c id) ≡ b → sessionAt (enableDone (c .pool) id .pool .roster) id ≡ pick b (moved (recordOf c id) State.Normal) (flagged (recordOf c id) false)
-    r b e = enabled-at (c .pool) id (v .ok .long) (h .below) ∙ ap (λ (k : Bool). pick k (moved (recordOf c id) State.Normal) (flagged (recordOf c id) false)) e
+    r : (b : Bool) → isCreated (stateOf c id) ≡ b → sessionAt (enableDone c id .pool .roster) id ≡ pick b (moved (recordOf c id) State.Normal) (flagged (recordOf c id) false)
+    r b e = enabled-at c id (v .ok .long) (h .below) ∙ ap (λ (k : Bool). pick k (moved (recordOf c id) State.Normal) (flagged (recordOf c id) false)) e
 
-pub enable-said : (c : Client) (id : ℕ) → Valid (c .pool) → isAccepted (outOf (Event.enable id) c .answer) ≡ true → EnabledTo c id (enable (c .pool) id)
+pub enable-said : (c : Pool) (id : ℕ) → Valid c → isAccepted (turnOf (Event.enable id) c .answer) ≡ true → EnabledTo c id (enable c id)
 unfolding enable
-enable-said c id v = taken (EnabledTo c id) (enableRefusal (c .pool) id) (enableDone (c .pool) id) (c .pool) (λ e. enabled-to c id v (enable-passed (c .pool) id e))
+enable-said c id v = taken (EnabledTo c id) (enableRefusal c id) (enableDone c id) c (λ e. enabled-to c id v (enable-passed c id e))
 
 -- ---- maintenance
 
-pub maintenance-said : (c : Client) (id : ℕ) → Valid (c .pool) → isAccepted (outOf (Event.maintenance id) c .answer) ≡ true
+pub maintenance-said : (c : Pool) (id : ℕ) → Valid c → isAccepted (turnOf (Event.maintenance id) c .answer) ≡ true
     → (stateOf (next (Event.maintenance id) c) id ≡ State.Reconnecting)
     × (flagOf (next (Event.maintenance id) c) id ≡ true)
-    × (outOf (Event.maintenance id) c .answer ≡ sends Outcome.Plain (Told.Off id))
+    × (turnOf (Event.maintenance id) c .answer ≡ sends Outcome.Plain (Told.Off id))
 unfolding maintenance maintenanceDone
 maintenance-said c id v =
     taken (λ t. (sessionAt (t .pool .roster) id .state ≡ State.Reconnecting) × (sessionAt (t .pool .roster) id .maintenance ≡ true) × (t .answer ≡ sends Outcome.Plain (Told.Off id)))
-    (maintenanceRefusal (c .pool) id) (maintenanceDone (c .pool) id) (c .pool)
-    (λ e. let r = left-at (c .pool .roster) id Way.Maintenance (v .ok .long) (maintenance-passed (c .pool) id e .below) in
+    (maintenanceRefusal c id) (maintenanceDone c id) c
+    (λ e. let r = left-at (c .roster) id Way.Maintenance (v .ok .long) (maintenance-passed c id e .below) in
     (ap (λ (s : Session). s .state) r, ap (λ (s : Session). s .maintenance) r, refl))
 
 -- ---- link down
@@ -161,7 +160,7 @@ run-removal r m e = absurd (let z : _≡_ {A = ℕ} 0 1 = cc e in omega arith)
 -- what becomes of the job k
 record Jobs (id : ℕ) (k : Job) (t : Turn) : Type 0 where
   idle : k ≡ Job.Idle → t .pool .job ≡ Job.Idle
-  ends : (r : Run) → k ≡ Job.Running r → (reported (t .answer) ≡ Outcome.Taken (r .taken)) × (t .pool .job ≡ recoveryIn (record { pool = t .pool }))
+  ends : (r : Run) → k ≡ Job.Running r → (reported (t .answer) ≡ Outcome.Taken (r .taken)) × (t .pool .job ≡ recoveryIn (t .pool))
   halted : (m : Removal) → k ≡ Job.Removing m → t .pool .job ≡ pick (eqb (peerAt (m .stage) (m .id)) id) Job.Idle (Job.Removing m)
 
 down-jobs : (k : Job) (p : Pool) (id : ℕ) → p .job ≡ k → Jobs id k (downAt k p id)
@@ -179,35 +178,35 @@ down-jobs (Job.Removing m) p id e =
       halted = λ m′ z. let q : m ≡ m′ = cc z in (by-cases (isPeer (Job.Removing m) id) (λ b. rw b refl) (λ b. rw b e)) ∙ ap (λ (x : Removal). pick (eqb (peerAt (x .stage) (x .id)) id) Job.Idle (Job.Removing x)) q;
     }
 
-abbrev Downed : Client → ℕ → Turn → Type 0
+abbrev Downed : Pool → ℕ → Turn → Type 0
 Downed c id t =
     Jobs id (jobOf c) t
     × (sessionAt (t .pool .roster) id .state ≡ pick (isRemoving (stateOf c id)) (stateOf c id) (State.Failed Cause.Link))
     × ((m : Removal) → jobOf c ≡ Job.Removing m → sessionAt (t .pool .roster) (m .id) ≡ recordOf c (m .id))
 
-downed : (c : Client) (id : ℕ) → Valid (c .pool) → downRefusal (c .pool) id ≡ 0 → Downed c id (downDone (c .pool) id)
+downed : (c : Pool) (id : ℕ) → Valid c → downRefusal c id ≡ 0 → Downed c id (downDone c id)
 unfolding downDone
 downed c id v e = (
-  down-jobs (c .pool .job) (c .pool) id refl,
-  ap (λ (s : Session). s .state) (ap (λ (ro : Roster). sessionAt ro id) same ∙ dropped-at (c .pool .roster) id (v .ok .long) (down-passed (c .pool) id e .below))
+  down-jobs (c .job) c id refl,
+  ap (λ (s : Session). s .state) (ap (λ (ro : Roster). sessionAt ro id) same ∙ dropped-at (c .roster) id (v .ok .long) (down-passed c id e .below))
       ∙ by-cases (isRemoving (stateOf c id)) (λ b. rw b refl) (λ b. rw b refl),
   stays,
 )
   where
-    same : downAt (c .pool .job) (c .pool) id .pool .roster ≡ raisedIf (isRunning (c .pool .job)) (dropped (c .pool .roster) id)
-    same = down-roster (c .pool .job) (c .pool) id
+    same : downAt (c .job) c id .pool .roster ≡ raisedIf (isRunning (c .job)) (dropped (c .roster) id)
+    same = down-roster (c .job) c id
 
-    stays : (m : Removal) → jobOf c ≡ Job.Removing m → sessionAt (downAt (c .pool .job) (c .pool) id .pool .roster) (m .id) ≡ recordOf c (m .id)
+    stays : (m : Removal) → jobOf c ≡ Job.Removing m → sessionAt (downAt (c .job) c id .pool .roster) (m .id) ≡ recordOf c (m .id)
     stays m job =
-        let h = removal-facts (c .pool .roster) m (v .ok .long) (rw job at (v .job)) in
+        let h = removal-facts (c .roster) m (v .ok .long) (rw job at (v .job)) in
         ap (λ (ro : Roster). sessionAt ro (m .id)) same
         ∙ elim (ℕ-discrete (m .id) id) [
-          | yes p ↦ rw p (dropped-at (c .pool .roster) id (v .ok .long) (down-passed (c .pool) id e .below) ∙ rw (rw p at (h .removing)) refl)
-          | no d ↦ dropped-other (c .pool .roster) id (m .id) d
+          | yes p ↦ rw p (dropped-at (c .roster) id (v .ok .long) (down-passed c id e .below) ∙ rw (rw p at (h .removing)) refl)
+          | no d ↦ dropped-other (c .roster) id (m .id) d
         ]
 
-pub down-said : (c : Client) (id : ℕ) → Valid (c .pool) → isAccepted (outOf (Event.linkDown id) c .answer) ≡ true → Dropped c id (Event.linkDown id)
+pub down-said : (c : Pool) (id : ℕ) → Valid c → isAccepted (turnOf (Event.linkDown id) c .answer) ≡ true → Dropped c id (Event.linkDown id)
 unfolding linkDown
 down-said c id v d =
-    let t = taken (Downed c id) (downRefusal (c .pool) id) (downDone (c .pool) id) (c .pool) (downed c id v) d in
+    let t = taken (Downed c id) (downRefusal c id) (downDone c id) c (downed c id v) d in
     record { fails = t .1; idle = t .0 .idle; ends = t .0 .ends; halts = λ m job. (t .0 .halted m job, t .2 m job) }

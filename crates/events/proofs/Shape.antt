@@ -15,11 +15,10 @@ use Rattle.exits.specs.Exit.{refused}
 use Rattle.rules.specs.Jobs.{isIdle}
 use Rattle.links.specs.Links.{downAt}
 use Rattle.answers.specs.Answers.{answered}
-use Rattle.client.specs.declared.Client.{Client}
 use Rattle.events.specs.Events.{Event, isAccepted, testsOf}
 
 -- the event's refusal, 0 where none applies
-abbrev pub whyNot : Event → Client → ℕ
+abbrev pub whyNot : Event → Pool → ℕ
 whyNot e c = refusal (testsOf e c)
 
 pub down-done : (j : Job) (p : Pool) (id : ℕ) → isAccepted (downAt j p id .answer) ≡ true

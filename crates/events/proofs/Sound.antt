@@ -37,7 +37,6 @@ use Rattle.writes.proofs.Kept.{wroteIn, synced-same}
 use Rattle.writes.specs.Writes.{writeRefusal, writeEnded, marks, writeDone, loses}
 use Rattle.answers.specs.Answers.{answerRefusal, enteredBy, answered, answer, movedOn}
 use Rattle.client.specs.Client.{carried, soundFor, removeTurn, writeTurn, answerTurn, syncedTurn, cleanTo}
-use Rattle.client.specs.declared.Client.{Client}
 use Rattle.fills.proofs.Laws.{sound-filled}
 use Rattle.maps.proofs.Sound.{Sound, sound-fact, sound-test, sound-zeroRow, sound-zeroed, sound-markedFor}
 use Rattle.events.specs.Events.{Event, testsOf, next, keeps, removalTouches, answerTouches}
@@ -99,59 +98,59 @@ down-same Job.Idle p id = refl
 down-same (Job.Running r) p id = tried-same (runEnded (withRoster p (dropped (p .roster) id)))
 down-same (Job.Removing m) p id = halts (Same p) (isPeer (Job.Removing m) id) (withRoster p (dropped (p .roster) id)) refl refl
 
-pub create-count : (id : ℕ) (c : Client) → next (Event.joinCreate id) c .pool .chunks ≡ c .pool .chunks
+pub create-count : (id : ℕ) (c : Pool) → next (Event.joinCreate id) c .chunks ≡ c .chunks
 unfolding joinCreate createDone joinAssemble assembleDone enable enableDone maintenance maintenanceDone linkDown downDone storeCheck checkDone tryRun remove removeTurn writeEnded writeDone marks writeTurn syncedTurn answer answerTurn
-create-count id c = turned (Same (c .pool)) (createRefusal (c .pool) id) _ (c .pool) refl (λ e. refl)
+create-count id c = turned (Same c) (createRefusal c id) _ c refl (λ e. refl)
 
-pub assemble-count : (id set version : ℕ) (c : Client) → next (Event.joinAssemble id set version) c .pool .chunks ≡ c .pool .chunks
+pub assemble-count : (id set version : ℕ) (c : Pool) → next (Event.joinAssemble id set version) c .chunks ≡ c .chunks
 unfolding joinCreate createDone joinAssemble assembleDone enable enableDone maintenance maintenanceDone linkDown downDone storeCheck checkDone tryRun remove removeTurn writeEnded writeDone marks writeTurn syncedTurn answer answerTurn
-assemble-count id set version c = turned (Same (c .pool)) (assembleRefusal (c .pool) id set version) _ (c .pool) refl (λ e. tried-same _)
+assemble-count id set version c = turned (Same c) (assembleRefusal c id set version) _ c refl (λ e. tried-same _)
 
-pub enable-count : (id : ℕ) (c : Client) → next (Event.enable id) c .pool .chunks ≡ c .pool .chunks
+pub enable-count : (id : ℕ) (c : Pool) → next (Event.enable id) c .chunks ≡ c .chunks
 unfolding joinCreate createDone joinAssemble assembleDone enable enableDone maintenance maintenanceDone linkDown downDone storeCheck checkDone tryRun remove removeTurn writeEnded writeDone marks writeTurn syncedTurn answer answerTurn
 enable-count id c =
-    turned (Same (c .pool)) (enableRefusal (c .pool) id) _ (c .pool) refl
-    (λ e. pools (Same (c .pool)) (isCreated (sessionAt (c .pool .roster) id .state)) _ _ (λ z. refl) (λ z. tried-same _))
+    turned (Same c) (enableRefusal c id) _ c refl
+    (λ e. pools (Same c) (isCreated (sessionAt (c .roster) id .state)) _ _ (λ z. refl) (λ z. tried-same _))
 
-pub maintenance-count : (id : ℕ) (c : Client) → next (Event.maintenance id) c .pool .chunks ≡ c .pool .chunks
+pub maintenance-count : (id : ℕ) (c : Pool) → next (Event.maintenance id) c .chunks ≡ c .chunks
 unfolding joinCreate createDone joinAssemble assembleDone enable enableDone maintenance maintenanceDone linkDown downDone storeCheck checkDone tryRun remove removeTurn writeEnded writeDone marks writeTurn syncedTurn answer answerTurn
-maintenance-count id c = turned (Same (c .pool)) (maintenanceRefusal (c .pool) id) _ (c .pool) refl (λ e. refl)
+maintenance-count id c = turned (Same c) (maintenanceRefusal c id) _ c refl (λ e. refl)
 
-pub down-count : (id : ℕ) (c : Client) → next (Event.linkDown id) c .pool .chunks ≡ c .pool .chunks
+pub down-count : (id : ℕ) (c : Pool) → next (Event.linkDown id) c .chunks ≡ c .chunks
 unfolding joinCreate createDone joinAssemble assembleDone enable enableDone maintenance maintenanceDone linkDown downDone storeCheck checkDone tryRun remove removeTurn writeEnded writeDone marks writeTurn syncedTurn answer answerTurn
-down-count id c = turned (Same (c .pool)) (downRefusal (c .pool) id) _ (c .pool) refl (λ e. down-same (c .pool .job) (c .pool) id)
+down-count id c = turned (Same c) (downRefusal c id) _ c refl (λ e. down-same (c .job) c id)
 
-pub check-count : (id : ℕ) (c : Client) → next (Event.storeCheck id) c .pool .chunks ≡ c .pool .chunks
+pub check-count : (id : ℕ) (c : Pool) → next (Event.storeCheck id) c .chunks ≡ c .chunks
 unfolding joinCreate createDone joinAssemble assembleDone enable enableDone maintenance maintenanceDone linkDown downDone storeCheck checkDone tryRun remove removeTurn writeEnded writeDone marks writeTurn syncedTurn answer answerTurn
 check-count id c =
-    turned (Same (c .pool)) (checkRefusal (c .pool) id) _ (c .pool) refl
-    (λ e. pools (Same (c .pool)) (c .pool .roster .sync) _ _ (λ z. refl) (λ z. tried-same _))
+    turned (Same c) (checkRefusal c id) _ c refl
+    (λ e. pools (Same c) (c .roster .sync) _ _ (λ z. refl) (λ z. tried-same _))
 
-pub try-count : (c : Client) → next Event.tryRun c .pool .chunks ≡ c .pool .chunks
+pub try-count : (c : Pool) → next Event.tryRun c .chunks ≡ c .chunks
 unfolding joinCreate createDone joinAssemble assembleDone enable enableDone maintenance maintenanceDone linkDown downDone storeCheck checkDone tryRun remove removeTurn writeEnded writeDone marks writeTurn syncedTurn answer answerTurn
-try-count c = turned (Same (c .pool)) (tryRefusal (c .pool)) _ (c .pool) refl (λ e. tried-same (c .pool))
+try-count c = turned (Same c) (tryRefusal c) _ c refl (λ e. tried-same c)
 
-pub remove-count : (xs : List ℕ) (id : ℕ) (mode : Mode) (c : Client) → next (Event.remove xs id mode) c .pool .chunks ≡ c .pool .chunks
+pub remove-count : (xs : List ℕ) (id : ℕ) (mode : Mode) (c : Pool) → next (Event.remove xs id mode) c .chunks ≡ c .chunks
 unfolding joinCreate createDone joinAssemble assembleDone enable enableDone maintenance maintenanceDone linkDown downDone storeCheck checkDone tryRun remove removeTurn writeEnded writeDone marks writeTurn syncedTurn answer answerTurn
-remove-count xs id mode c = turned (Same (c .pool)) (removeRefusal (c .pool) (soundFor (c .pool) xs) id mode) _ (c .pool) refl (λ e. started-same _ id)
+remove-count xs id mode c = turned (Same c) (removeRefusal c (soundFor c xs) id mode) _ c refl (λ e. started-same _ id)
 
-pub write-count : (xs : List ℕ) (chunk reached : ℕ) (c : Client) → next (Event.write xs chunk reached) c .pool .chunks ≡ c .pool .chunks
+pub write-count : (xs : List ℕ) (chunk reached : ℕ) (c : Pool) → next (Event.write xs chunk reached) c .chunks ≡ c .chunks
 unfolding joinCreate createDone joinAssemble assembleDone enable enableDone maintenance maintenanceDone linkDown downDone storeCheck checkDone tryRun remove removeTurn writeEnded writeDone marks writeTurn syncedTurn answer answerTurn
 write-count xs chunk reached c =
-    turned (Same (c .pool)) (writeRefusal (c .pool) (soundFor (c .pool) xs) chunk reached) _ (c .pool) refl
-    (λ e. pools (Same (c .pool)) (eqb reached 0) _ _ (λ z. here) (λ z. here))
+    turned (Same c) (writeRefusal c (soundFor c xs) chunk reached) _ c refl
+    (λ e. pools (Same c) (eqb reached 0) _ _ (λ z. here) (λ z. here))
   where
-    here : Same (c .pool) (haltedIf (loses (c .pool .job) (c .pool .roster) reached) (withRoster (c .pool) (wroteIn (c .pool) reached)))
-    here = halts (Same (c .pool)) (loses (c .pool .job) (c .pool .roster) reached) (withRoster (c .pool) (wroteIn (c .pool) reached)) refl refl
+    here : Same c (haltedIf (loses (c .job) (c .roster) reached) (withRoster c (wroteIn c reached)))
+    here = halts (Same c) (loses (c .job) (c .roster) reached) (withRoster c (wroteIn c reached)) refl refl
 
-pub synced-count : (xs : List ℕ) (member chunk : ℕ) (c : Client) → next (Event.synced xs member chunk) c .pool .chunks ≡ c .pool .chunks
+pub synced-count : (xs : List ℕ) (member chunk : ℕ) (c : Pool) → next (Event.synced xs member chunk) c .chunks ≡ c .chunks
 unfolding joinCreate createDone joinAssemble assembleDone enable enableDone maintenance maintenanceDone linkDown downDone storeCheck checkDone tryRun remove removeTurn writeEnded writeDone marks writeTurn syncedTurn answer answerTurn
-synced-count xs member chunk c = ap (λ (p : Pool). p .chunks) (synced-same (c .pool) (soundFor (c .pool) xs) member chunk (cleanTo xs chunk 16))
+synced-count xs member chunk c = ap (λ (p : Pool). p .chunks) (synced-same c (soundFor c xs) member chunk (cleanTo xs chunk 16))
 
-pub answer-count : (xs : List ℕ) (number : ℕ) (a : Reply) (c : Client) → next (Event.answer xs number a) c .pool .chunks ≡ c .pool .chunks
+pub answer-count : (xs : List ℕ) (number : ℕ) (a : Reply) (c : Pool) → next (Event.answer xs number a) c .chunks ≡ c .chunks
 unfolding joinCreate createDone joinAssemble assembleDone enable enableDone maintenance maintenanceDone linkDown downDone storeCheck checkDone tryRun remove removeTurn writeEnded writeDone marks writeTurn syncedTurn answer answerTurn
 answer-count xs number a c =
-    turned (Same (c .pool)) (answerRefusal (c .pool) (soundFor (c .pool) xs) number) _ (c .pool) refl (λ e. job-same (c .pool .job) (c .pool) a)
+    turned (Same c) (answerRefusal c (soundFor c xs) number) _ c refl (λ e. job-same (c .job) c a)
 
 -- ---- the lent map
 
@@ -184,20 +183,20 @@ removal-inside n id deletes ro (Effect.ZeroRow m) e = refl
 removal-inside n id deletes ro Effect.ZeroAll e = refl
 removal-inside n id deletes ro (Effect.FillRow m k) e = clash e refl
 
-pub answer-inside : (j : Job) (n : ℕ) (c : Client) (ro : Roster) (ef : Effect) → answerTouches j c ro ef ≡ true → inside n ef ≡ true
+pub answer-inside : (j : Job) (n : ℕ) (c : Pool) (ro : Roster) (ef : Effect) → answerTouches j c ro ef ≡ true → inside n ef ≡ true
 answer-inside Job.Idle n c ro ef e = kept-inside n ef e
 answer-inside (Job.Running r) n c ro ef e = kept-inside n ef e
-answer-inside (Job.Removing d) n c ro ef e = removal-inside n (d .id) (isDeleting (sessionAt (c .pool .roster) (d .id) .state)) ro ef e
+answer-inside (Job.Removing d) n c ro ef e = removal-inside n (d .id) (isDeleting (sessionAt (c .roster) (d .id) .state)) ro ef e
 
 marks-inside : (n : ℕ) (before after : Pool) (chunk reached : ℕ) → ltb chunk n ≡ true → inside n (marks before after chunk reached .effect) ≡ true
 unfolding marks
 marks-inside n before after chunk reached l = either (λ (t : Turn). inside n (t .effect) ≡ true) (eqb reached 0) _ _ refl l
 
-pub write-inside : (c : Client) (xs : List ℕ) (chunk reached : ℕ) → inside (c .pool .chunks) (writeTurn (c .pool) xs chunk reached .effect) ≡ true
+pub write-inside : (c : Pool) (xs : List ℕ) (chunk reached : ℕ) → inside (c .chunks) (writeTurn c xs chunk reached .effect) ≡ true
 unfolding writeTurn writeEnded writeRefusal writeDone
 write-inside c xs chunk reached =
-    turn-of (λ t. inside (c .pool .chunks) (t .effect) ≡ true) (writeRefusal (c .pool) (soundFor (c .pool) xs) chunk reached) _ (c .pool) refl
-    (λ e. marks-inside (c .pool .chunks) (c .pool) _ chunk reached (not-false (ltb chunk (c .pool .chunks)) (none-applies (testsOf (Event.write xs chunk reached) c) e 4 refl)))
+    turn-of (λ t. inside (c .chunks) (t .effect) ≡ true) (writeRefusal c (soundFor c xs) chunk reached) _ c refl
+    (λ e. marks-inside (c .chunks) c _ chunk reached (not-false (ltb chunk (c .chunks)) (none-applies (testsOf (Event.write xs chunk reached) c) e 4 refl)))
 
 pub left-sound : (n : ℕ) (ef : Effect) (xs : List ℕ) → inside n ef ≡ true → sound n xs ≡ true → sound n (carried ef xs) ≡ true
 left-sound n ef xs i s = sound-test n (carried ef xs) (carried-sound n ef xs i (sound-fact n xs s))

@@ -38,7 +38,6 @@ use Rattle.removal.specs.declared.Gone.{Gone}
 use Rattle.writes.specs.Writes.{writeRefusal, writeEnded, marks, writeDone, syncRefusal, syncDone, synced}
 use Rattle.answers.specs.Answers.{answerRefusal, answered, answer}
 use Rattle.client.specs.Client.{soundFor, removeTurn, writeTurn, answerTurn, syncedTurn, cleanTo}
-use Rattle.client.specs.declared.Client.{Client}
 use Rattle.events.specs.Events.{Event, turnOf, next, nobodyLeft, keeps, removalTouches, answerTouches, touches}
 use Rattle.events.proofs.States.{mode-same}
 
@@ -94,12 +93,12 @@ begun-touch p id mode l h =
 
 -- ---- the other events that do something at an answer
 
-job-touch : (j : Job) (c : Client) (a : Reply) → Valid (c .pool) → jobOk j (c .pool .roster) ≡ true → answerTouches j c (answered j (c .pool) a .pool .roster) (answered j (c .pool) a .effect) ≡ true
+job-touch : (j : Job) (c : Pool) (a : Reply) → Valid c → jobOk j (c .roster) ≡ true → answerTouches j c (answered j c a .pool .roster) (answered j c a .effect) ≡ true
 job-touch Job.Idle c a v o = refl
 job-touch (Job.Running r) c a v o = refl
-job-touch (Job.Removing m) c a v o = answered-touch m (c .pool) a (v .ok .long) (removal-facts (c .pool .roster) m (v .ok .long) o .below)
+job-touch (Job.Removing m) c a v o = answered-touch m c a (v .ok .long) (removal-facts (c .roster) m (v .ok .long) o .below)
 
-refused-job : (j : Job) (c : Client) (ro : Roster) → answerTouches j c ro Effect.Keep ≡ true
+refused-job : (j : Job) (c : Pool) (ro : Roster) → answerTouches j c ro Effect.Keep ≡ true
 refused-job Job.Idle c ro = refl
 refused-job (Job.Running r) c ro = refl
 refused-job (Job.Removing m) c ro = refl
@@ -109,10 +108,10 @@ down-touch Job.Idle p id = refl
 down-touch (Job.Running r) p id = refl
 down-touch (Job.Removing m) p id = refl
 
-abbrev WriteTouch : List ℕ → ℕ → ℕ → Client → Turn → Type 0
+abbrev WriteTouch : List ℕ → ℕ → ℕ → Pool → Turn → Type 0
 WriteTouch xs chunk reached c t = touches (Event.write xs chunk reached) c (t .pool .roster) (t .effect) ≡ true
 
-marks-touch : (xs : List ℕ) (chunk reached : ℕ) (c : Client) (before after : Pool) → WriteTouch xs chunk reached c (marks before after chunk reached)
+marks-touch : (xs : List ℕ) (chunk reached : ℕ) (c : Pool) (before after : Pool) → WriteTouch xs chunk reached c (marks before after chunk reached)
 unfolding marks
 marks-touch xs chunk reached c before after =
     either (WriteTouch xs chunk reached c) (eqb reached 0) _ _ refl
@@ -121,53 +120,53 @@ marks-touch xs chunk reached c before after =
 abbrev Kept : Turn → Type 0
 Kept t = keeps (t .effect) ≡ true
 
-pub create-touches : (id : ℕ) (c : Client) → Valid (c .pool) → touches (Event.joinCreate id) c (next (Event.joinCreate id) c .pool .roster) (turnOf (Event.joinCreate id) c .effect) ≡ true
+pub create-touches : (id : ℕ) (c : Pool) → Valid c → touches (Event.joinCreate id) c (next (Event.joinCreate id) c .roster) (turnOf (Event.joinCreate id) c .effect) ≡ true
 unfolding joinCreate createDone joinAssemble assembleDone enable enableDone maintenance maintenanceDone linkDown downDone storeCheck checkDone tryRun remove removeTurn writeEnded writeDone writeTurn synced syncDone syncedTurn answer answerTurn
-create-touches id c v = turn-of Kept (createRefusal (c .pool) id) _ (c .pool) refl (λ e. refl)
+create-touches id c v = turn-of Kept (createRefusal c id) _ c refl (λ e. refl)
 
-pub assemble-touches : (id set version : ℕ) (c : Client) → Valid (c .pool) → touches (Event.joinAssemble id set version) c (next (Event.joinAssemble id set version) c .pool .roster) (turnOf (Event.joinAssemble id set version) c .effect) ≡ true
+pub assemble-touches : (id set version : ℕ) (c : Pool) → Valid c → touches (Event.joinAssemble id set version) c (next (Event.joinAssemble id set version) c .roster) (turnOf (Event.joinAssemble id set version) c .effect) ≡ true
 unfolding joinCreate createDone joinAssemble assembleDone enable enableDone maintenance maintenanceDone linkDown downDone storeCheck checkDone tryRun remove removeTurn writeEnded writeDone writeTurn synced syncDone syncedTurn answer answerTurn
-assemble-touches id set version c v = turn-of Kept (assembleRefusal (c .pool) id set version) _ (c .pool) refl (λ e. refl)
+assemble-touches id set version c v = turn-of Kept (assembleRefusal c id set version) _ c refl (λ e. refl)
 
-pub enable-touches : (id : ℕ) (c : Client) → Valid (c .pool) → touches (Event.enable id) c (next (Event.enable id) c .pool .roster) (turnOf (Event.enable id) c .effect) ≡ true
+pub enable-touches : (id : ℕ) (c : Pool) → Valid c → touches (Event.enable id) c (next (Event.enable id) c .roster) (turnOf (Event.enable id) c .effect) ≡ true
 unfolding joinCreate createDone joinAssemble assembleDone enable enableDone maintenance maintenanceDone linkDown downDone storeCheck checkDone tryRun remove removeTurn writeEnded writeDone writeTurn synced syncDone syncedTurn answer answerTurn
 enable-touches id c v =
-    turn-of Kept (enableRefusal (c .pool) id) _ (c .pool) refl (λ e. either Kept (isCreated (sessionAt (c .pool .roster) id .state)) _ _ refl refl)
+    turn-of Kept (enableRefusal c id) _ c refl (λ e. either Kept (isCreated (sessionAt (c .roster) id .state)) _ _ refl refl)
 
-pub maintenance-touches : (id : ℕ) (c : Client) → Valid (c .pool) → touches (Event.maintenance id) c (next (Event.maintenance id) c .pool .roster) (turnOf (Event.maintenance id) c .effect) ≡ true
+pub maintenance-touches : (id : ℕ) (c : Pool) → Valid c → touches (Event.maintenance id) c (next (Event.maintenance id) c .roster) (turnOf (Event.maintenance id) c .effect) ≡ true
 unfolding joinCreate createDone joinAssemble assembleDone enable enableDone maintenance maintenanceDone linkDown downDone storeCheck checkDone tryRun remove removeTurn writeEnded writeDone writeTurn synced syncDone syncedTurn answer answerTurn
-maintenance-touches id c v = turn-of Kept (maintenanceRefusal (c .pool) id) _ (c .pool) refl (λ e. refl)
+maintenance-touches id c v = turn-of Kept (maintenanceRefusal c id) _ c refl (λ e. refl)
 
-pub down-touches : (id : ℕ) (c : Client) → Valid (c .pool) → touches (Event.linkDown id) c (next (Event.linkDown id) c .pool .roster) (turnOf (Event.linkDown id) c .effect) ≡ true
+pub down-touches : (id : ℕ) (c : Pool) → Valid c → touches (Event.linkDown id) c (next (Event.linkDown id) c .roster) (turnOf (Event.linkDown id) c .effect) ≡ true
 unfolding joinCreate createDone joinAssemble assembleDone enable enableDone maintenance maintenanceDone linkDown downDone storeCheck checkDone tryRun remove removeTurn writeEnded writeDone writeTurn synced syncDone syncedTurn answer answerTurn
-down-touches id c v = turn-of Kept (downRefusal (c .pool) id) _ (c .pool) refl (λ e. down-touch (c .pool .job) (c .pool) id)
+down-touches id c v = turn-of Kept (downRefusal c id) _ c refl (λ e. down-touch (c .job) c id)
 
-pub check-touches : (id : ℕ) (c : Client) → Valid (c .pool) → touches (Event.storeCheck id) c (next (Event.storeCheck id) c .pool .roster) (turnOf (Event.storeCheck id) c .effect) ≡ true
+pub check-touches : (id : ℕ) (c : Pool) → Valid c → touches (Event.storeCheck id) c (next (Event.storeCheck id) c .roster) (turnOf (Event.storeCheck id) c .effect) ≡ true
 unfolding joinCreate createDone joinAssemble assembleDone enable enableDone maintenance maintenanceDone linkDown downDone storeCheck checkDone tryRun remove removeTurn writeEnded writeDone writeTurn synced syncDone syncedTurn answer answerTurn
-check-touches id c v = turn-of Kept (checkRefusal (c .pool) id) _ (c .pool) refl (λ e. either Kept (c .pool .roster .sync) _ _ refl refl)
+check-touches id c v = turn-of Kept (checkRefusal c id) _ c refl (λ e. either Kept (c .roster .sync) _ _ refl refl)
 
-pub try-touches : (c : Client) → Valid (c .pool) → touches Event.tryRun c (next Event.tryRun c .pool .roster) (turnOf Event.tryRun c .effect) ≡ true
+pub try-touches : (c : Pool) → Valid c → touches Event.tryRun c (next Event.tryRun c .roster) (turnOf Event.tryRun c .effect) ≡ true
 unfolding joinCreate createDone joinAssemble assembleDone enable enableDone maintenance maintenanceDone linkDown downDone storeCheck checkDone tryRun remove removeTurn writeEnded writeDone writeTurn synced syncDone syncedTurn answer answerTurn
-try-touches c v = turn-of Kept (tryRefusal (c .pool)) _ (c .pool) refl (λ e. refl)
+try-touches c v = turn-of Kept (tryRefusal c) _ c refl (λ e. refl)
 
-pub remove-touches : (xs : List ℕ) (id : ℕ) (mode : Mode) (c : Client) → Valid (c .pool) → touches (Event.remove xs id mode) c (next (Event.remove xs id mode) c .pool .roster) (turnOf (Event.remove xs id mode) c .effect) ≡ true
+pub remove-touches : (xs : List ℕ) (id : ℕ) (mode : Mode) (c : Pool) → Valid c → touches (Event.remove xs id mode) c (next (Event.remove xs id mode) c .roster) (turnOf (Event.remove xs id mode) c .effect) ≡ true
 unfolding joinCreate createDone joinAssemble assembleDone enable enableDone maintenance maintenanceDone linkDown downDone storeCheck checkDone tryRun remove removeTurn writeEnded writeDone writeTurn synced syncDone syncedTurn answer answerTurn
 remove-touches xs id mode c v =
-    turn-of (λ t. removalTouches id (isDelete mode) (t .pool .roster) (t .effect) ≡ true) (removeRefusal (c .pool) (soundFor (c .pool) xs) id mode) _ (c .pool) refl
-    (λ e. begun-touch (c .pool) id mode (v .ok .long) (remove-passed (c .pool) (soundFor (c .pool) xs) id mode e .below))
+    turn-of (λ t. removalTouches id (isDelete mode) (t .pool .roster) (t .effect) ≡ true) (removeRefusal c (soundFor c xs) id mode) _ c refl
+    (λ e. begun-touch c id mode (v .ok .long) (remove-passed c (soundFor c xs) id mode e .below))
 
-pub write-touches : (xs : List ℕ) (chunk reached : ℕ) (c : Client) → Valid (c .pool) → touches (Event.write xs chunk reached) c (next (Event.write xs chunk reached) c .pool .roster) (turnOf (Event.write xs chunk reached) c .effect) ≡ true
+pub write-touches : (xs : List ℕ) (chunk reached : ℕ) (c : Pool) → Valid c → touches (Event.write xs chunk reached) c (next (Event.write xs chunk reached) c .roster) (turnOf (Event.write xs chunk reached) c .effect) ≡ true
 unfolding joinCreate createDone joinAssemble assembleDone enable enableDone maintenance maintenanceDone linkDown downDone storeCheck checkDone tryRun remove removeTurn writeEnded writeDone writeTurn synced syncDone syncedTurn answer answerTurn
 write-touches xs chunk reached c v =
-    turn-of (WriteTouch xs chunk reached c) (writeRefusal (c .pool) (soundFor (c .pool) xs) chunk reached) _ (c .pool) refl
-    (λ e. marks-touch xs chunk reached c (c .pool) _)
+    turn-of (WriteTouch xs chunk reached c) (writeRefusal c (soundFor c xs) chunk reached) _ c refl
+    (λ e. marks-touch xs chunk reached c c _)
 
-pub synced-touches : (xs : List ℕ) (member chunk : ℕ) (c : Client) → Valid (c .pool) → touches (Event.synced xs member chunk) c (next (Event.synced xs member chunk) c .pool .roster) (turnOf (Event.synced xs member chunk) c .effect) ≡ true
+pub synced-touches : (xs : List ℕ) (member chunk : ℕ) (c : Pool) → Valid c → touches (Event.synced xs member chunk) c (next (Event.synced xs member chunk) c .roster) (turnOf (Event.synced xs member chunk) c .effect) ≡ true
 unfolding joinCreate createDone joinAssemble assembleDone enable enableDone maintenance maintenanceDone linkDown downDone storeCheck checkDone tryRun remove removeTurn writeEnded writeDone writeTurn synced syncDone syncedTurn answer answerTurn
-synced-touches xs member chunk c v = turn-of Kept (syncRefusal (c .pool) (soundFor (c .pool) xs) member chunk (cleanTo xs chunk 16)) _ (c .pool) refl (λ e. refl)
+synced-touches xs member chunk c v = turn-of Kept (syncRefusal c (soundFor c xs) member chunk (cleanTo xs chunk 16)) _ c refl (λ e. refl)
 
-pub answer-touches : (xs : List ℕ) (number : ℕ) (a : Reply) (c : Client) → Valid (c .pool) → touches (Event.answer xs number a) c (next (Event.answer xs number a) c .pool .roster) (turnOf (Event.answer xs number a) c .effect) ≡ true
+pub answer-touches : (xs : List ℕ) (number : ℕ) (a : Reply) (c : Pool) → Valid c → touches (Event.answer xs number a) c (next (Event.answer xs number a) c .roster) (turnOf (Event.answer xs number a) c .effect) ≡ true
 unfolding joinCreate createDone joinAssemble assembleDone enable enableDone maintenance maintenanceDone linkDown downDone storeCheck checkDone tryRun remove removeTurn writeEnded writeDone writeTurn synced syncDone syncedTurn answer answerTurn
 answer-touches xs number a c v =
-    turn-of (λ t. answerTouches (c .pool .job) c (t .pool .roster) (t .effect) ≡ true) (answerRefusal (c .pool) (soundFor (c .pool) xs) number) _ (c .pool) (refused-job (c .pool .job) c (c .pool .roster))
-    (λ e. job-touch (c .pool .job) c a v (v .job))
+    turn-of (λ t. answerTouches (c .job) c (t .pool .roster) (t .effect) ≡ true) (answerRefusal c (soundFor c xs) number) _ c (refused-job (c .job) c (c .roster))
+    (λ e. job-touch (c .job) c a v (v .job))

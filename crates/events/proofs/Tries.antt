@@ -35,8 +35,7 @@ use Rattle.removal.specs.declared.Gone.{Gone}
 use Rattle.writes.proofs.Kept.{wroteIn}
 use Rattle.writes.specs.Writes.{writeRefusal, writeEnded, marks, writeDone, syncRefusal, syncDone, synced, loses}
 use Rattle.client.specs.Client.{soundFor, removeTurn, writeTurn, syncedTurn, cleanTo}
-use Rattle.client.specs.declared.Client.{Client}
-use Rattle.events.specs.Events.{Event, turnOf, isAccepted, testsOf, outOf, isAnswer}
+use Rattle.events.specs.Events.{Event, turnOf, isAccepted, testsOf, isAnswer}
 use Rattle.events.proofs.Shape.{taken}
 use Rattle.events.proofs.Sound.{inside}
 
@@ -140,63 +139,63 @@ marks-quiet : (p q : Pool) (chunk reached : ℕ) → Quiet q → Quiet (marks p 
 unfolding marks
 marks-quiet p q chunk reached f = either (λ (u : Turn). Quiet (u .pool)) (eqb reached 0) _ _ f f
 
-pub create-trial : (id : ℕ) (c : Client) → isAnswer (Event.joinCreate id) ≡ false → isAccepted (outOf (Event.joinCreate id) c .answer) ≡ true → Tries (c .pool) (turnOf (Event.joinCreate id) c)
+pub create-trial : (id : ℕ) (c : Pool) → isAnswer (Event.joinCreate id) ≡ false → isAccepted (turnOf (Event.joinCreate id) c .answer) ≡ true → Tries c (turnOf (Event.joinCreate id) c)
 unfolding joinCreate createRefusal createDone joinAssemble assembleRefusal assembleDone enable enableRefusal enableDone maintenance maintenanceRefusal maintenanceDone linkDown downDone storeCheck checkRefusal checkDone tryRun tryRefusal remove removeTurn writeEnded writeRefusal writeDone writeTurn synced syncRefusal syncDone syncedTurn
 create-trial id c n =
-    taken (Tries (c .pool)) (createRefusal (c .pool) id) _ (c .pool)
-    (λ e. no-run (c .pool) _ (idle-none (c .pool .job) (idle-at (c .pool) (none-applies (testsOf (Event.joinCreate id) c) e 6 refl))))
+    taken (Tries c) (createRefusal c id) _ c
+    (λ e. no-run c _ (idle-none (c .job) (idle-at c (none-applies (testsOf (Event.joinCreate id) c) e 6 refl))))
 
-pub assemble-trial : (id set version : ℕ) (c : Client) → isAnswer (Event.joinAssemble id set version) ≡ false → isAccepted (outOf (Event.joinAssemble id set version) c .answer) ≡ true → Tries (c .pool) (turnOf (Event.joinAssemble id set version) c)
+pub assemble-trial : (id set version : ℕ) (c : Pool) → isAnswer (Event.joinAssemble id set version) ≡ false → isAccepted (turnOf (Event.joinAssemble id set version) c .answer) ≡ true → Tries c (turnOf (Event.joinAssemble id set version) c)
 unfolding joinCreate createRefusal createDone joinAssemble assembleRefusal assembleDone enable enableRefusal enableDone maintenance maintenanceRefusal maintenanceDone linkDown downDone storeCheck checkRefusal checkDone tryRun tryRefusal remove removeTurn writeEnded writeRefusal writeDone writeTurn synced syncRefusal syncDone syncedTurn
 assemble-trial id set version c n =
-    taken (Tries (c .pool)) (assembleRefusal (c .pool) id set version) _ (c .pool)
-    (λ e. by-trial (c .pool) _ _ _ (idle-at (c .pool) (none-applies (testsOf (Event.joinAssemble id set version) c) e 6 refl)))
+    taken (Tries c) (assembleRefusal c id set version) _ c
+    (λ e. by-trial c _ _ _ (idle-at c (none-applies (testsOf (Event.joinAssemble id set version) c) e 6 refl)))
 
-pub enable-trial : (id : ℕ) (c : Client) → isAnswer (Event.enable id) ≡ false → isAccepted (outOf (Event.enable id) c .answer) ≡ true → Tries (c .pool) (turnOf (Event.enable id) c)
+pub enable-trial : (id : ℕ) (c : Pool) → isAnswer (Event.enable id) ≡ false → isAccepted (turnOf (Event.enable id) c .answer) ≡ true → Tries c (turnOf (Event.enable id) c)
 unfolding joinCreate createRefusal createDone joinAssemble assembleRefusal assembleDone enable enableRefusal enableDone maintenance maintenanceRefusal maintenanceDone linkDown downDone storeCheck checkRefusal checkDone tryRun tryRefusal remove removeTurn writeEnded writeRefusal writeDone writeTurn synced syncRefusal syncDone syncedTurn
 enable-trial id c n =
-    taken (Tries (c .pool)) (enableRefusal (c .pool) id) _ (c .pool)
-    (λ e. let i = idle-at (c .pool) (none-applies (testsOf (Event.enable id) c) e 6 refl) in
-    either (Tries (c .pool)) (isCreated (sessionAt (c .pool .roster) id .state)) _ _ (no-run (c .pool) _ (idle-none (c .pool .job) i)) (by-trial (c .pool) _ _ _ i))
+    taken (Tries c) (enableRefusal c id) _ c
+    (λ e. let i = idle-at c (none-applies (testsOf (Event.enable id) c) e 6 refl) in
+    either (Tries c) (isCreated (sessionAt (c .roster) id .state)) _ _ (no-run c _ (idle-none (c .job) i)) (by-trial c _ _ _ i))
 
-pub maintenance-trial : (id : ℕ) (c : Client) → isAnswer (Event.maintenance id) ≡ false → isAccepted (outOf (Event.maintenance id) c .answer) ≡ true → Tries (c .pool) (turnOf (Event.maintenance id) c)
+pub maintenance-trial : (id : ℕ) (c : Pool) → isAnswer (Event.maintenance id) ≡ false → isAccepted (turnOf (Event.maintenance id) c .answer) ≡ true → Tries c (turnOf (Event.maintenance id) c)
 unfolding joinCreate createRefusal createDone joinAssemble assembleRefusal assembleDone enable enableRefusal enableDone maintenance maintenanceRefusal maintenanceDone linkDown downDone storeCheck checkRefusal checkDone tryRun tryRefusal remove removeTurn writeEnded writeRefusal writeDone writeTurn synced syncRefusal syncDone syncedTurn
 maintenance-trial id c n =
-    taken (Tries (c .pool)) (maintenanceRefusal (c .pool) id) _ (c .pool)
-    (λ e. no-run (c .pool) _ (idle-none (c .pool .job) (idle-at (c .pool) (none-applies (testsOf (Event.maintenance id) c) e 6 refl))))
+    taken (Tries c) (maintenanceRefusal c id) _ c
+    (λ e. no-run c _ (idle-none (c .job) (idle-at c (none-applies (testsOf (Event.maintenance id) c) e 6 refl))))
 
-pub down-trial : (id : ℕ) (c : Client) → isAnswer (Event.linkDown id) ≡ false → isAccepted (outOf (Event.linkDown id) c .answer) ≡ true → Tries (c .pool) (turnOf (Event.linkDown id) c)
+pub down-trial : (id : ℕ) (c : Pool) → isAnswer (Event.linkDown id) ≡ false → isAccepted (turnOf (Event.linkDown id) c .answer) ≡ true → Tries c (turnOf (Event.linkDown id) c)
 unfolding joinCreate createRefusal createDone joinAssemble assembleRefusal assembleDone enable enableRefusal enableDone maintenance maintenanceRefusal maintenanceDone linkDown downDone storeCheck checkRefusal checkDone tryRun tryRefusal remove removeTurn writeEnded writeRefusal writeDone writeTurn synced syncRefusal syncDone syncedTurn
-down-trial id c n = taken (Tries (c .pool)) (downRefusal (c .pool) id) _ (c .pool) (λ e. down-tries (c .pool .job) (c .pool) id refl)
+down-trial id c n = taken (Tries c) (downRefusal c id) _ c (λ e. down-tries (c .job) c id refl)
 
-pub check-trial : (id : ℕ) (c : Client) → isAnswer (Event.storeCheck id) ≡ false → isAccepted (outOf (Event.storeCheck id) c .answer) ≡ true → Tries (c .pool) (turnOf (Event.storeCheck id) c)
+pub check-trial : (id : ℕ) (c : Pool) → isAnswer (Event.storeCheck id) ≡ false → isAccepted (turnOf (Event.storeCheck id) c .answer) ≡ true → Tries c (turnOf (Event.storeCheck id) c)
 unfolding joinCreate createRefusal createDone joinAssemble assembleRefusal assembleDone enable enableRefusal enableDone maintenance maintenanceRefusal maintenanceDone linkDown downDone storeCheck checkRefusal checkDone tryRun tryRefusal remove removeTurn writeEnded writeRefusal writeDone writeTurn synced syncRefusal syncDone syncedTurn
 check-trial id c n =
-    taken (Tries (c .pool)) (checkRefusal (c .pool) id) _ (c .pool)
-    (λ e. let i = idle-at (c .pool) (none-applies (testsOf (Event.storeCheck id) c) e 6 refl) in
-    either (Tries (c .pool)) (c .pool .roster .sync) _ _ (no-run (c .pool) _ (idle-none (c .pool .job) i)) (by-trial (c .pool) _ _ _ i))
+    taken (Tries c) (checkRefusal c id) _ c
+    (λ e. let i = idle-at c (none-applies (testsOf (Event.storeCheck id) c) e 6 refl) in
+    either (Tries c) (c .roster .sync) _ _ (no-run c _ (idle-none (c .job) i)) (by-trial c _ _ _ i))
 
-pub try-trial : (c : Client) → isAnswer Event.tryRun ≡ false → isAccepted (outOf Event.tryRun c .answer) ≡ true → Tries (c .pool) (turnOf Event.tryRun c)
+pub try-trial : (c : Pool) → isAnswer Event.tryRun ≡ false → isAccepted (turnOf Event.tryRun c .answer) ≡ true → Tries c (turnOf Event.tryRun c)
 unfolding joinCreate createRefusal createDone joinAssemble assembleRefusal assembleDone enable enableRefusal enableDone maintenance maintenanceRefusal maintenanceDone linkDown downDone storeCheck checkRefusal checkDone tryRun tryRefusal remove removeTurn writeEnded writeRefusal writeDone writeTurn synced syncRefusal syncDone syncedTurn
 try-trial c n =
-    taken (Tries (c .pool)) (tryRefusal (c .pool)) _ (c .pool)
-    (λ e. by-trial (c .pool) (c .pool .roster) _ _ (idle-at (c .pool) (none-applies (testsOf Event.tryRun c) e 6 refl)))
+    taken (Tries c) (tryRefusal c) _ c
+    (λ e. by-trial c (c .roster) _ _ (idle-at c (none-applies (testsOf Event.tryRun c) e 6 refl)))
 
-pub remove-trial : (xs : List ℕ) (id : ℕ) (mode : Mode) (c : Client) → isAnswer (Event.remove xs id mode) ≡ false → isAccepted (outOf (Event.remove xs id mode) c .answer) ≡ true → Tries (c .pool) (turnOf (Event.remove xs id mode) c)
+pub remove-trial : (xs : List ℕ) (id : ℕ) (mode : Mode) (c : Pool) → isAnswer (Event.remove xs id mode) ≡ false → isAccepted (turnOf (Event.remove xs id mode) c .answer) ≡ true → Tries c (turnOf (Event.remove xs id mode) c)
 unfolding joinCreate createRefusal createDone joinAssemble assembleRefusal assembleDone enable enableRefusal enableDone maintenance maintenanceRefusal maintenanceDone linkDown downDone storeCheck checkRefusal checkDone tryRun tryRefusal remove removeTurn writeEnded writeRefusal writeDone writeTurn synced syncRefusal syncDone syncedTurn
-remove-trial xs id mode c n = taken (Tries (c .pool)) (removeRefusal (c .pool) (soundFor (c .pool) xs) id mode) _ (c .pool) (λ e. no-run (c .pool) _ (started-calm _ id))
+remove-trial xs id mode c n = taken (Tries c) (removeRefusal c (soundFor c xs) id mode) _ c (λ e. no-run c _ (started-calm _ id))
 
-pub write-trial : (xs : List ℕ) (chunk reached : ℕ) (c : Client) → isAnswer (Event.write xs chunk reached) ≡ false → isAccepted (outOf (Event.write xs chunk reached) c .answer) ≡ true → Tries (c .pool) (turnOf (Event.write xs chunk reached) c)
+pub write-trial : (xs : List ℕ) (chunk reached : ℕ) (c : Pool) → isAnswer (Event.write xs chunk reached) ≡ false → isAccepted (turnOf (Event.write xs chunk reached) c .answer) ≡ true → Tries c (turnOf (Event.write xs chunk reached) c)
 unfolding joinCreate createRefusal createDone joinAssemble assembleRefusal assembleDone enable enableRefusal enableDone maintenance maintenanceRefusal maintenanceDone linkDown downDone storeCheck checkRefusal checkDone tryRun tryRefusal remove removeTurn writeEnded writeRefusal writeDone writeTurn synced syncRefusal syncDone syncedTurn
 write-trial xs chunk reached c n =
-    taken (Tries (c .pool)) (writeRefusal (c .pool) (soundFor (c .pool) xs) chunk reached) _ (c .pool)
-    (λ e. let i : isRunning (c .pool .job) ≡ false = none-applies (testsOf (Event.write xs chunk reached) c) e 6 refl in
-    no-run (c .pool) _
-    (marks-quiet (c .pool) _ chunk reached
-    (halts Quiet (loses (c .pool .job) (c .pool .roster) reached) (withRoster (c .pool) (wroteIn (c .pool) reached)) refl i)))
+    taken (Tries c) (writeRefusal c (soundFor c xs) chunk reached) _ c
+    (λ e. let i : isRunning (c .job) ≡ false = none-applies (testsOf (Event.write xs chunk reached) c) e 6 refl in
+    no-run c _
+    (marks-quiet c _ chunk reached
+    (halts Quiet (loses (c .job) (c .roster) reached) (withRoster c (wroteIn c reached)) refl i)))
 
-pub synced-trial : (xs : List ℕ) (member chunk : ℕ) (c : Client) → isAnswer (Event.synced xs member chunk) ≡ false → isAccepted (outOf (Event.synced xs member chunk) c .answer) ≡ true → Tries (c .pool) (turnOf (Event.synced xs member chunk) c)
+pub synced-trial : (xs : List ℕ) (member chunk : ℕ) (c : Pool) → isAnswer (Event.synced xs member chunk) ≡ false → isAccepted (turnOf (Event.synced xs member chunk) c .answer) ≡ true → Tries c (turnOf (Event.synced xs member chunk) c)
 unfolding joinCreate createRefusal createDone joinAssemble assembleRefusal assembleDone enable enableRefusal enableDone maintenance maintenanceRefusal maintenanceDone linkDown downDone storeCheck checkRefusal checkDone tryRun tryRefusal remove removeTurn writeEnded writeRefusal writeDone writeTurn synced syncRefusal syncDone syncedTurn
 synced-trial xs member chunk c n =
-    taken (Tries (c .pool)) (syncRefusal (c .pool) (soundFor (c .pool) xs) member chunk (cleanTo xs chunk 16)) _ (c .pool)
-    (λ e. no-run (c .pool) _ (none-applies (testsOf (Event.synced xs member chunk) c) e 6 refl))
+    taken (Tries c) (syncRefusal c (soundFor c xs) member chunk (cleanTo xs chunk 16)) _ c
+    (λ e. no-run c _ (none-applies (testsOf (Event.synced xs member chunk) c) e 6 refl))

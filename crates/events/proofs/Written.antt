@@ -35,8 +35,7 @@ use Rattle.keeps.specs.Records.{normal-below}
 use Rattle.writes.proofs.Kept.{wroteIn, write-passed, write-roster, missed-does, Writes, reached-normal, marks-pool}
 use Rattle.writes.specs.Writes.{missed, writeRefusal, writeEnded, marks, writeDone, loses}
 use Rattle.client.specs.Client.{carried, soundFor, writeTurn}
-use Rattle.client.specs.declared.Client.{Client}
-use Rattle.events.specs.Events.{Event, isAccepted, Lent, outOf, next, stateOf, jobOf}
+use Rattle.events.specs.Events.{Event, isAccepted, Lent, turnOf, next, stateOf, jobOf}
 use Rattle.events.specs.Said.{membersOf, sends, missesPeer, Wrote, Marks, MarksNone}
 use Rattle.events.proofs.Every.{event-keeps}
 use Rattle.events.proofs.Shape.{taken}
@@ -49,41 +48,41 @@ peer-below : (st : Stage) (id : ℕ) → id < 16 → stageOk st id ≡ true → 
 peer-below Stage.Leave id h e = h
 peer-below (Stage.Info peer) id h e = ltb-true peer 16 (and-left (ltb peer 16) (not (eqb peer id)) e)
 
-lost-is : (k : Job) (c : Client) (reached : ℕ) → Valid (c .pool) → jobOk k (c .pool .roster) ≡ true → loses k (c .pool .roster) reached ≡ missesPeer k c reached
+lost-is : (k : Job) (c : Pool) (reached : ℕ) → Valid c → jobOk k (c .roster) ≡ true → loses k (c .roster) reached ≡ missesPeer k c reached
 lost-is Job.Idle c reached v o = refl
 lost-is (Job.Running r) c reached v o = refl
 lost-is (Job.Removing m) c reached v o =
-    let h = removal-facts (c .pool .roster) m (v .ok .long) o in
-    ids-has (Kind.Unreached reached) (c .pool .roster) (v .ok .long) (peerAt (m .stage) (m .id)) (peer-below (m .stage) (m .id) (h .below) (h .stage))
+    let h = removal-facts (c .roster) m (v .ok .long) o in
+    ids-has (Kind.Unreached reached) (c .roster) (v .ok .long) (peerAt (m .stage) (m .id)) (peer-below (m .stage) (m .id) (h .below) (h .stage))
 
 halted-job : (b : Bool) (p : Pool) → haltedIf b p .job ≡ pick b Job.Idle (p .job)
 halted-job true p = refl
 halted-job false p = refl
 
-wrote : (c : Client) (chunk reached : ℕ) → Valid (c .pool) → Writes (c .pool) reached → Wrote c reached (record { pool = writeDone (c .pool) chunk reached .pool })
+wrote : (c : Pool) (chunk reached : ℕ) → Valid c → Writes c reached → Wrote c reached (writeDone c chunk reached .pool)
 unfolding writeDone
 wrote c chunk reached v w =
     record {
-      fails = λ id n. ap (λ (ro : Roster). sessionAt ro id .state) (write-roster (c .pool) chunk reached) ∙ by-cases (has reached id) (spared id n) (failed id n);
-      halts = marks-pool (λ q. q .job ≡ pick (missesPeer (jobOf c) c reached) Job.Idle (jobOf c)) (c .pool) (haltedIf (loses (c .pool .job) (c .pool .roster) reached) (withRoster (c .pool) (wroteIn (c .pool) reached))) chunk reached
-          (halted-job (loses (c .pool .job) (c .pool .roster) reached) (withRoster (c .pool) (wroteIn (c .pool) reached)) ∙ ap (λ (b : Bool). pick b Job.Idle (jobOf c)) (lost-is (c .pool .job) c reached v (v .job)));
+      fails = λ id n. ap (λ (ro : Roster). sessionAt ro id .state) (write-roster c chunk reached) ∙ by-cases (has reached id) (spared id n) (failed id n);
+      halts = marks-pool (λ q. q .job ≡ pick (missesPeer (jobOf c) c reached) Job.Idle (jobOf c)) c (haltedIf (loses (c .job) (c .roster) reached) (withRoster c (wroteIn c reached))) chunk reached
+          (halted-job (loses (c .job) (c .roster) reached) (withRoster c (wroteIn c reached)) ∙ ap (λ (b : Bool). pick b Job.Idle (jobOf c)) (lost-is (c .job) c reached v (v .job)));
     }
   where
-    spared : (id : ℕ) → isNormal (stateOf c id) ≡ true → has reached id ≡ true → sessionAt (missed (c .pool .roster) reached) id .state ≡ pick (has reached id) State.Normal (State.Failed Cause.Io)
+    spared : (id : ℕ) → isNormal (stateOf c id) ≡ true → has reached id ≡ true → sessionAt (missed (c .roster) reached) id .state ≡ pick (has reached id) State.Normal (State.Failed Cause.Io)
     spared id n h =
-        let d = missed-does (c .pool .roster) reached (v .ok) (w .plain) in
+        let d = missed-does (c .roster) reached (v .ok) (w .plain) in
         ap (λ (s : Session). s .state) (d .spares id (rw h (and-false (isNormal (stateOf c id))))) ∙ rw h (normal-is (stateOf c id) n)
 
-    failed : (id : ℕ) → isNormal (stateOf c id) ≡ true → has reached id ≡ false → sessionAt (missed (c .pool .roster) reached) id .state ≡ pick (has reached id) State.Normal (State.Failed Cause.Io)
+    failed : (id : ℕ) → isNormal (stateOf c id) ≡ true → has reached id ≡ false → sessionAt (missed (c .roster) reached) id .state ≡ pick (has reached id) State.Normal (State.Failed Cause.Io)
     failed id n h =
-        let d = missed-does (c .pool .roster) reached (v .ok) (w .plain) in
-        ap (λ (s : Session). s .state) (d .fails id (normal-below (c .pool .roster) id (v .ok .long) n) (rw (n, h) refl)) ∙ rw h refl
+        let d = missed-does (c .roster) reached (v .ok) (w .plain) in
+        ap (λ (s : Session). s .state) (d .fails id (normal-below (c .roster) id (v .ok .long) n) (rw (n, h) refl)) ∙ rw h refl
 
-pub write-said : (c : Client) (xs : List ℕ) (chunk reached : ℕ) → Valid (c .pool) → isAccepted (outOf (Event.write xs chunk reached) c .answer) ≡ true → Wrote c reached (next (Event.write xs chunk reached) c)
+pub write-said : (c : Pool) (xs : List ℕ) (chunk reached : ℕ) → Valid c → isAccepted (turnOf (Event.write xs chunk reached) c .answer) ≡ true → Wrote c reached (next (Event.write xs chunk reached) c)
 unfolding writeEnded writeTurn
 write-said c xs chunk reached v =
-    taken (λ t. Wrote c reached (record { pool = t .pool })) (writeRefusal (c .pool) (soundFor (c .pool) xs) chunk reached) (writeDone (c .pool) chunk reached) (c .pool)
-    (λ e. wrote c chunk reached v (write-passed (c .pool) (soundFor (c .pool) xs) chunk reached e))
+    taken (λ t. Wrote c reached (t .pool)) (writeRefusal c (soundFor c xs) chunk reached) (writeDone c chunk reached) c
+    (λ e. wrote c chunk reached v (write-passed c (soundFor c xs) chunk reached e))
 
 -- ---- what is marked
 
@@ -104,45 +103,45 @@ marks-none : (before after : Pool) (chunk reached : ℕ) → reached ≡ 0 → M
 unfolding marks
 marks-none before after chunk reached z = rw (eq-eqb reached 0 z) (refl, refl)
 
-module _ (c : Client) (xs : List ℕ) (chunk reached : ℕ) (v : Valid (c .pool)) (d : isAccepted (outOf (Event.write xs chunk reached) c .answer) ≡ true) where
-  write-marks-some : reached ≢ 0 → MarksIn chunk reached (writeTurn (c .pool) xs chunk reached)
+module _ (c : Pool) (xs : List ℕ) (chunk reached : ℕ) (v : Valid c) (d : isAccepted (turnOf (Event.write xs chunk reached) c .answer) ≡ true) where
+  write-marks-some : reached ≢ 0 → MarksIn chunk reached (writeTurn c xs chunk reached)
   unfolding writeEnded writeTurn writeDone
-  write-marks-some n = taken (MarksIn chunk reached) (writeRefusal (c .pool) (soundFor (c .pool) xs) chunk reached) (writeDone (c .pool) chunk reached) (c .pool) (λ e. marks-some (c .pool) _ chunk reached n) d
+  write-marks-some n = taken (MarksIn chunk reached) (writeRefusal c (soundFor c xs) chunk reached) (writeDone c chunk reached) c (λ e. marks-some c _ chunk reached n) d
 
-  write-marks-none : reached ≡ 0 → MarksNobody (writeTurn (c .pool) xs chunk reached)
+  write-marks-none : reached ≡ 0 → MarksNobody (writeTurn c xs chunk reached)
   unfolding writeEnded writeTurn writeDone
-  write-marks-none z = taken MarksNobody (writeRefusal (c .pool) (soundFor (c .pool) xs) chunk reached) (writeDone (c .pool) chunk reached) (c .pool) (λ e. marks-none (c .pool) _ chunk reached z) d
+  write-marks-none z = taken MarksNobody (writeRefusal c (soundFor c xs) chunk reached) (writeDone c chunk reached) c (λ e. marks-none c _ chunk reached z) d
 
   reached-all : (id : ℕ) → has reached id ≡ true → isNormal (stateOf c id) ≡ true
   unfolding writeEnded writeTurn
   reached-all =
-      taken (λ t. (id : ℕ) → has reached id ≡ true → isNormal (stateOf c id) ≡ true) (writeRefusal (c .pool) (soundFor (c .pool) xs) chunk reached) (writeDone (c .pool) chunk reached) (c .pool)
-      (λ e. reached-normal (c .pool .roster) reached (v .ok .long) (write-passed (c .pool) (soundFor (c .pool) xs) chunk reached e .reaches)) d
+      taken (λ t. (id : ℕ) → has reached id ≡ true → isNormal (stateOf c id) ≡ true) (writeRefusal c (soundFor c xs) chunk reached) (writeDone c chunk reached) c
+      (λ e. reached-normal (c .roster) reached (v .ok .long) (write-passed c (soundFor c xs) chunk reached e .reaches)) d
 
 -- the mark list, id by id
-listed-is : (c : Client) (id : ℕ) → Valid (c .pool) → has (idsOf Kind.Listed (c .pool .roster)) id ≡ (has (membersOf c) id && (not (isNormal (stateOf c id)) && not (isDeleting (stateOf c id))))
+listed-is : (c : Pool) (id : ℕ) → Valid c → has (idsOf Kind.Listed (c .roster)) id ≡ (has (membersOf c) id && (not (isNormal (stateOf c id)) && not (isDeleting (stateOf c id))))
 listed-is c id v = elim (decLt id 16) [
-  | yes h ↦ ids-has Kind.Listed (c .pool .roster) (v .ok .long) id h
-  | no n ↦ let g : 16 ≤ id = omega (arith, n) in has-out (idsOf Kind.Listed (c .pool .roster)) id g ∙ sym (rw (has-out (membersOf c) id g) refl)
+  | yes h ↦ ids-has Kind.Listed (c .roster) (v .ok .long) id h
+  | no n ↦ let g : 16 ≤ id = omega (arith, n) in has-out (idsOf Kind.Listed (c .roster)) id g ∙ sym (rw (has-out (membersOf c) id g) refl)
 ]
 
-pub marks-said : (c : Client) (xs : List ℕ) (chunk reached : ℕ) → Valid (c .pool) → isAccepted (outOf (Event.write xs chunk reached) c .answer) ≡ true → reached ≢ 0 → Marks c xs chunk reached (Event.write xs chunk reached)
+pub marks-said : (c : Pool) (xs : List ℕ) (chunk reached : ℕ) → Valid c → isAccepted (turnOf (Event.write xs chunk reached) c .answer) ≡ true → reached ≢ 0 → Marks c xs chunk reached (Event.write xs chunk reached)
 marks-said c xs chunk reached v d n =
     record {
-      list = idsOf Kind.Listed (c′ .pool .roster);
+      list = idsOf Kind.Listed (c′ .roster);
       listed = λ id. listed-is c′ id v′;
       spared = λ id h. listed-is c′ id v′ ∙ rw (write-said c xs chunk reached v d .fails id (reached-all c xs chunk reached v d id h), h) (and-false (has (membersOf c′) id));
       answer = write-marks-some c xs chunk reached v d n .0;
       map = ap (λ (ef : Effect). Lent.some (carried ef xs)) (write-marks-some c xs chunk reached v d n .1);
     }
   where
-    c′ : Client
+    c′ : Pool
     c′ = next (Event.write xs chunk reached) c
 
-    v′ : Valid (next (Event.write xs chunk reached) c .pool)
+    v′ : Valid (next (Event.write xs chunk reached) c)
     v′ = event-keeps (Event.write xs chunk reached) c v
 
-pub none-said : (c : Client) (xs : List ℕ) (chunk reached : ℕ) → Valid (c .pool) → isAccepted (outOf (Event.write xs chunk reached) c .answer) ≡ true → reached ≡ 0 → MarksNone c xs (Event.write xs chunk reached)
+pub none-said : (c : Pool) (xs : List ℕ) (chunk reached : ℕ) → Valid c → isAccepted (turnOf (Event.write xs chunk reached) c .answer) ≡ true → reached ≡ 0 → MarksNone c xs (Event.write xs chunk reached)
 none-said c xs chunk reached v d z =
     let m = write-marks-none c xs chunk reached v d z in
     record { answer = m .0; map = ap (λ (ef : Effect). Lent.some (carried ef xs)) (m .1) }

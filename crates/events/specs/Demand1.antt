@@ -6,21 +6,21 @@ use Rattle.order.specs.Order.{First, None}
 use Rattle.state.specs.declared.Sent.{Sent}
 use Rattle.state.specs.declared.Answer.{Answer}
 use Rattle.state.specs.declared.Effect.{Effect}
-use Rattle.client.specs.declared.Client.{Client}
-use Rattle.events.specs.Events.{Event, turnOf, outOf, next, lentTo, mapLeft, testsOf}
+use Rattle.state.specs.declared.Pool.{Pool}
+use Rattle.events.specs.Events.{Event, turnOf, next, lentTo, mapLeft, testsOf}
 
 -- A refusal's number is the first that applies; client and lent map are as they were. An answer Refused carries no message.
-pub record Refuses (e : Event) (c : Client) (n : ℕ) : Type 0 where
+pub record Refuses (e : Event) (c : Pool) (n : ℕ) : Type 0 where
   pub first : First (testsOf e c) n
-  pub client : next e c ≡ c
+  pub pool : next e c ≡ c
   pub effect : turnOf e c .effect ≡ Effect.Keep
   pub map : mapLeft e c ≡ lentTo e
 
 -- Every answer is a refusal, which is then the first that applies and changes nothing; or it is none, and then no number applies.
-pub data Verdict (e : Event) (c : Client) : Type 0 where
-  refused : (n : ℕ) → outOf e c .answer ≡ Answer.Refused n → Refuses e c n → Verdict e c
-  done : (s : Sent) → outOf e c .answer ≡ Answer.Done s → None (testsOf e c) → Verdict e c
+pub data Verdict (e : Event) (c : Pool) : Type 0 where
+  refused : (n : ℕ) → turnOf e c .answer ≡ Answer.Refused n → Refuses e c n → Verdict e c
+  done : (s : Sent) → turnOf e c .answer ≡ Answer.Done s → None (testsOf e c) → Verdict e c
 
 -- Assumed: nothing. The state may break every rule, the numbers may be anything, the bytes of any length.
 abbrev pub Demand1 : Type 0
-Demand1 = (e : Event) (c : Client) → Verdict e c
+Demand1 = (e : Event) (c : Pool) → Verdict e c

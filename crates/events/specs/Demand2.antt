@@ -14,23 +14,23 @@ use Rattle.state.specs.Session.{isNormal, isRemoving}
 use Rattle.state.specs.Table.{legal}
 use Rattle.changes.specs.Changes.{unmarked}
 use Rattle.rules.specs.Rules.{validPool}
-use Rattle.client.specs.declared.Client.{Client}
-use Rattle.client.specs.Client.{fresh}
-use Rattle.events.specs.Events.{Event, turnOf, outOf, next, Lent, lentTo, mapLeft, recordOf, stateOf, isSync, concerns, touches}
+use Rattle.state.specs.declared.Pool.{Pool}
+use Rattle.client.specs.Client.{freshPool}
+use Rattle.events.specs.Events.{Event, turnOf, next, Lent, lentTo, mapLeft, recordOf, stateOf, isSync, concerns, touches}
 
--- A client is reached if it is a fresh one of a pool of 1 to 4,096 chunks, sync or not, or what an event handed back at a reached one: any event, with any
+-- A pool is reached if it is a fresh one of 1 to 4,096 chunks, sync or not, or what an event handed back at a reached one: any event, with any
 -- data and any lent bytes, accepted or refused.
-pub data Reached : Client → Type 0 where
-  start : (sync : Bool) (chunks : ℕ) → 1 ≤ chunks → chunks ≤ chunkLimit → Reached (fresh sync chunks)
-  then : (c : Client) (e : Event) → Reached c → Reached (next e c)
+pub data Reached : Pool → Type 0 where
+  start : (sync : Bool) (chunks : ℕ) → 1 ≤ chunks → chunks ≤ chunkLimit → Reached (freshPool sync chunks)
+  then : (c : Pool) (e : Event) → Reached c → Reached (next e c)
 
 -- Every reached client keeps the state rules.
 abbrev pub RulesKept : Type 0
-RulesKept = (c : Client) → Reached c → validPool (c .pool) ≡ true
+RulesKept = (c : Pool) → Reached c → validPool c ≡ true
 
 -- So refusal 1 is never given there.
 abbrev pub NeverOne : Type 0
-NeverOne = (c : Client) → Reached c → (e : Event) (n : ℕ) → outOf e c .answer ≡ Answer.Refused n → n ≢ 1
+NeverOne = (c : Pool) → Reached c → (e : Event) (n : ℕ) → turnOf e c .answer ≡ Answer.Refused n → n ≢ 1
 
 -- What one event may make of the state of id's session: it stays; it goes along source document 001's table; it begins, at join create CREATED (in a sync pool
 -- NORMAL), at join assemble CREATED, then RECONNECTING, at extend RECONNECTING; while it is REMOVING its LEAVE_POOL is done, or it is freed; and remove, of its own id, may take it to
@@ -47,30 +47,30 @@ pub data Change (sync : Bool) (e : Event) (id : ℕ) (from to : State) : Type 0 
 
 -- At every reached client, every event makes one such change of each session, and never changes the pool's kind.
 abbrev pub ByTheTable : Type 0
-ByTheTable = (c : Client) → Reached c → (e : Event) → ((id : ℕ) → Change (isSync c) e id (stateOf c id) (stateOf (next e c) id)) × (isSync (next e c) ≡ isSync c)
+ByTheTable = (c : Pool) → Reached c → (e : Event) → ((id : ℕ) → Change (isSync c) e id (stateOf c id) (stateOf (next e c) id)) × (isSync (next e c) ≡ isSync c)
 
 -- At every reached client, no event lowers the version.
 abbrev pub VersionNeverFalls : Type 0
-VersionNeverFalls = (c : Client) → Reached c → (e : Event) → c .pool .roster .version ≤ next e c .pool .roster .version
+VersionNeverFalls = (c : Pool) → Reached c → (e : Event) → c .roster .version ≤ next e c .roster .version
 
 -- In an event from c to c′ some session entered NORMAL.
-pub record Entered (c c′ : Client) : Type 0 where
+pub record Entered (c c′ : Pool) : Type 0 where
   pub who : ℕ
   pub before : isNormal (stateOf c who) ≡ false
   pub after : isNormal (stateOf c′ who) ≡ true
 
 -- a session's record is as it was; or it is the old one with its mark gone, and some session entered NORMAL
-pub data Kept (c c′ : Client) (id : ℕ) : Type 0 where
+pub data Kept (c c′ : Pool) (id : ℕ) : Type 0 where
   equal : recordOf c′ id ≡ recordOf c id → Kept c c′ id
   cleared : recordOf c′ id ≡ unmarked (recordOf c id) → Entered c c′ → Kept c c′ id
 
 -- Every other session's record is kept so.
 abbrev pub OthersStay : Type 0
-OthersStay = (c : Client) → Reached c → (e : Event) (id : ℕ) → concerns e c id ≡ false → Kept c (next e c) id
+OthersStay = (c : Pool) → Reached c → (e : Event) (id : ℕ) → concerns e c id ≡ false → Kept c (next e c) id
 
 -- Of every event at a reached client.
 abbrev pub MapOnly : Type 0
-MapOnly = (c : Client) → Reached c → (e : Event) → touches e c (next e c .pool .roster) (turnOf e c .effect) ≡ true
+MapOnly = (c : Pool) → Reached c → (e : Event) → touches e c (next e c .roster) (turnOf e c .effect) ≡ true
 
 -- a lent map, if there is one, is sound for n chunks
 abbrev pub soundLent : ℕ → Lent → Bool
@@ -79,6 +79,6 @@ soundLent n (Lent.some xs) = sound n xs
 
 -- The chunk count never changes, and a sound map that is lent is left sound: bits past the chunk count stay 0.
 abbrev pub SoundStays : Type 0
-SoundStays = (c : Client) → Reached c → (e : Event)
-    → (next e c .pool .chunks ≡ c .pool .chunks)
-    × (soundLent (c .pool .chunks) (lentTo e) ≡ true → soundLent (next e c .pool .chunks) (mapLeft e c) ≡ true)
+SoundStays = (c : Pool) → Reached c → (e : Event)
+    → (next e c .chunks ≡ c .chunks)
+    × (soundLent (c .chunks) (lentTo e) ≡ true → soundLent (next e c .chunks) (mapLeft e c) ≡ true)

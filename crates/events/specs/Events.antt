@@ -28,9 +28,8 @@ use Rattle.links.specs.Links as Links
 use Rattle.removal.specs.Remove as Remove
 use Rattle.writes.specs.Writes as Writes
 use Rattle.answers.specs.Answers as Answers
-use Rattle.client.specs.declared.Client.{Client}
-use Rattle.client.specs.declared.Out.{Out}
-use Rattle.client.specs.Client.{handed, carried, soundFor, extendTurn, removeTurn, writeTurn, answerTurn, cleanTo, syncedTurn}
+use Rattle.state.specs.declared.Pool.{Pool}
+use Rattle.client.specs.Client.{carried, soundFor, extendTurn, removeTurn, writeTurn, answerTurn, cleanTo, syncedTurn}
 
 -- join create: id. join assemble: id, set, version. remove: map, id, mode. write: map, chunk, reached set. synced: a NORMAL node's map, member, chunk.
 -- answer: map, number, reply. extend: map.
@@ -57,18 +56,18 @@ pub data Lent : Type 0 where
   some : List ℕ → Lent
 
 -- the record of an id's session, and its state
-abbrev pub recordOf : Client → ℕ → Session
-recordOf c id = sessionAt (c .pool .roster) id
+abbrev pub recordOf : Pool → ℕ → Session
+recordOf c id = sessionAt (c .roster) id
 
-abbrev pub stateOf : Client → ℕ → State
+abbrev pub stateOf : Pool → ℕ → State
 stateOf c id = recordOf c id .state
 
 -- the pool's kind
-abbrev pub isSync : Client → Bool
-isSync c = c .pool .roster .sync
+abbrev pub isSync : Pool → Bool
+isSync c = c .roster .sync
 
-abbrev pub jobOf : Client → Job
-jobOf c = c .pool .job
+abbrev pub jobOf : Pool → Job
+jobOf c = c .job
 
 -- the one that an answer makes NORMAL
 abbrev pub isOne : Who → ℕ → Bool
@@ -76,9 +75,9 @@ isOne Who.Nobody j = false
 isOne (Who.One id) j = eqb j id
 
 -- the session that an answer is about: in a run the one that it makes NORMAL, if any; in a removal the one that is removed
-abbrev pub answerConcerns : Job → Client → Reply → ℕ → Bool
+abbrev pub answerConcerns : Job → Pool → Reply → ℕ → Bool
 answerConcerns Job.Idle c a j = false
-answerConcerns (Job.Running r) c a j = isOne (takes (c .pool .roster .members) (c .pool .roster .version) r a .normal) j
+answerConcerns (Job.Running r) c a j = isOne (takes (c .roster .members) (c .roster .version) r a .normal) j
 answerConcerns (Job.Removing d) c a j = eqb j (d .id)
 
 -- no session is left
@@ -102,7 +101,7 @@ removalTouches id deletes after Effect.ZeroAll = nobodyLeft after
 removalTouches id deletes after (Effect.FillRow m n) = false
 
 -- what an answer may do to it
-abbrev pub answerTouches : Job → Client → Roster → Effect → Bool
+abbrev pub answerTouches : Job → Pool → Roster → Effect → Bool
 answerTouches Job.Idle c after ef = keeps ef
 answerTouches (Job.Running r) c after ef = keeps ef
 answerTouches (Job.Removing d) c after ef = removalTouches (d .id) (isDeleting (stateOf c (d .id))) after ef
@@ -116,16 +115,16 @@ writeTouches chunk after Effect.ZeroAll = false
 writeTouches chunk after (Effect.FillRow m n) = false
 
 -- the id that extend picks: the lowest that is neither a member nor held by a session
-abbrev pub picks : Client → ℕ
-picks c = Extending.picked (c .pool .roster)
+abbrev pub picks : Pool → ℕ
+picks c = Extending.picked (c .roster)
 
 -- what extend may do to it: set that id's row for every chunk
-abbrev pub extendTouches : Client → Effect → Bool
+abbrev pub extendTouches : Pool → Effect → Bool
 extendTouches c Effect.Keep = true
 extendTouches c (Effect.Mark s k) = false
 extendTouches c (Effect.ZeroRow m) = false
 extendTouches c Effect.ZeroAll = false
-extendTouches c (Effect.FillRow m n) = eqb m (picks c) && eqb n (c .pool .chunks)
+extendTouches c (Effect.FillRow m n) = eqb m (picks c) && eqb n (c .chunks)
 
 -- An event's part in a removal: remove, of an id in a mode; an answer, while a removal is in hand; none.
 pub data Part : Type 0 where
@@ -161,18 +160,18 @@ sortIsDown Sort.barred = false
 -- touches: what it may do to the map that is lent to it, given the sessions that it leaves: a write marks, a removal zeroes, extend sets a row, every other event does nothing. part: its part in
 -- a removal. sort: how it comes during a run. raises: it may raise the version.
 pub record Case : Type 0 where
-  pub tests : Client → List Test
-  pub turn : Client → Turn
+  pub tests : Pool → List Test
+  pub turn : Pool → Turn
   pub lent : Lent
-  pub left : Client → Lent
-  pub concerns : Client → ℕ → Bool
-  pub touches : Client → Roster → Effect → Bool
-  pub part : Client → Part
+  pub left : Pool → Lent
+  pub concerns : Pool → ℕ → Bool
+  pub touches : Pool → Roster → Effect → Bool
+  pub part : Pool → Part
   pub sort : Sort
   pub raises : Bool
 
 -- an event of one session that no map is lent to, and that has no part in a removal
-abbrev pub ofSession : ℕ → (Client → List Test) → (Client → Turn) → Sort → Bool → Case
+abbrev pub ofSession : ℕ → (Pool → List Test) → (Pool → Turn) → Sort → Bool → Case
 ofSession id tests turn sort raises =
     record {
       tests = tests;
@@ -187,17 +186,17 @@ ofSession id tests turn sort raises =
     }
 
 abbrev pub caseOf : Event → Case
-caseOf (Event.joinCreate id) = ofSession id (λ c. Joins.createTests (c .pool) id) (λ c. Joins.joinCreate (c .pool) id) Sort.barred false
-caseOf (Event.joinAssemble id set version) = ofSession id (λ c. Joins.assembleTests (c .pool) id set version) (λ c. Joins.joinAssemble (c .pool) id set version) Sort.barred true
-caseOf (Event.enable id) = ofSession id (λ c. Enables.enableTests (c .pool) id) (λ c. Enables.enable (c .pool) id) Sort.barred false
-caseOf (Event.maintenance id) = ofSession id (λ c. Enables.maintenanceTests (c .pool) id) (λ c. Enables.maintenance (c .pool) id) Sort.barred true
-caseOf (Event.linkDown id) = ofSession id (λ c. Links.downTests (c .pool) id) (λ c. Links.linkDown (c .pool) id) Sort.down true
-caseOf (Event.storeCheck id) = ofSession id (λ c. Links.checkTests (c .pool) id) (λ c. Links.storeCheck (c .pool) id) Sort.barred false
-caseOf (Event.rejoin id) = ofSession id (λ c. Links.rejoinTests (c .pool) id) (λ c. Links.rejoin (c .pool) id) Sort.barred false
+caseOf (Event.joinCreate id) = ofSession id (λ c. Joins.createTests c id) (λ c. Joins.joinCreate c id) Sort.barred false
+caseOf (Event.joinAssemble id set version) = ofSession id (λ c. Joins.assembleTests c id set version) (λ c. Joins.joinAssemble c id set version) Sort.barred true
+caseOf (Event.enable id) = ofSession id (λ c. Enables.enableTests c id) (λ c. Enables.enable c id) Sort.barred false
+caseOf (Event.maintenance id) = ofSession id (λ c. Enables.maintenanceTests c id) (λ c. Enables.maintenance c id) Sort.barred true
+caseOf (Event.linkDown id) = ofSession id (λ c. Links.downTests c id) (λ c. Links.linkDown c id) Sort.down true
+caseOf (Event.storeCheck id) = ofSession id (λ c. Links.checkTests c id) (λ c. Links.storeCheck c id) Sort.barred false
+caseOf (Event.rejoin id) = ofSession id (λ c. Links.rejoinTests c id) (λ c. Links.rejoin c id) Sort.barred false
 caseOf Event.tryRun =
     record {
-      tests = λ c. Links.tryTests (c .pool);
-      turn = λ c. Links.tryRun (c .pool);
+      tests = λ c. Links.tryTests c;
+      turn = λ c. Links.tryRun c;
       lent = Lent.none;
       left = λ c. Lent.none;
       concerns = λ c j. false;
@@ -208,10 +207,10 @@ caseOf Event.tryRun =
     }
 caseOf (Event.remove xs id mode) =
     record {
-      tests = λ c. Remove.removeTests (c .pool) (soundFor (c .pool) xs) id mode;
-      turn = λ c. removeTurn (c .pool) xs id mode;
+      tests = λ c. Remove.removeTests c (soundFor c xs) id mode;
+      turn = λ c. removeTurn c xs id mode;
       lent = Lent.some xs;
-      left = λ c. Lent.some (carried (removeTurn (c .pool) xs id mode .effect) xs);
+      left = λ c. Lent.some (carried (removeTurn c xs id mode .effect) xs);
       concerns = λ c j. eqb j id;
       touches = λ c after ef. removalTouches id (isDelete mode) after ef;
       part = λ c. Part.remove id mode;
@@ -220,10 +219,10 @@ caseOf (Event.remove xs id mode) =
     }
 caseOf (Event.write xs chunk reached) =
     record {
-      tests = λ c. Writes.writeTests (c .pool) (soundFor (c .pool) xs) chunk reached;
-      turn = λ c. writeTurn (c .pool) xs chunk reached;
+      tests = λ c. Writes.writeTests c (soundFor c xs) chunk reached;
+      turn = λ c. writeTurn c xs chunk reached;
       lent = Lent.some xs;
-      left = λ c. Lent.some (carried (writeTurn (c .pool) xs chunk reached .effect) xs);
+      left = λ c. Lent.some (carried (writeTurn c xs chunk reached .effect) xs);
       concerns = λ c j. isNormal (stateOf c j) && not (has reached j);
       touches = λ c after ef. writeTouches chunk after ef;
       part = λ c. Part.none;
@@ -232,8 +231,8 @@ caseOf (Event.write xs chunk reached) =
     }
 caseOf (Event.synced xs member chunk) =
     record {
-      tests = λ c. Writes.syncTests (c .pool) (soundFor (c .pool) xs) member chunk (cleanTo xs chunk 16);
-      turn = λ c. syncedTurn (c .pool) xs member chunk;
+      tests = λ c. Writes.syncTests c (soundFor c xs) member chunk (cleanTo xs chunk 16);
+      turn = λ c. syncedTurn c xs member chunk;
       lent = Lent.some xs;
       left = λ c. Lent.some xs;
       concerns = λ c j. false;
@@ -244,10 +243,10 @@ caseOf (Event.synced xs member chunk) =
     }
 caseOf (Event.answer xs number a) =
     record {
-      tests = λ c. Answers.answerTests (c .pool) (soundFor (c .pool) xs) number;
-      turn = λ c. answerTurn (c .pool) xs number a;
+      tests = λ c. Answers.answerTests c (soundFor c xs) number;
+      turn = λ c. answerTurn c xs number a;
       lent = Lent.some xs;
-      left = λ c. Lent.some (carried (answerTurn (c .pool) xs number a .effect) xs);
+      left = λ c. Lent.some (carried (answerTurn c xs number a .effect) xs);
       concerns = λ c j. answerConcerns (jobOf c) c a j;
       touches = λ c after ef. answerTouches (jobOf c) c after ef;
       part = λ c. answerPart (jobOf c) a;
@@ -256,10 +255,10 @@ caseOf (Event.answer xs number a) =
     }
 caseOf (Event.extend xs) =
     record {
-      tests = λ c. Extending.extendTests (c .pool) (soundFor (c .pool) xs);
-      turn = λ c. extendTurn (c .pool) xs;
+      tests = λ c. Extending.extendTests c (soundFor c xs);
+      turn = λ c. extendTurn c xs;
       lent = Lent.some xs;
-      left = λ c. Lent.some (carried (extendTurn (c .pool) xs .effect) xs);
+      left = λ c. Lent.some (carried (extendTurn c xs .effect) xs);
       concerns = λ c j. eqb j (picks c);
       touches = λ c after ef. extendTouches c ef;
       part = λ c. Part.none;
@@ -267,25 +266,25 @@ caseOf (Event.extend xs) =
       raises = false;
     }
 
-abbrev pub testsOf : Event → Client → List Test
+abbrev pub testsOf : Event → Pool → List Test
 testsOf e = caseOf e .tests
 
-abbrev pub turnOf : Event → Client → Turn
+abbrev pub turnOf : Event → Pool → Turn
 turnOf e = caseOf e .turn
 
 abbrev pub lentTo : Event → Lent
 lentTo e = caseOf e .lent
 
-abbrev pub mapLeft : Event → Client → Lent
+abbrev pub mapLeft : Event → Pool → Lent
 mapLeft e = caseOf e .left
 
-abbrev pub concerns : Event → Client → ℕ → Bool
+abbrev pub concerns : Event → Pool → ℕ → Bool
 concerns e = caseOf e .concerns
 
-abbrev pub touches : Event → Client → Roster → Effect → Bool
+abbrev pub touches : Event → Pool → Roster → Effect → Bool
 touches e = caseOf e .touches
 
-abbrev pub partOf : Event → Client → Part
+abbrev pub partOf : Event → Pool → Part
 partOf e = caseOf e .part
 
 abbrev pub isAnswer : Event → Bool
@@ -297,12 +296,9 @@ isDown e = sortIsDown (caseOf e .sort)
 abbrev pub raises : Event → Bool
 raises e = caseOf e .raises
 
--- what an event hands back, and the next client in it
-abbrev pub outOf : Event → Client → Out
-outOf e c = handed (turnOf e c)
-
-abbrev pub next : Event → Client → Client
-next e c = outOf e c .client
+-- the next pool
+abbrev pub next : Event → Pool → Pool
+next e c = turnOf e c .pool
 
 -- an event is accepted where its answer is no refusal
 abbrev pub isAccepted : Answer → Bool

@@ -4,7 +4,8 @@ use Prim.Native.Nat.{ℕ}
 use Rattle.forms.specs.declared.Event as forms
 use Rattle.client.specs.declared.Client.{Client}
 use Rattle.client.specs.declared.Out.{Out}
-use Rattle.events.specs.Events.{Event, outOf}
+use Rattle.events.specs.Events.{Event}
+use Rattle.events.specs.Unique.{outOf}
 use Rattle.lending.specs.declared.Lent.{Lent}
 use Rattle.lending.specs.Lending.{cut, sizeOf, part, putBack}
 use Rattle.anyclient.specs.Any.{eventOf, ownLeft}

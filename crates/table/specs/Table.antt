@@ -16,9 +16,9 @@ use Rattle.state.specs.declared.Brought.{Brought}
 use Rattle.state.specs.declared.Reply.{Reply}
 use Rattle.roster.specs.declared.Kind.{Kind}
 use Rattle.roster.specs.Roster.{sessionAt, idsOf}
-use Rattle.client.specs.declared.Client.{Client}
-use Rattle.client.specs.Client.{fresh}
-use Rattle.events.specs.Events.{Event, Lent, outOf, next, mapLeft}
+use Rattle.state.specs.declared.Pool.{Pool}
+use Rattle.client.specs.Client.{freshPool}
+use Rattle.events.specs.Events.{Event, Lent, turnOf, next, mapLeft}
 
 -- ---- histories
 
@@ -27,12 +27,12 @@ abbrev pub zeros : List ℕ
 zeros = replicate 8192 0
 
 -- the client after these events, from the fresh one of a pool of 4,096 chunks
-abbrev pub after : List Event → Client → Client
+abbrev pub after : List Event → Pool → Pool
 after [] c = c
 after (e ∷ es) c = after es (next e c)
 
-abbrev pub from : List Event → Client
-from es = after es (fresh false 4096)
+abbrev pub from : List Event → Pool
+from es = after es (freshPool false 4096)
 
 -- what a row looks at: the NORMAL count, the version, and which sessions are NORMAL, FAILED or marked last authoritative
 pub record Seen : Type 0 where
@@ -43,15 +43,15 @@ pub record Seen : Type 0 where
   pub second : State
   pub mark : ℕ
 
-abbrev pub seen : Client → Seen
+abbrev pub seen : Pool → Seen
 seen c =
     record {
-      count = c .pool .roster .count;
-      version = c .pool .roster .version;
-      normal = idsOf Kind.Normals (c .pool .roster);
-      first = sessionAt (c .pool .roster) 0 .state;
-      second = sessionAt (c .pool .roster) 1 .state;
-      mark = idsOf Kind.Marked (c .pool .roster);
+      count = c .roster .count;
+      version = c .roster .version;
+      normal = idsOf Kind.Normals (c .roster);
+      first = sessionAt (c .roster) 0 .state;
+      second = sessionAt (c .roster) 1 .state;
+      mark = idsOf Kind.Marked (c .roster);
     }
 
 -- the awaited message of an answer, and its count
@@ -63,20 +63,20 @@ abbrev pub report : Answer → Outcome
 report (Answer.Refused n) = Outcome.Plain
 report (Answer.Done s) = s .outcome
 
-abbrev pub replying : Client → Reply → Event
-replying c a = Event.answer zeros (c .pool .number) a
+abbrev pub replying : Pool → Reply → Event
+replying c a = Event.answer zeros (c .number) a
 
 -- the messages that a run awaits, each reply handed in under the awaited number, and the last report
-abbrev pub messages : List Reply → Client → List Message
+abbrev pub messages : List Reply → Pool → List Message
 messages [] c = []
-messages (a ∷ rs) c = awaited (outOf (replying c a) c .answer) ∷ messages rs (next (replying c a) c)
+messages (a ∷ rs) c = awaited (turnOf (replying c a) c .answer) ∷ messages rs (next (replying c a) c)
 
-abbrev pub reports : Outcome → List Reply → Client → Outcome
+abbrev pub reports : Outcome → List Reply → Pool → Outcome
 reports o [] c = o
-reports o (a ∷ rs) c = reports (report (outOf (replying c a) c .answer)) rs (next (replying c a) c)
+reports o (a ∷ rs) c = reports (report (turnOf (replying c a) c .answer)) rs (next (replying c a) c)
 
 -- the client after a run's replies
-abbrev pub replied : List Reply → Client → Client
+abbrev pub replied : List Reply → Pool → Pool
 replied [] c = c
 replied (a ∷ rs) c = replied rs (next (replying c a) c)
 
@@ -97,11 +97,11 @@ pub data Row : Type 0 where
   byte : List Event → Event → ℕ → ℕ → Row
 
 abbrev pub holds : Row → Type 0
-holds (Row.answer h e a) = outOf e (from h) .answer ≡ a
+holds (Row.answer h e a) = turnOf e (from h) .answer ≡ a
 holds (Row.stands h s) = seen (from h) ≡ s
-holds (Row.idle h) = from h .pool .job ≡ Job.Idle
-holds (Row.asks h e rs ms o) = (awaited (outOf e (from h) .answer) ∷ messages rs (next e (from h)) ≡ ms) × (reports (report (outOf e (from h) .answer)) rs (next e (from h)) ≡ o)
-holds (Row.leaves h e rs s) = (seen (replied rs (next e (from h))) ≡ s) × (replied rs (next e (from h)) .pool .job ≡ Job.Idle)
+holds (Row.idle h) = from h .job ≡ Job.Idle
+holds (Row.asks h e rs ms o) = (awaited (turnOf e (from h) .answer) ∷ messages rs (next e (from h)) ≡ ms) × (reports (report (turnOf e (from h) .answer)) rs (next e (from h)) ≡ o)
+holds (Row.leaves h e rs s) = (seen (replied rs (next e (from h))) ≡ s) × (replied rs (next e (from h)) .job ≡ Job.Idle)
 holds (Row.byte h e k b) = byteOf (mapLeft e (from h)) k ≡ b
 
 abbrev pub All : List Row → Type 0
