@@ -103,7 +103,7 @@ def chart(rows):
     c = Chart(nodes_of(rows))
     c.head()
     letters, states = None, {}
-    awaited = None
+    awaited, due = None, []
     for line, answer in rows:
         if answer is None:
             c.title("")
@@ -112,7 +112,7 @@ def chart(rows):
         words = line.split()
         if not answer.startswith("ok "):
             if words[0] == "pool" and answer == "done":
-                letters, states, awaited = None, {}, None
+                letters, states, awaited, due = None, {}, None, []
             c.row(line, "" if answer == "done" else answer)
             continue
         got = fields(answer)
@@ -137,8 +137,13 @@ def chart(rows):
                 to = int(what[2])
             c.row("", "answer #" + number, None, (to, "client", "."))
             c.row("", " ".join(notes), marks)
+        elif words[0] == "deliver_check" and due:
+            c.row(line)
+            c.row("", "check answer", None, (due.pop(0), "client", "."))
         else:
             c.row(line, " ".join(notes), marks)
+        if words[0] == "tick":
+            due = [int(what[1]) for what, _ in messages(answer)]
         sent = None
         for what, number in messages(answer):
             c.row("", " ".join([what[0]] + what[2:]) + (" #" + number if number else ""), None, ("client", int(what[1]), "-"))

@@ -56,9 +56,14 @@ SYNC_BESIDE = [
 
 CHUNK = 5
 
+# What map check knows, as it is put in: the tick's number, the members due and those of which one empty answer stands. Of the client map's rows 1 alone is not empty.
+CHECK = {"tick": 6, "due": 2, "once": 2}
+CLIENT_ROW = {9}
+CLIENT_LOOKS = ["look", "row client 1"]
+
 
 def client_events(members, normals):
-    """Each event on session 1, with its words."""
+    """Each event on session 1, with its words and, of some, the lines before it."""
     return [
         ("join create", "join_create 1"),
         ("join assemble, our set", "join_assemble 1 %d 3" % (members or 2)),
@@ -80,6 +85,12 @@ def client_events(members, normals):
         ("answer, success", "answer 1 1 0"),
         ("answer, success with a version", "answer 1 2 1"),
         ("answer, another number", "answer 7 1 0"),
+        ("tick", "tick"),
+        ("check answer, not empty", "check_answer 6 1 0"),
+        ("check answer, the first empty one", "check_answer 6 1 1", "poke once 0"),
+        ("check answer, the second empty one", "check_answer 6 1 1"),
+        ("check answer, another number", "check_answer 5 1 1"),
+        ("check answer, not due", "check_answer 6 1 1", "poke due 0"),
     ]
 
 
@@ -102,8 +113,21 @@ def client_setups(sync):
             lines += ["poke members %d" % members, "poke count %d" % (0 if sync else bin(normals).count("1"))]
             lines += ["poke %s 1" % w for w in past]
             lines.append("byte 0 %d %d" % (512 + CHUNK // 8, 1 << CHUNK % 8))
+            lines += ["byte client %d %d" % (512 + c // 8, 1 << c % 8) for c in CLIENT_ROW]
             after = normals & ~4 if job and job[0].startswith("remove") else normals
-            yield words, beside, lines + job, client_events(members, after)
+            yield words, beside, lines + job + ["poke %s %d" % check for check in CHECK.items()], client_events(members, after)
+
+
+# What is looked at in map and staging: the rows of 0 (a member, the chosen of LAST_IO_TO_MAP), of 1 (itself), of 2 (a member) and of 3 (no member). In the node's
+# map, in its staging and in the map that it can take (node 2's) each row holds two chunks of its own, so that what is left of a row says where it is from.
+ROWS = (0, 1, 2, 3)
+MAP, STAGING, TAKEN = 16, 32, 48
+LOOKS = ["row 1 %d" % m for m in ROWS] + ["staging 1 %d" % m for m in ROWS]
+
+
+def emptied(m):
+    """The line that empties row m of the node's map."""
+    return "byte 1 %d 0" % (512 * m + MAP // 8)
 
 
 # A node's state: the words, and the lab's numbers (state, store, create, transfer, bytes taken of one that is not whole). Node 1, members 0, 1 and 2, version 4; kept chunks 9 and 16.
@@ -158,14 +182,9 @@ NODE_EVENTS = [
     ("fill, a lower version", "fill 2 3"),
     ("fill about itself", "fill 1 5"),
     ("fill of no member", "fill 3 5"),
+    ("map check", "map_check"),
+    ("map check, its own row empty", "map_check", emptied(1)),
 ]
-
-
-# What is looked at in map and staging: the rows of 0 (a member, the chosen of LAST_IO_TO_MAP), of 1 (itself), of 2 (a member) and of 3 (no member). In the node's
-# map, in its staging and in the map that it can take (node 2's) each row holds two chunks of its own, so that what is left of a row says where it is from.
-ROWS = (0, 1, 2, 3)
-MAP, STAGING, TAKEN = 16, 32, 48
-LOOKS = ["row 1 %d" % m for m in ROWS] + ["staging 1 %d" % m for m in ROWS]
 
 
 def row_of(first, m):
@@ -192,11 +211,11 @@ def blocks():
     """Every block: its table, its row, its event, the lines that set it up, the line of the event, and those that look at what it left."""
     for sync in (0, 1):
         for words, beside, lines, events in client_setups(sync):
-            for name, line in events:
-                yield ("client", sync, beside), words, name, lines, line, ["look"]
+            for name, line, *more in events:
+                yield ("client", sync, beside), words, name, lines + more, line, CLIENT_LOOKS
     for words, lines, events in node_setups():
-        for name, line in events:
-            yield ("node",), words, name, lines, "node 1 " + line, LOOKS
+        for name, line, *more in events:
+            yield ("node",), words, name, lines + more, "node 1 " + line, LOOKS
 
 
 def before():
@@ -223,7 +242,7 @@ def cell(line, further=""):
     fields = dict(w.split("=", 1) for w in head.split() if "=" in w)
     if "node" in fields:
         words = [fields["state"]]
-        words += ["%s=%s" % (k, fields[k]) for k in ("store", "create", "members", "version", "kept", "transfer")]
+        words += ["%s=%s" % (k, fields[k]) for k in ("store", "create", "members", "version", "kept", "transfer", "empty") if k in fields]
     else:
         words = [fields["sessions"].rstrip(".") or "-", "v%s" % fields["version"], "n%s" % fields["count"]]
         for k in ("members", "maint", "marked", "delete", "owed"):
@@ -237,17 +256,23 @@ def cell(line, further=""):
     return " ".join(words) + further + "".join("; " + m for m in messages)
 
 
+def put_in(word, lines):
+    """The number that the lines put into the client, 0 where they put none."""
+    return ([0] + [int(line.split()[2]) for line in lines if line.startswith("poke %s " % word)])[-1]
+
+
 def fields_of(answer, look, lines):
-    """The further fields of the pool after the event, those that are not 0; none for a refusal, which leaves them as they were set up."""
+    """The further fields of the client after the event: the pool's that are not 0, map check's that it changed. None for a refusal, which leaves them as they were set up."""
     fields = dict(w.split("=") for w in look.split()[1:])
-    if not answer.startswith("refused "):
-        return "".join(" " + (k if k in (WRITTEN, ASSEMBLED) else "%s=%s" % (k, v)) for k, v in fields.items() if v != "0")
-    was = {w: int("poke %s 1" % w in lines) for w in (WRITTEN, ASSEMBLED)}
+    was = {w: str(put_in(w, lines)) for w in (WRITTEN, ASSEMBLED, *CHECK)}
     for word, state in (("link", FAILED), ("io", FAILED_IO)):
-        was[word] = sum(1 << i for i in range(16) if any(line.startswith("poke session %d %d " % (i, state)) for line in lines))
-    if fields != {w: str(v) for w, v in was.items()}:
-        sys.exit("matrix: a refusal changed a field of the pool")
-    return ""
+        was[word] = str(sum(1 << i for i in range(16) if any(line.startswith("poke session %d %d " % (i, state)) for line in lines)))
+    if answer.startswith("refused "):
+        if fields != was:
+            sys.exit("matrix: a refusal changed a field of the client")
+        return ""
+    shown = [k for k, v in fields.items() if v != (was[k] if k in CHECK else "0")]
+    return "".join(" " + (k if k in (WRITTEN, ASSEMBLED) else "%s=%s" % (k, fields[k])) for k in shown)
 
 
 def chunks(line):
@@ -277,21 +302,33 @@ def row_fate(left, was, known):
 WHOLE = {"kept": "as it was", "ORed": "the map taken ORed in"}
 
 
+def client_row(answer, looked):
+    """The cell that says what became of row 1 of the client map; nothing for a refusal, which leaves it as it was."""
+    left = row_fate(chunks(looked), CLIENT_ROW, {})
+    if answer.startswith("refused "):
+        if left != "kept":
+            sys.exit("matrix: a refusal changed the client map")
+        return ""
+    return WHOLE.get(left, left)
+
+
 def fate(answers, was, known):
-    """What became of a map, in words: one for all rows, or each with its rows."""
+    """What became of a map whose rows were `was`, in words: one for all rows, or each with its rows."""
     fates = {}
     for m, line in zip(ROWS, answers):
-        left = row_fate(chunks(line), row_of(was, m), {name: set().union(*(row_of(first, m) for first in firsts)) for name, firsts in known.items()})
+        left = row_fate(chunks(line), was[m], {name: set().union(*(row_of(first, m) for first in firsts)) for name, firsts in known.items()})
         fates.setdefault(left, []).append(m)
     if len(fates) == 1:
         return WHOLE.get(left, left)
     return "rows " + ", ".join("%s %s" % (" ".join(map(str, rows)), word) for word, rows in fates.items())
 
 
-def left_of(answer, looked):
+def left_of(answer, looked, lines):
     """The cells that say what became of map and staging; none for a refusal, which leaves both as they were."""
     half = len(ROWS)
-    both = [fate(looked[:half], MAP, {"staging's": [STAGING]}), fate(looked[half:], STAGING, {"the map's": [MAP], "ORed": [STAGING, TAKEN]})]
+    in_map = {m: set() if emptied(m) in lines else row_of(MAP, m) for m in ROWS}
+    in_staging = {m: row_of(STAGING, m) for m in ROWS}
+    both = [fate(looked[:half], in_map, {"staging's": [STAGING]}), fate(looked[half:], in_staging, {"the map's": [MAP], "ORed": [STAGING, TAKEN]})]
     if answer.startswith("refused "):
         if both != ["as it was", "as it was"]:
             sys.exit("matrix: a refusal changed a map")
@@ -308,9 +345,9 @@ def page():
         at += len(lines)
         looked = answers[at + 1 : at + 1 + len(looks)]
         if table[0] == "client":
-            cells = [cell(answers[at], fields_of(answers[at], looked[0], lines))]
+            cells = [cell(answers[at], fields_of(answers[at], looked[0], lines)), client_row(answers[at], looked[1])]
         else:
-            cells = [cell(answers[at])] + left_of(answers[at], looked)
+            cells = [cell(answers[at])] + left_of(answers[at], looked, lines)
         tables.setdefault(table, {}).setdefault(words, []).append([name] + cells)
         at += 1 + len(looks)
     if answers[at:] != [""]:
@@ -322,8 +359,11 @@ def page():
         "",
         "A number alone is the refusal. Else the answer: for the client the session letters (session 0 first; the acted-on session is 1), `v` the pool version,",
         "`n` the NORMAL count, the sets that are not empty, the job, what the answer counts, `written` and `assembled` where they stand, the sessions that are FAILED with cause",
-        "`link` and with cause `io`, and after each `;` a message; for the node its state and fields.",
+        "`link` and with cause `io`, of `tick`, `due` and `once` what the event changed, and after each `;` a message; for the node its state and fields.",
         "The numbers and words are those of the lab (docs/HISTORIES.md).",
+        "",
+        "For the client also what became of row 1 of its map, in which chunk 9 was dirty; the other rows were empty. The last tick's number was 6, 1 was due, and one empty answer of 1 stood:",
+        "where an event left `once=0`, it broke the row of empty answers.",
         "",
         "For the node (1, with the members 0, 1 and 2) also what became of its map and its staging. Looked at are row 0 (a member, the chosen of LAST_IO_TO_MAP), 1 (its own),",
         "2 (a member) and 3 (no member). Each held two dirty chunks, others in the map, in staging and in the map that is taken; the kept chunks are 9 and 16, of which 16 is",
@@ -335,7 +375,7 @@ def page():
         else:
             out += ["", "## Node"]
         for words, cells in rows.items():
-            heads = ["event", "answer"] + (["map", "staging"] if table[0] == "node" else [])
+            heads = ["event", "answer"] + (["map", "staging"] if table[0] == "node" else ["client row 1"])
             out += ["", "**%s**" % words, "", "| %s |" % " | ".join(heads), "|" + "---|" * len(heads)]
             out += ["| %s |" % " | ".join(texts) for texts in cells]
     return "\n".join(out) + "\n"

@@ -16,11 +16,11 @@ ROOT = os.path.dirname(os.path.dirname(os.path.abspath(__file__)))
 PAGE = os.path.join(ROOT, "docs", "TRUST.md")
 START, END = "| layer | files | lines, comments and imports with them |\n", "\n## What the definitions were compared with"
 LAYERS = {
-    "ground": "numbers refusals sets chunks maps parts fills rows versions",
-    "client": "state roster changes run recovery rules exits joins extending enables links writes removal answers client",
-    "node": "nodestate noderegister nodejoins nodeenables nodewrites nodefills nodeserve nodehand nodemaps node",
-    "theorems": "order events creation bounds table nodeevents commuting world honest demand3 added",
-    "lab": "text names lines forms eventlines commands say sayclient saynode sayrow saylab post lending anyclient anynode lendclient lendnode bench delivery reading arranging lab",
+    "ground": "numbers refusals sets chunks maps parts fills emptyrows rows versions",
+    "client": "state roster changes run recovery rules exits joins extending enables links writes removal answers breaking checks client",
+    "node": "nodestate noderegister nodejoins nodeenables nodewrites nodefills nodeserve nodehand nodemaps nodechecks node",
+    "theorems": "order events creation bounds table clientevents mapchecks nodeevents commuting world honest demand3 added",
+    "lab": "text names lines forms eventlines commands say sayclient saynode sayrow saylab post lending anyclient anynode lendclient lendnode lendask bench delivery reading arranging lab",
     "backup": "descriptors statuswriter statusreader statuslaws statustool status statusread statusrefused",
     "compare": "dumps differences saydifferences comparing compare comparesame comparelong",
 }

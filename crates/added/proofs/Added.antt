@@ -34,8 +34,9 @@ use Rattle.keeps.specs.Pools.{Valid}
 use Rattle.keeps.specs.Runs.{candidate-normal}
 use Rattle.extending.specs.Extending.{picked, extendRefusal, extended, extendDone, extend}
 use Rattle.extending.proofs.Kept.{Extends, Picks, picks, extend-passed, extended-at, extended-other, extended-numbers}
+use Rattle.breaking.specs.Breaking.{isAccepted}
 use Rattle.client.specs.Client.{soundFor, extendTurn}
-use Rattle.events.specs.Events.{Event, turnOf, next, isAccepted, jobOf, stateOf}
+use Rattle.events.specs.Events.{Event, turnOf, next, jobOf, stateOf}
 use Rattle.events.specs.Events as events
 use Rattle.events.specs.Said.{Accepts, versionOf, begins, Extended}
 use Rattle.events.specs.Demand2.{Reached}

@@ -26,8 +26,9 @@ use Rattle.joins.specs.Joins.{joinTold, createRefusal, created, createDone, joi
 use Rattle.extending.specs.Extending.{picked, extendRefusal, extended, extendDone, extend}
 use Rattle.enables.specs.Enables.{enables, enableRefusal, enableDone, enable}
 use Rattle.state.specs.declared.Pool.{Pool}
+use Rattle.breaking.specs.Breaking.{isAccepted}
 use Rattle.client.specs.Client.{freshPool, extendTurn}
-use Rattle.events.specs.Events.{Event, turnOf, next, isAccepted}
+use Rattle.events.specs.Events.{Event, turnOf, next}
 use Rattle.events.specs.Demand2.{Reached}
 use Rattle.events.specs.Said.{Accepts}
 use Rattle.bounds.specs.Demand3.{through}

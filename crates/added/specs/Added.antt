@@ -47,6 +47,7 @@ arrived (Told.Infos to op member) f j = f j
 arrived (Told.Disable to) f j = f j
 arrived (Told.Off to) f j = f j
 arrived (Told.Extended others normals member version) f j = filledAt normals member version j (informedAt others member j (f j))
+arrived (Told.Checks to tick) f j = f j
 
 -- what extend told at the client c
 abbrev pub toldBy : Pool → List ℕ → Told

@@ -1,6 +1,6 @@
 // Any event of the client as one function: what it ensures is what the theorems say two answers may not differ in.
 ghost use mathlib.Core.Path.{_≡_};
-ghost use Rattle.events.specs.Unique.{Meets};
+ghost use Rattle.clientevents.specs.Unique.{Meets};
 ghost use Rattle.anyclient.specs.Any.{eventOf, lentOf, ownLeft};
 use client::Client;
 use client::Out;
@@ -25,5 +25,7 @@ pub fn call(c: Client, e: Event, own: &mut [u8], other: &[u8]) -> Out
         Event::Synced(member, chunk, n) => c.synced(other, member, chunk),
         Event::Answer(number, a) => c.answer(own, number, a),
         Event::Extend => c.extend(own),
+        Event::Tick => c.tick(own),
+        Event::CheckAnswer(number, member, empty) => c.check_answer(own, number, member, empty),
     }
 }

@@ -1,5 +1,5 @@
 -- The lab's own commands. What a definition does not name stays.
-use Prim.Native.Nat.{ℕ, zero, suc}
+use Prim.Native.Nat.{ℕ, zero, suc, _%_}
 use mathlib.Core.Bool.{Bool, false}
 use mathlib.Core.List.{List, [], _∷_, _++_}
 use lib.Dec.{eqb}
@@ -13,6 +13,7 @@ use Rattle.state.specs.declared.Session.{Session}
 use Rattle.state.specs.declared.Job.{Job}
 use Rattle.state.specs.declared.Message.{Message}
 use Rattle.state.specs.Session.{isNothing}
+use Rattle.checks.specs.declared.Check.{Check}
 use Rattle.client.specs.declared.Client.{Client}
 use Rattle.client.specs.Client.{fresh}
 use Rattle.roster.specs.Roster.{stored}
@@ -112,7 +113,10 @@ abbrev pub withRoster : Lab → Roster → Lab
 withRoster l ro =
     withClient
     l
-    (record { pool = record { roster = ro; job = l .client .pool .job; number = l .client .pool .number; chunks = l .client .pool .chunks } })
+    (record {
+      pool = record { roster = ro; job = l .client .pool .job; number = l .client .pool .number; chunks = l .client .pool .chunks };
+      check = l .client .check;
+    })
 
 -- a roster with these numbers, its sessions as they were
 abbrev pub numbers : Roster → ℕ → ℕ → ℕ → Roster
@@ -152,7 +156,26 @@ abbrev pub pokeChunks : Lab → ℕ → Lab
 pokeChunks l v =
     withClient
     l
-    (record { pool = record { roster = rosterOf l; job = l .client .pool .job; number = l .client .pool .number; chunks = v } })
+    (record {
+      pool = record { roster = rosterOf l; job = l .client .pool .job; number = l .client .pool .number; chunks = v };
+      check = l .client .check;
+    })
+
+-- what map check knows: a tick modulo 2^32, two sets of ids
+abbrev pub checkOf : Lab → Check
+checkOf l = l .client .check
+
+abbrev pub withCheck : Lab → Check → Lab
+withCheck l k = withClient l (record { pool = l .client .pool; check = k })
+
+abbrev pub pokeTick : Lab → ℕ → Lab
+pokeTick l v = withCheck l (record { tick = v % 4294967296; due = checkOf l .due; once = checkOf l .once })
+
+abbrev pub pokeDue : Lab → ℕ → Lab
+pokeDue l v = withCheck l (record { tick = checkOf l .tick; due = v % 65536; once = checkOf l .once })
+
+abbrev pub pokeOnce : Lab → ℕ → Lab
+pokeOnce l v = withCheck l (record { tick = checkOf l .tick; due = checkOf l .due; once = v % 65536 })
 
 -- a session's record in its place; an id above 15 changes nothing
 abbrev pub pokeSession : Lab → ℕ → Session → Lab
@@ -230,12 +253,17 @@ arranged l (Command.PokeNode n state store create members version transfer) = po
 arranged l (Command.PokeGot n got) = pokeGot l n got
 arranged l (Command.PokeWritten v) = pokeWritten l v
 arranged l (Command.PokeAssembled v) = pokeAssembled l v
+arranged l (Command.PokeTick v) = pokeTick l v
+arranged l (Command.PokeDue v) = pokeDue l v
+arranged l (Command.PokeOnce v) = pokeOnce l v
 arranged l Command.Passed = l
 arranged l Command.Unreadable = l
 arranged l (Command.Client e) = l
 arranged l (Command.Node n e) = l
 arranged l (Command.Take n m) = l
 arranged l Command.Deliver = l
+arranged l (Command.Ask n q) = l
+arranged l Command.DeliverCheck = l
 arranged l (Command.Row w m) = l
 arranged l Command.Look = l
 arranged l (Command.LookNode n) = l

@@ -2,7 +2,8 @@
 // program: the client's 8,192 bytes, and 16 times 8,192 for the nodes' maps and for their staging maps.
 ghost use mathlib.Core.Path.{_≡_};
 ghost use lib.ListN.{set};
-ghost use Rattle.bench.specs.Bench.{freshBelow, freshLab, withAuto, withCut, withLent, awaiting, stillAwaiting, afterEvent, arranged, lentBy, withRoster, rosterOf, pokeVersion, pokeCount, pokeMembers, pokeChunks, pokeWritten, pokeAssembled, pokeSession, nodeStateOf, transferOf, pokeNode, gotTo, pokedGot, pokeGot};
+ghost use Rattle.bench.specs.Bench.{freshBelow, freshLab, withAuto, withCut, withLent, awaiting, stillAwaiting, afterEvent, arranged, lentBy, withRoster, rosterOf, withCheck, checkOf, pokeVersion, pokeCount, pokeMembers, pokeChunks, pokeWritten, pokeAssembled, pokeTick, pokeDue, pokeOnce, pokeSession, nodeStateOf, transferOf, pokeNode, gotTo, pokedGot, pokeGot};
+use checks::Check;
 use client::Client;
 use forms::Command;
 use forms::Which;
@@ -123,12 +124,17 @@ pub fn arrange(l: Lab, c: Command) -> Lab
         Command::PokeGot(n, got) => poke_got(l, n, got),
         Command::PokeWritten(v) => poke_written(l, v),
         Command::PokeAssembled(v) => poke_assembled(l, v),
+        Command::PokeTick(v) => poke_tick(l, v),
+        Command::PokeDue(v) => poke_due(l, v),
+        Command::PokeOnce(v) => poke_once(l, v),
         Command::Passed => l,
         Command::Unreadable => l,
         Command::Client(e) => l,
         Command::Node(n, e) => l,
         Command::Take(n, m) => l,
         Command::Deliver => l,
+        Command::Ask(n, q) => l,
+        Command::DeliverCheck => l,
         Command::Row(w, m) => l,
         Command::Look => l,
         Command::LookNode(n) => l,
@@ -200,6 +206,7 @@ fn with_roster(mut l: Lab, ro: Roster) -> Lab
 {
     let c = l.client;
     let p = c.pool;
+    let k = c.check;
     let job = p.job;
     let q = Pool {
         roster: ro,
@@ -207,7 +214,7 @@ fn with_roster(mut l: Lab, ro: Roster) -> Lab
         number: p.number,
         chunks: p.chunks,
     };
-    let next = Client { pool: q };
+    let next = Client { pool: q, check: k };
     l.client = next;
     l
 }
@@ -275,10 +282,52 @@ fn poke_chunks(mut l: Lab, v: u64) -> Lab
 {
     let c = l.client;
     let mut p = c.pool;
+    let k = c.check;
     p.chunks = v;
-    let next = Client { pool: p };
+    let next = Client { pool: p, check: k };
     l.client = next;
     l
+}
+
+fn with_check(mut l: Lab, k: Check) -> Lab
+    ensures { λ r. ⌜ r ≡ withCheck l k ⌝ }
+{
+    let c = l.client;
+    let p = c.pool;
+    let next = Client { pool: p, check: k };
+    l.client = next;
+    l
+}
+
+fn check_of(l: Lab) -> Check
+    ensures { λ r. ⌜ r ≡ checkOf l ⌝ }
+{
+    let c = l.client;
+    c.check
+}
+
+fn poke_tick(l: Lab, v: u64) -> Lab
+    ensures { λ r. ⌜ r ≡ pokeTick l v ⌝ }
+{
+    let mut k = check_of(l);
+    k.tick = (v % 4294967296) as u32;
+    with_check(l, k)
+}
+
+fn poke_due(l: Lab, v: u64) -> Lab
+    ensures { λ r. ⌜ r ≡ pokeDue l v ⌝ }
+{
+    let mut k = check_of(l);
+    k.due = (v % 65536) as u16;
+    with_check(l, k)
+}
+
+fn poke_once(l: Lab, v: u64) -> Lab
+    ensures { λ r. ⌜ r ≡ pokeOnce l v ⌝ }
+{
+    let mut k = check_of(l);
+    k.once = (v % 65536) as u16;
+    with_check(l, k)
 }
 
 fn poke_session(l: Lab, id: u64, s: Session) -> Lab

@@ -32,8 +32,9 @@ use Rattle.keeps.specs.Runs.{RunOk, run-facts, entered-members}
 use Rattle.links.specs.Links.{downRefusal, downAt, downDone, linkDown}
 use Rattle.answers.specs.Answers as answers
 use Rattle.answers.proofs.Kept.{fit-of}
+use Rattle.breaking.specs.Breaking.{isAccepted}
 use Rattle.client.specs.Client.{soundFor, answerTurn}
-use Rattle.events.specs.Events.{Event, turnOf, next, isAccepted, testsOf, isAnswer, isDown}
+use Rattle.events.specs.Events.{Event, turnOf, next, testsOf, isAnswer, isDown}
 use Rattle.order.proofs.Order.{none-applies}
 use Rattle.events.proofs.Shape.{whyNot}
 use Rattle.events.proofs.Law.{law}

@@ -22,7 +22,8 @@ use Rattle.recovery.specs.Recovery.{withRoster, jobless, tried, disablingBut}
 use Rattle.exits.specs.Exit.{numberOf}
 use Rattle.keeps.specs.Tried.{tried-roster}
 use Rattle.links.specs.Links.{downAt}
-use Rattle.events.specs.Events.{Event, turnOf, next, isAccepted, isAnswer}
+use Rattle.breaking.specs.Breaking.{isAccepted}
+use Rattle.events.specs.Events.{Event, turnOf, next, isAnswer}
 use Rattle.events.specs.Demand1.{Verdict}
 use Rattle.events.specs.Demand2.{Reached}
 use Rattle.events.proofs.Shape.{whyNot}

@@ -29,7 +29,8 @@ use Rattle.rules.specs.Jobs.{isRunning}
 use Rattle.keeps.specs.Rosters.{below-top}
 use Rattle.answers.specs.Answers as answers
 use Rattle.answers.proofs.Kept.{run-roster}
-use Rattle.events.specs.Events.{Event, turnOf, next, isAccepted, isAnswer, isDown, testsOf}
+use Rattle.breaking.specs.Breaking.{isAccepted}
+use Rattle.events.specs.Events.{Event, turnOf, next, isAnswer, isDown, testsOf}
 use Rattle.events.proofs.Shape.{whyNot}
 use Rattle.events.proofs.Law.{law}
 use Rattle.events.proofs.Every.{event-keeps}

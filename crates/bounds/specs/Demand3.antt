@@ -25,8 +25,9 @@ use Rattle.recovery.specs.Cases.{begun}
 use Rattle.recovery.specs.Recovery.{withRoster, jobless, runEnded, tried, disablingBut}
 use Rattle.exits.specs.Exit.{numberOf}
 use Rattle.links.specs.Links.{dropped}
+use Rattle.breaking.specs.Breaking.{isAccepted}
 use Rattle.client.specs.Client.{soundFor}
-use Rattle.events.specs.Events.{Event, turnOf, next, isAccepted, isAnswer, isDown}
+use Rattle.events.specs.Events.{Event, turnOf, next, isAnswer, isDown}
 use Rattle.events.specs.Demand2.{Reached}
 
 -- ---- events one after the other

@@ -21,6 +21,10 @@ use Rattle.removal.specs.Remove.{remove}
 use Rattle.writes.specs.Writes.{writeEnded, synced}
 use Rattle.answers.specs.Answers.{answer}
 use Rattle.extending.specs.Extending.{extend}
+use Rattle.emptyrows.specs.Empty.{fullTo}
+use Rattle.checks.specs.declared.Checked.{Checked}
+use Rattle.checks.specs.Check.{noCheck, tick, after}
+use Rattle.checks.specs.Check as checks
 use Rattle.client.specs.declared.Client.{Client}
 use Rattle.client.specs.declared.Out.{Out}
 
@@ -36,11 +40,15 @@ freshPool sync chunks =
 
 -- a fresh client of such a pool
 abbrev pub fresh : Bool → ℕ → Client
-fresh sync chunks = record { pool = freshPool sync chunks }
+fresh sync chunks = record { pool = freshPool sync chunks; check = noCheck }
 
--- what an event hands back: the answer, and the next client
-abbrev pub handed : Turn → Out
-handed t = record { answer = t .answer; client = record { pool = t .pool } }
+-- what an event of the pool hands back: the answer, and the next client; a row of empty answers stands, or the event breaks it
+abbrev pub handed : Client → Turn → Out
+handed c t = record { answer = t .answer; client = record { pool = t .pool; check = after (c .check) (c .pool) t } }
+
+-- what a tick or an answer to it hands back: the pool stays
+abbrev pub checkHanded : Client → Checked → Out
+checkHanded c k = record { answer = k .answer; client = record { pool = c .pool; check = k .check } }
 
 -- what is done to the client map
 abbrev pub carried : Effect → List ℕ → List ℕ
@@ -75,3 +83,12 @@ cleanTo xs c (suc m) = pick (eqb (dirty xs m c) 1) (cleanTo xs c m) (with (clean
 -- the map lent to synced is a NORMAL node's, and is only read
 unfoldable pub syncedTurn : Pool → List ℕ → ℕ → ℕ → Turn
 syncedTurn p xs member chunk = synced p (soundFor p xs) member chunk (cleanTo xs chunk 16)
+
+-- ---- map check
+
+-- the map lent to a tick is the client's, and is only read
+unfoldable pub tickTurn : Client → List ℕ → Checked
+tickTurn c xs = tick (c .pool) (c .check) (soundFor (c .pool) xs) (fullTo xs 16)
+
+unfoldable pub checkTurn : Client → List ℕ → ℕ → ℕ → Bool → Checked
+checkTurn c xs number m empty = checks.answer (c .pool) (c .check) (soundFor (c .pool) xs) number m empty

@@ -5,7 +5,9 @@ ghost use Rattle.refusals.specs.Limits.{numbers};
 ghost use Rattle.joins.specs.Joins.{joinCreate, joinAssemble};
 ghost use Rattle.enables.specs.Enables.{enable, maintenance};
 ghost use Rattle.links.specs.Links.{linkDown, storeCheck, rejoin, tryRun};
-ghost use Rattle.client.specs.Client.{fresh, handed, carried, extendTurn, removeTurn, writeTurn, answerTurn, cleanTo, syncedTurn};
+ghost use Rattle.client.specs.Client.{fresh, handed, carried, extendTurn, removeTurn, writeTurn, answerTurn, cleanTo, syncedTurn, checkHanded, tickTurn, checkTurn};
+use checks::Check;
+use checks::Checked;
 use refusals::Numbers;
 use state::Answer;
 use state::Effect;
@@ -19,8 +21,10 @@ use state::Session;
 use state::State;
 use state::Turn;
 
+// The pool, and beside it what map check knows: no event of the pool looks at it.
 pub struct Client {
     pub pool: Pool,
+    pub check: Check,
 }
 
 // What an event hands back.
@@ -70,31 +74,39 @@ impl Client {
             number: 0,
             chunks: chunks,
         };
-        Client { pool: pool }
+        Client {
+            pool: pool,
+            check: Check::none(),
+        }
     }
 
     pub fn join_create(self, id: u64) -> Out
-        ensures { λ r. ⌜ r ≡ handed (joinCreate (self .pool) id) ⌝ }
+        ensures { λ r. ⌜ r ≡ handed self (joinCreate (self .pool) id) ⌝ }
     {
         let p = self.pool;
-        hand(joins::join_create(p, id))
+        let t = joins::join_create(p, id);
+        hand(self, t)
     }
 
     pub fn join_assemble(self, id: u64, set: u64, version: u64) -> Out
-        ensures { λ r. ⌜ r ≡ handed (joinAssemble (self .pool) id set version) ⌝ }
+        ensures { λ r. ⌜ r ≡ handed self (joinAssemble (self .pool) id set version) ⌝ }
     {
         let p = self.pool;
-        hand(joins::join_assemble(p, id, set, version))
+        let t = joins::join_assemble(p, id, set, version);
+        hand(self, t)
     }
 
     pub fn enable(mut self, id: u64) -> Out
-        ensures { λ r. ⌜ r ≡ handed (enable (self .pool) id) ⌝ }
+        ensures { λ r. ⌜ r ≡ handed self (enable (self .pool) id) ⌝ }
     {
         let p = self.pool;
         let t = enables::enable(p, id);
+        let k = self.check;
+        let check = k.after(p, t);
         let answer = t.answer;
         let next = t.pool;
         self.pool = next;
+        self.check = check;
         Out {
             answer: answer,
             client: self,
@@ -102,20 +114,24 @@ impl Client {
     }
 
     pub fn maintenance(self, id: u64) -> Out
-        ensures { λ r. ⌜ r ≡ handed (maintenance (self .pool) id) ⌝ }
+        ensures { λ r. ⌜ r ≡ handed self (maintenance (self .pool) id) ⌝ }
     {
         let p = self.pool;
-        hand(enables::maintenance(p, id))
+        let t = enables::maintenance(p, id);
+        hand(self, t)
     }
 
     pub fn link_down(mut self, id: u64) -> Out
-        ensures { λ r. ⌜ r ≡ handed (linkDown (self .pool) id) ⌝ }
+        ensures { λ r. ⌜ r ≡ handed self (linkDown (self .pool) id) ⌝ }
     {
         let p = self.pool;
         let t = links::link_down(p, id);
+        let k = self.check;
+        let check = k.after(p, t);
         let answer = t.answer;
         let next = t.pool;
         self.pool = next;
+        self.check = check;
         Out {
             answer: answer,
             client: self,
@@ -123,30 +139,33 @@ impl Client {
     }
 
     pub fn store_check(self, id: u64) -> Out
-        ensures { λ r. ⌜ r ≡ handed (storeCheck (self .pool) id) ⌝ }
+        ensures { λ r. ⌜ r ≡ handed self (storeCheck (self .pool) id) ⌝ }
     {
         let p = self.pool;
-        hand(links::store_check(p, id))
+        let t = links::store_check(p, id);
+        hand(self, t)
     }
 
     pub fn rejoin(self, id: u64) -> Out
-        ensures { λ r. ⌜ r ≡ handed (rejoin (self .pool) id) ⌝ }
+        ensures { λ r. ⌜ r ≡ handed self (rejoin (self .pool) id) ⌝ }
     {
         let p = self.pool;
-        hand(links::rejoin(p, id))
+        let t = links::rejoin(p, id);
+        hand(self, t)
     }
 
     // Recovery is tried, on request.
     pub fn try_run(self) -> Out
-        ensures { λ r. ⌜ r ≡ handed (tryRun (self .pool)) ⌝ }
+        ensures { λ r. ⌜ r ≡ handed self (tryRun (self .pool)) ⌝ }
     {
         let p = self.pool;
-        hand(links::try_run(p))
+        let t = links::try_run(p);
+        hand(self, t)
     }
 
     // A leg is added; the answer says which id was picked.
     pub fn extend(self, map: &mut [u8]) -> Out
-        ensures { λ r. ⌜ r ≡ handed (extendTurn (self .pool) (now (map .entry))) ⌝ }
+        ensures { λ r. ⌜ r ≡ handed self (extendTurn (self .pool) (now (map .entry))) ⌝ }
         ensures { λ r. ⌜ now (map .exit) ≡ carried (extendTurn (self .pool) (now (map .entry)) .effect) (now (map .entry)) ⌝ }
     {
         let p = self.pool;
@@ -154,11 +173,11 @@ impl Client {
         let t = extending::extend(p, sound);
         let effect = t.effect;
         carry(map, effect);
-        hand(t)
+        hand(self, t)
     }
 
     pub fn remove(self, map: &mut [u8], id: u64, mode: Mode) -> Out
-        ensures { λ r. ⌜ r ≡ handed (removeTurn (self .pool) (now (map .entry)) id mode) ⌝ }
+        ensures { λ r. ⌜ r ≡ handed self (removeTurn (self .pool) (now (map .entry)) id mode) ⌝ }
         ensures { λ r. ⌜ now (map .exit) ≡ carried (removeTurn (self .pool) (now (map .entry)) id mode .effect) (now (map .entry)) ⌝ }
     {
         let p = self.pool;
@@ -166,11 +185,11 @@ impl Client {
         let t = removal::remove::remove(p, sound, id, mode);
         let effect = t.effect;
         carry(map, effect);
-        hand(t)
+        hand(self, t)
     }
 
     pub fn write(mut self, map: &mut [u8], chunk: u64, reached: u64) -> Out
-        ensures { λ r. ⌜ r ≡ handed (writeTurn (self .pool) (now (map .entry)) chunk reached) ⌝ }
+        ensures { λ r. ⌜ r ≡ handed self (writeTurn (self .pool) (now (map .entry)) chunk reached) ⌝ }
         ensures { λ r. ⌜ now (map .exit) ≡ carried (writeTurn (self .pool) (now (map .entry)) chunk reached .effect) (now (map .entry)) ⌝ }
     {
         let p = self.pool;
@@ -178,9 +197,12 @@ impl Client {
         let t = writes::write_ended(p, sound, chunk, reached);
         let effect = t.effect;
         carry(map, effect);
+        let k = self.check;
+        let check = k.after(p, t);
         let answer = t.answer;
         let next = t.pool;
         self.pool = next;
+        self.check = check;
         Out {
             answer: answer,
             client: self,
@@ -189,16 +211,17 @@ impl Client {
 
     // The map lent is a NORMAL node's; it is only read.
     pub fn synced(self, map: &[u8], member: u64, chunk: u64) -> Out
-        ensures { λ r. ⌜ r ≡ handed (syncedTurn (self .pool) (now (map .entry)) member chunk) ⌝ }
+        ensures { λ r. ⌜ r ≡ handed self (syncedTurn (self .pool) (now (map .entry)) member chunk) ⌝ }
     {
         let p = self.pool;
         let sound = maps::is_sound(map, p.chunks);
         let clean = clean_ids(map, chunk);
-        hand(writes::synced(p, sound, member, chunk, clean))
+        let t = writes::synced(p, sound, member, chunk, clean);
+        hand(self, t)
     }
 
     pub fn answer(mut self, map: &mut [u8], number: u64, a: Reply) -> Out
-        ensures { λ r. ⌜ r ≡ handed (answerTurn (self .pool) (now (map .entry)) number a) ⌝ }
+        ensures { λ r. ⌜ r ≡ handed self (answerTurn (self .pool) (now (map .entry)) number a) ⌝ }
         ensures { λ r. ⌜ now (map .exit) ≡ carried (answerTurn (self .pool) (now (map .entry)) number a .effect) (now (map .entry)) ⌝ }
     {
         let p = self.pool;
@@ -206,24 +229,76 @@ impl Client {
         let t = answers::answer(p, sound, number, a);
         let effect = t.effect;
         carry(map, effect);
+        let k = self.check;
+        let check = k.after(p, t);
         let answer = t.answer;
         let next = t.pool;
         self.pool = next;
+        self.check = check;
         Out {
             answer: answer,
             client: self,
         }
     }
+
+    // Every NORMAL member with a non-empty client row is asked whether its row is empty. The map is only read.
+    pub fn tick(self, map: &[u8]) -> Out
+        ensures { λ r. ⌜ r ≡ checkHanded self (tickTurn self (now (map .entry))) ⌝ }
+    {
+        let p = self.pool;
+        let k = self.check;
+        let sound = maps::is_sound(map, p.chunks);
+        let full = emptyrows::full_ids(map);
+        let c = checks::tick(p, k, sound, full);
+        hand_check(self, c)
+    }
+
+    // The answer of a member to the tick with this number.
+    pub fn check_answer(self, map: &mut [u8], number: u64, member: u64, empty: bool) -> Out
+        ensures { λ r. ⌜ r ≡ checkHanded self (checkTurn self (now (map .entry)) number member empty) ⌝ }
+        ensures { λ r. ⌜ now (map .exit) ≡ carried (checkTurn self (now (map .entry)) number member empty .effect) (now (map .entry)) ⌝ }
+    {
+        let p = self.pool;
+        let k = self.check;
+        let sound = maps::is_sound(map, p.chunks);
+        let c = checks::answer(p, k, sound, number, member, empty);
+        let effect = c.effect;
+        carry(map, effect);
+        hand_check(self, c)
+    }
 }
 
-fn hand(t: Turn) -> Out
-    ensures { λ r. ⌜ r ≡ handed t ⌝ }
+// What an event of the pool hands back.
+fn hand(c: Client, t: Turn) -> Out
+    ensures { λ r. ⌜ r ≡ handed c t ⌝ }
 {
+    let p = c.pool;
+    let k = c.check;
+    let check = k.after(p, t);
     let answer = t.answer;
     let pool = t.pool;
     Out {
         answer: answer,
-        client: Client { pool: pool },
+        client: Client {
+            pool: pool,
+            check: check,
+        },
+    }
+}
+
+// What a tick or an answer to it hands back: the pool stays.
+fn hand_check(c: Client, k: Checked) -> Out
+    ensures { λ r. ⌜ r ≡ checkHanded c k ⌝ }
+{
+    let p = c.pool;
+    let answer = k.answer;
+    let check = k.check;
+    Out {
+        answer: answer,
+        client: Client {
+            pool: p,
+            check: check,
+        },
     }
 }
 

@@ -1,6 +1,6 @@
 // A line of a history to the command that it is.
 ghost use mathlib.Core.Path.{_≡_};
-ghost use Rattle.commands.specs.Commands.{looks as Commands·looks, stores as Commands·stores, pokes as Commands·pokes, fields as Commands·fields, meaning, commandOf};
+ghost use Rattle.commands.specs.Commands.{looks as Commands·looks, stores as Commands·stores, pokes as Commands·pokes, fields as Commands·fields, checks as Commands·checks, meaning, commandOf};
 use forms::Command;
 use forms::Form;
 use forms::Which;
@@ -96,17 +96,33 @@ fn fields(f: Form, rest: Command) -> Command
     first(is, Command::Look, r)
 }
 
+// What map check knows, put into the client.
+fn checks(f: Form, rest: Command) -> Command
+    ensures { λ r. ⌜ r ≡ Commands·checks f rest ⌝ }
+{
+    let x2 = f.x2;
+    let is = pair(f, names::POKE, names::ONCE, 3) & (x2 < 65536);
+    let r = first(is, Command::PokeOnce(x2), rest);
+    let is = pair(f, names::POKE, names::DUE, 3) & (x2 < 65536);
+    let r = first(is, Command::PokeDue(x2), r);
+    let is = pair(f, names::POKE, names::TICK, 3) & (x2 < 4294967296);
+    first(is, Command::PokeTick(x2), r)
+}
+
 fn parse(l: Line) -> Command
     ensures { λ r. ⌜ r ≡ meaning l ⌝ }
 {
     let f = forms::form_of(l);
-    let u = pokes(f, fields(f, Command::Unreadable));
+    let u = pokes(f, fields(f, checks(f, Command::Unreadable)));
     let v = stores(f, looks(f, u));
     let w = eventlines::transfer_events(
         f,
         eventlines::service_events(f, eventlines::store_events(f, v)),
     );
-    eventlines::client_events(f, eventlines::whole_events(f, w))
+    eventlines::client_events(
+        f,
+        eventlines::check_events(f, eventlines::whole_events(f, w)),
+    )
 }
 
 // A line, its newline cut off, to its command. A line longer than 255 bytes is none.

@@ -21,10 +21,11 @@ use Rattle.exits.proofs.Laws.{turn-of}
 use Rattle.keeps.specs.Ids.{below}
 use Rattle.enables.specs.Enables.{enables, enableTests, enableRefusal, enableDone, enable}
 use Rattle.state.specs.declared.Pool.{Pool}
-use Rattle.events.specs.Events.{Event, turnOf, next, stateOf, isAccepted}
+use Rattle.breaking.specs.Breaking.{acknowledges, isAccepted}
+use Rattle.events.specs.Events.{Event, turnOf, next, stateOf}
 use Rattle.events.specs.Demand2.{Reached}
 use Rattle.events.proofs.Demand2.{reached-valid, rules-kept}
-use Rattle.creation.specs.Creation.{acknowledges, takesOver, empties, InService, NoneEnabled, Seventeen, OnlyThere}
+use Rattle.creation.specs.Creation.{takesOver, empties, InService, NoneEnabled, Seventeen, OnlyThere}
 use Rattle.creation.proofs.Past.{pastOf, later, law}
 
 -- ---- the flags

@@ -52,11 +52,12 @@ use Rattle.removal.specs.Removal.{modeOf, due, freedFrom, onward, departed, sta
 use Rattle.removal.specs.Remove.{removeRefusal, removeBegun, gone, remove}
 use Rattle.writes.specs.Writes.{writeRefusal, missStep, missed, loses, marks, writeDone, writeEnded, syncRefusal, syncDone, synced}
 use Rattle.answers.specs.Answers.{answerRefusal, enteredBy, movedOn, answered, answer}
+use Rattle.breaking.specs.Breaking.{acknowledges, isAccepted}
 use Rattle.client.specs.Client.{soundFor, extendTurn, removeTurn, writeTurn, answerTurn, syncedTurn, cleanTo}
-use Rattle.events.specs.Events.{Event, Part, answerPart, turnOf, next, stateOf, isSync, jobOf, partOf, isAccepted}
+use Rattle.events.specs.Events.{Event, Part, answerPart, turnOf, next, stateOf, isSync, jobOf, partOf}
 use Rattle.events.specs.Said.{membersOf, versionOf, notOwed, isGood, isLeave}
 use Rattle.events.proofs.States.{and-true, owes-is, mode-same}
-use Rattle.creation.specs.Creation.{acknowledges, takesOver, takesOne, empties}
+use Rattle.creation.specs.Creation.{takesOver, takesOne, empties}
 
 abbrev pub pastOf : Pool → Past
 pastOf c = c .roster .past

@@ -27,8 +27,9 @@ use Rattle.removal.specs.Removal.{due, freedFrom, onward, departed, started}
 use Rattle.removal.specs.Remove.{removeRefusal, remove}
 use Rattle.answers.specs.Answers.{answerRefusal, movedOn, answer}
 use Rattle.state.specs.declared.Pool.{Pool}
+use Rattle.breaking.specs.Breaking.{isAccepted}
 use Rattle.client.specs.Client.{freshPool, removeTurn, writeTurn, answerTurn}
-use Rattle.events.specs.Events.{Event, turnOf, next, isAccepted}
+use Rattle.events.specs.Events.{Event, turnOf, next}
 
 abbrev after : List Event → Pool → Pool
 after [] c = c

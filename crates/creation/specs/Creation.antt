@@ -8,22 +8,12 @@ use Rattle.state.specs.declared.Outcome.{Outcome}
 use Rattle.state.specs.declared.Answer.{Answer}
 use Rattle.state.specs.Session.{isCreated}
 use Rattle.state.specs.declared.Pool.{Pool}
-use Rattle.events.specs.Events.{Event, Part, turnOf, next, stateOf, isSync, jobOf, partOf, isAccepted}
+use Rattle.breaking.specs.Breaking.{acknowledges, isAccepted}
+use Rattle.events.specs.Events.{Event, Part, turnOf, next, stateOf, isSync, jobOf, partOf}
 use Rattle.events.specs.Demand2.{Reached}
 use Rattle.events.specs.Said.{membersOf, takesOut}
 
 -- ---- words
-
--- the answer acknowledges a write
-abbrev pub isAcknowledged : Outcome → Bool
-isAcknowledged Outcome.Plain = false
-isAcknowledged (Outcome.Taken n) = false
-isAcknowledged (Outcome.Written acknowledged list) = acknowledged
-isAcknowledged (Outcome.Picked id) = false
-
-abbrev pub acknowledges : Answer → Bool
-acknowledges (Answer.Refused n) = false
-acknowledges (Answer.Done s) = isAcknowledged (s .outcome)
 
 -- a node's member set is taken over: a join assemble is accepted, and the membership was empty
 abbrev pub takesOver : Event → Pool → Bool

@@ -2,24 +2,31 @@
 use mathlib.Core.Bool.{Bool, true, false, _&&_}
 use mathlib.Core.List.{List}
 use Prim.Native.Nat.{ℕ, zero, suc, _+_, _-_, min}
-use lib.Dec.{ltb}
+use lib.Dec.{ltb, eqb}
 use lib.ListN.{getD, set}
 use Rattle.laws.specs.Words.{pick}
 use Rattle.refusals.specs.Limits.{mapBytes}
+use Rattle.sets.specs.Sets.{lowest}
 use Rattle.state.specs.declared.Message.{Message}
 use Rattle.state.specs.declared.Reply.{Reply}
 use Rattle.state.specs.declared.Told.{Told}
+use Rattle.checks.specs.declared.Check.{Check}
 use Rattle.nodestate.specs.declared.Answer.{Answer}
 use Rattle.node.specs.declared.Out.{Out}
+use Rattle.forms.specs.declared.Event.{Event}
 use Rattle.forms.specs.declared.NodeEvent.{NodeEvent}
+use Rattle.forms.specs.declared.Question.{Question}
 use Rattle.post.specs.declared.Due.{Due}
 use Rattle.post.specs.declared.Errand.{Errand}
 use Rattle.post.specs.Post.{toldTo, errandOf, replyOf}
 use Rattle.lendnode.specs.Lend.{nodeAnswers, mapsLeft, stagingsLeft}
+use Rattle.lendask.specs.declared.Finding.{Finding}
+use Rattle.lendask.specs.Ask.{nodeFinds}
 use Rattle.bench.specs.declared.Lab.{Lab}
 use Rattle.delivery.specs.declared.Ran.{Ran}
 use Rattle.delivery.specs.declared.Way.{Way}
-use Rattle.bench.specs.Bench.{nodeAt, withNode}
+use Rattle.delivery.specs.declared.Reported.{Reported}
+use Rattle.bench.specs.Bench.{nodeAt, withNode, checkOf}
 
 pub record Whole : Type 0 where
   pub lab : Lab
@@ -132,3 +139,23 @@ delivered m w = ranBy (errandOf m) w .after
 
 abbrev pub replyTo : Message → Whole → Reply
 replyTo m w = replyOf (ranBy (errandOf m) w .answer)
+
+-- ---- map check
+
+-- what node n answers to a question; nothing changes
+unfoldable pub foundAt : ℕ → Question → Whole → Finding
+foundAt n q w = pick (ltb n 16) (nodeFinds (nodeAt (w .lab) n) n (w .lab .lent) q (w .maps) (w .stagings)) (Finding.Refused 3)
+
+-- a node that refuses did not find its row empty
+abbrev pub foundEmpty : Finding → Bool
+foundEmpty (Finding.Refused why) = false
+foundEmpty (Finding.Empty empty) = empty
+
+-- the answer of the node of member m, under the last tick's number
+abbrev pub checkAnswer : Check → ℕ → Whole → Event
+checkAnswer k m w = Event.CheckAnswer (k .tick) m (foundEmpty (foundAt m Question.MapCheck w))
+
+-- it is asked of the lowest due member
+abbrev pub checkDelivered : Whole → Reported
+checkDelivered w =
+    pick (eqb (checkOf (w .lab) .due) 0) Reported.Nobody (Reported.Event (checkAnswer (checkOf (w .lab)) (lowest (checkOf (w .lab) .due)) w))

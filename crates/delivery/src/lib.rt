@@ -1,11 +1,14 @@
-// Messages to their nodes: a node's event, those that are not awaited, a map in parts, and the awaited message with its answer.
+// Messages to their nodes: a node's event, those that are not awaited, a map in parts, the awaited message with its answer, and map check with its own.
 ghost use mathlib.Core.Path.{_≡_};
 ghost use Rattle.laws.specs.Words.{pick};
 ghost use Rattle.post.specs.Post.{replyOf};
-ghost use Rattle.delivery.specs.Delivery.{whole, answerAt, ranAt, dueAt, toldBelow, outcome, lengthAt, accepted as Delivery·accepted, takenAt, givenAt, sentAt, passedAt, goesOn, mapPassed, mapTaken, mapSent, ranBy, delivered, replyTo};
+ghost use Rattle.delivery.specs.Delivery.{whole, answerAt, ranAt, dueAt, toldBelow, outcome, lengthAt, accepted as Delivery·accepted, takenAt, givenAt, sentAt, passedAt, goesOn, mapPassed, mapTaken, mapSent, ranBy, delivered, replyTo, foundAt, foundEmpty, checkDelivered};
 use bench::Lab;
 use client::Client;
+use forms::Event;
 use forms::NodeEvent;
+use forms::Question;
+use lendask::Finding;
 use nodestate::Answer;
 use post::Due;
 use post::Errand;
@@ -254,4 +257,48 @@ pub fn deliver(l: Lab, m: Message, maps: &mut [u8], stagings: &mut [u8]) -> Repl
     ensures { λ r. ⌜ whole (r .lab) (now (maps .exit)) (now (stagings .exit)) ≡ delivered m (whole l (now (maps .entry)) (now (stagings .entry))) ⌝ }
 {
     said(run(l, post::errand_of(m), maps, stagings))
+}
+
+// What node n answers to a question; nothing changes.
+pub fn ask(l: Lab, n: u64, q: Question, maps: &[u8], stagings: &[u8]) -> Finding
+    ensures { λ r. ⌜ r ≡ foundAt n q (whole l (now (maps .entry)) (now (stagings .entry))) ⌝ }
+{
+    if 15 < n {
+        return Finding::Refused(3);
+    }
+    let i = n as usize;
+    let node = l.nodes[i];
+    let lent = l.lent;
+    lendask::ask(node, n, lent, q, maps, stagings)
+}
+
+fn found_empty(f: Finding) -> bool
+    ensures { λ r. ⌜ r ≡ foundEmpty f ⌝ }
+{
+    match f {
+        Finding::Refused(why) => false,
+        Finding::Empty(empty) => empty,
+    }
+}
+
+// What comes of a map check: the client's event, where a member is due.
+pub enum Reported {
+    Nobody,
+    Event(Event),
+}
+
+// The node of the lowest due member is asked, and the client gets its answer under the last tick's number.
+pub fn deliver_check(l: Lab, maps: &[u8], stagings: &[u8]) -> Reported
+    ensures { λ r. ⌜ r ≡ checkDelivered (whole l (now (maps .entry)) (now (stagings .entry))) ⌝ }
+{
+    let c = l.client;
+    let k = c.check;
+    let due = k.due as u64;
+    if due == 0 {
+        return Reported::Nobody;
+    }
+    let m = sets::lowest(due);
+    let f = ask(l, m, Question::MapCheck, maps, stagings);
+    let empty = found_empty(f);
+    Reported::Event(Event::CheckAnswer(k.tick as u64, m, empty))
 }

@@ -13,7 +13,8 @@ use Rattle.state.specs.declared.Answer.{Answer}
 use Rattle.state.specs.declared.Turn.{Turn}
 use Rattle.rules.specs.Jobs.{isRunning}
 use Rattle.state.specs.declared.Pool.{Pool}
-use Rattle.events.specs.Events.{turnOf, isAccepted}
+use Rattle.breaking.specs.Breaking.{isAccepted}
+use Rattle.events.specs.Events.{turnOf}
 use Rattle.events.proofs.Demand2.{sound-stays}
 use Rattle.bounds.specs.Demand3.{New}
 use Rattle.events.proofs.Law.{law}
@@ -76,6 +77,7 @@ tell-keeps P h (Told.Infos to op member) f j p = p
 tell-keeps P h (Told.Disable to) f j p = upd-keeps P f to (does (f to) node.Event.mapDisable .station) (λ q. h to (f to) q) j p
 tell-keeps P h (Told.Off to) f j p = p
 tell-keeps P h (Told.Extended others normals member version) f j p = p
+tell-keeps P h (Told.Checks to tick) f j p = p
 
 afterward-keeps : (P : ℕ → Station → Type 0) → ((j : ℕ) (s : Station) → P j s → P j (does s node.Event.mapDisable .station)) → (a : Answer) (f : ℕ → Station) (j : ℕ) → P j (f j) → P j (afterward a f j)
 afterward-keeps P h (Answer.Refused n) f j p = p

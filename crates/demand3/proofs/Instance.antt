@@ -34,8 +34,9 @@ use Rattle.joins.specs.Joins.{joinTold, createRefusal, created, createDone, joi
 use Rattle.enables.specs.Enables.{enables, enableRefusal, enableDone, enable}
 use Rattle.links.specs.Links.{drops, downRefusal, dropped, downDone, linkDown, checks, checkRefusal, checkDone, storeCheck}
 use Rattle.answers.specs.Answers.{answerRefusal, movedOn, answer}
+use Rattle.breaking.specs.Breaking.{isAccepted}
 use Rattle.client.specs.Client.{freshPool, answerTurn}
-use Rattle.events.specs.Events.{Event, turnOf, next, isAccepted}
+use Rattle.events.specs.Events.{Event, turnOf, next}
 use Rattle.events.specs.Demand2.{Reached}
 use Rattle.bounds.specs.Demand3.{through, Begins, triedIn}
 use Rattle.bounds.proofs.Instance.{reached-through}

@@ -2,15 +2,16 @@
 use mathlib.Core.Bool.{_&&_}
 use lib.Dec.{ltb, eqb}
 use Rattle.laws.specs.Words.{pick}
-use Rattle.names.specs.Names.{POOL, AUTO, JOIN-CREATE, JOIN-ASSEMBLE, ENABLE, MAINTENANCE, LINK-DOWN, STORE-CHECK, REJOIN, TRY, REMOVE, WRITE, SYNCED, ANSWER, DELIVER, REGISTER-CREATE, REGISTER-ADD, UNREGISTER, LEAVE, ENABLE1, ENABLE0, FAULT, MAP-READY, GIVE-PART, TAKE, TAKE-PART, MAP-DONE, MAP-DISABLE, MAP-GET-VER, LAST-IO, POOL-INFO, FILL, EXTEND}
+use Rattle.names.specs.Names.{POOL, AUTO, JOIN-CREATE, JOIN-ASSEMBLE, ENABLE, MAINTENANCE, LINK-DOWN, STORE-CHECK, REJOIN, TRY, REMOVE, WRITE, SYNCED, ANSWER, DELIVER, REGISTER-CREATE, REGISTER-ADD, UNREGISTER, LEAVE, ENABLE1, ENABLE0, FAULT, MAP-READY, GIVE-PART, TAKE, TAKE-PART, MAP-DONE, MAP-DISABLE, MAP-GET-VER, LAST-IO, POOL-INFO, FILL, EXTEND, TICK, CHECK-ANSWER, MAP-CHECK, DELIVER-CHECK}
 use Rattle.forms.specs.declared.Form.{Form}
 use Rattle.forms.specs.declared.Event.{Event}
 use Rattle.forms.specs.declared.NodeEvent.{NodeEvent}
+use Rattle.forms.specs.declared.Question.{Question}
 use Rattle.forms.specs.declared.Command.{Command}
 use Rattle.forms.specs.Forms.{plain, node}
 use Rattle.forms.specs.Values.{modeOf, replyOf, opOf}
 
--- The client's events, all but four.
+-- The client's events, all but four and those of map check.
 unfoldable pub clientEvents : Form → Command → Command
 clientEvents f rest =
     pick (plain f JOIN-CREATE 2) (Command.Client (Event.JoinCreate (f .x1)))
@@ -23,6 +24,15 @@ clientEvents f rest =
     (pick (plain f TRY 1) (Command.Client Event.Try)
     (pick (plain f EXTEND 1) (Command.Client Event.Extend)
     rest))))))))
+
+-- Map check: the client's events, the node's, and what the lab delivers.
+unfoldable pub checkEvents : Form → Command → Command
+checkEvents f rest =
+    pick (plain f TICK 1) (Command.Client Event.Tick)
+    (pick (plain f CHECK-ANSWER 4 && ltb (f .x3) 2) (Command.Client (Event.CheckAnswer (f .x1) (f .x2) (eqb (f .x3) 1)))
+    (pick (node f MAP-CHECK 3) (Command.Ask (f .x1) Question.MapCheck)
+    (pick (plain f DELIVER-CHECK 1) Command.DeliverCheck
+    rest)))
 
 -- The other four, and what concerns the lab as a whole.
 unfoldable pub wholeEvents : Form → Command → Command

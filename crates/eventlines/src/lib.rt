@@ -1,15 +1,16 @@
 // The lines that are events of the client or of a node.
 ghost use mathlib.Core.Path.{_≡_};
-ghost use Rattle.eventlines.specs.Events.{clientEvents, wholeEvents, storeEvents, serviceEvents, transferEvents};
+ghost use Rattle.eventlines.specs.Events.{clientEvents, checkEvents, wholeEvents, storeEvents, serviceEvents, transferEvents};
 use forms::Command;
 use forms::Event;
 use forms::Form;
 use forms::NodeEvent;
+use forms::Question;
 use forms::first;
 use forms::node;
 use forms::plain;
 
-// The client's events, all but four.
+// The client's events, all but four and those of map check.
 pub fn client_events(f: Form, rest: Command) -> Command
     ensures { λ r. ⌜ r ≡ clientEvents f rest ⌝ }
 {
@@ -34,6 +35,23 @@ pub fn client_events(f: Form, rest: Command) -> Command
     let r = first(is, Command::Client(Event::JoinAssemble(x1, x2, x3)), r);
     let is = plain(f, names::JOIN_CREATE, 2);
     first(is, Command::Client(Event::JoinCreate(x1)), r)
+}
+
+// Map check: the client's events, the node's, and what the lab delivers.
+pub fn check_events(f: Form, rest: Command) -> Command
+    ensures { λ r. ⌜ r ≡ checkEvents f rest ⌝ }
+{
+    let x1 = f.x1;
+    let x2 = f.x2;
+    let x3 = f.x3;
+    let is = plain(f, names::DELIVER_CHECK, 1);
+    let r = first(is, Command::DeliverCheck, rest);
+    let is = node(f, names::MAP_CHECK, 3);
+    let r = first(is, Command::Ask(x1, Question::MapCheck), r);
+    let is = plain(f, names::CHECK_ANSWER, 4) & (x3 < 2);
+    let r = first(is, Command::Client(Event::CheckAnswer(x1, x2, x3 == 1)), r);
+    let is = plain(f, names::TICK, 1);
+    first(is, Command::Client(Event::Tick), r)
 }
 
 // The other four, and what concerns the lab as a whole.

@@ -39,8 +39,9 @@ use Rattle.joins.specs.Joins.{createRefusal, joinCreate}
 use Rattle.extending.specs.Extending.{picked, extendRefusal, extended, extendTold, extendDone, extend}
 use Rattle.extending.proofs.Kept.{Extends, Picks, extend-passed, picks, extended-at, extended-numbers}
 use Rattle.state.specs.declared.Pool.{Pool}
+use Rattle.breaking.specs.Breaking.{isAccepted}
 use Rattle.client.specs.Client.{carried, soundFor, extendTurn}
-use Rattle.events.specs.Events.{Event, turnOf, next, isAccepted, testsOf, Lent, jobOf, stateOf, isSync}
+use Rattle.events.specs.Events.{Event, turnOf, next, testsOf, Lent, jobOf, stateOf, isSync}
 use Rattle.events.specs.Said.{membersOf, recoveryIn, isUnused, Extended}
 use Rattle.events.proofs.Extends.{added-roster}
 use Rattle.events.proofs.Sessions.{tried-job, idle-is}
@@ -220,7 +221,7 @@ extend-none c xs v plain idle snd = (
 
 -- ---- join create
 
-pub create-ends : (c : Pool) (id : ℕ) → Valid c → id < 16 → jobOf c ≡ Job.Idle → isFree (stateOf c id) ≡ true → c .roster .past .written ≡ true
+pub create-ends : (c : Pool) (id : ℕ) → Valid c → id < 16 → jobOf c ≡ Job.Idle → isFree (stateOf c id) ≡ true → isSync c ≡ false → c .roster .past .written ≡ true
     → turnOf (Event.joinCreate id) c .answer ≡ Answer.Refused 17
 unfolding joinCreate createRefusal
-create-ends c id v h idle none written = simp (valid-of c v, le-ltb 15 id (omega (arith, h)), idle, none, written)
+create-ends c id v h idle none plain written = simp (valid-of c v, le-ltb 15 id (omega (arith, h)), idle, none, plain, written)

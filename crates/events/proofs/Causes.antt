@@ -23,10 +23,11 @@ use Rattle.keeps.specs.Ids.{below}
 use Rattle.keeps.specs.Pools.{Valid, valid-of}
 use Rattle.links.proofs.Kept.{rejoin-same}
 use Rattle.links.specs.Links.{backTests, checks, rejoinRefusal}
+use Rattle.breaking.specs.Breaking.{isAccepted}
 use Rattle.client.specs.Client.{freshPool}
 use Rattle.state.specs.declared.Pool.{Pool}
 use Rattle.events.specs.Demand2.{Reached}
-use Rattle.events.specs.Events.{Event, turnOf, next, isAccepted, testsOf, stateOf, isSync, jobOf}
+use Rattle.events.specs.Events.{Event, turnOf, next, testsOf, stateOf, isSync, jobOf}
 use Rattle.events.specs.Said.{Brings, CauseSet, Caused, CauseOnly, Got, CauseTells, Rejoin}
 use Rattle.events.proofs.Demand1.{refused-turn, done-turn}
 use Rattle.events.proofs.Demand2.{reached-valid}

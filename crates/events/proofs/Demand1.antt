@@ -12,8 +12,9 @@ use Rattle.state.specs.declared.Pool.{Pool}
 use Rattle.state.specs.declared.Sent.{Sent}
 use Rattle.state.specs.declared.Turn.{Turn}
 use Rattle.exits.specs.Exit.{refused}
+use Rattle.breaking.specs.Breaking.{isAccepted}
 use Rattle.events.specs.Demand1.{Refuses, Verdict, Demand1}
-use Rattle.events.specs.Events.{Event, turnOf, isAccepted, testsOf}
+use Rattle.events.specs.Events.{Event, turnOf, testsOf}
 use Rattle.events.proofs.Law.{law}
 use Rattle.events.proofs.Shape.{whyNot}
 

@@ -15,8 +15,9 @@ use Rattle.state.specs.declared.Turn.{Turn}
 use Rattle.rules.specs.Jobs.{isRunning}
 use Rattle.keeps.specs.Pools.{Valid}
 use Rattle.state.specs.declared.Pool.{Pool}
+use Rattle.breaking.specs.Breaking.{isAccepted}
 use Rattle.events.specs.Demand2.{Kept, soundLent}
-use Rattle.events.specs.Events.{Event, turnOf, isAccepted, lentTo, mapLeft, next, stateOf, isSync, jobOf, concerns, partOf, touches, raises, isAnswer, isDown, testsOf}
+use Rattle.events.specs.Events.{Event, turnOf, lentTo, mapLeft, next, stateOf, isSync, jobOf, concerns, partOf, touches, raises, isAnswer, isDown, testsOf}
 use Rattle.events.specs.Said.{membersOf, versionOf, endsRun, frees, takesOut}
 use Rattle.events.proofs.Fates.{isPart, Fate}
 use Rattle.events.proofs.Law.{law}

@@ -19,9 +19,10 @@ use Rattle.keeps.specs.Tried.{tried-roster}
 use Rattle.extending.specs.Extending.{picked, extendRefusal, extended, extendDone, extend}
 use Rattle.extending.proofs.Kept.{picks, extend-passed, extended-at, extended-other, extended-numbers}
 use Rattle.state.specs.declared.Pool.{Pool}
+use Rattle.breaking.specs.Breaking.{isAccepted}
 use Rattle.client.specs.Client.{soundFor, extendTurn}
 use Rattle.events.specs.Demand2.{Kept}
-use Rattle.events.specs.Events.{Event, turnOf, next, isAccepted, isAnswer, testsOf, stateOf, concerns, partOf, touches, extendTouches, raises}
+use Rattle.events.specs.Events.{Event, turnOf, next, isAnswer, testsOf, stateOf, concerns, partOf, touches, extendTouches, raises}
 use Rattle.events.specs.Said.{membersOf}
 use Rattle.events.proofs.Fates.{Fate, isPart}
 use Rattle.events.proofs.Shape.{taken}

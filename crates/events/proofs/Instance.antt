@@ -31,8 +31,9 @@ use Rattle.removal.specs.Removal.{due, freedFrom, onward, departed, started}
 use Rattle.removal.specs.Remove.{removeRefusal, remove}
 use Rattle.answers.specs.Answers.{answerRefusal, movedOn, answer}
 use Rattle.state.specs.declared.Pool.{Pool}
+use Rattle.breaking.specs.Breaking.{isAccepted}
 use Rattle.client.specs.Client.{freshPool, extendTurn, removeTurn, writeTurn, answerTurn}
-use Rattle.events.specs.Events.{Event, turnOf, next, isAccepted}
+use Rattle.events.specs.Events.{Event, turnOf, next}
 use Rattle.events.specs.Demand1.{Verdict}
 use Rattle.events.specs.Demand2.{Reached}
 use Rattle.events.specs.Said.{Accepts, countOf, membersOf, versionOf, reported}

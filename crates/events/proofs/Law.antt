@@ -33,10 +33,11 @@ use Rattle.writes.proofs.Kept.{write-keeps, synced-keeps}
 use Rattle.writes.specs.Writes.{writeRefusal, writeEnded, marks, writeDone, syncRefusal, syncDone, synced}
 use Rattle.answers.proofs.Kept.{answer-keeps}
 use Rattle.answers.specs.Answers.{answerRefusal, answered, answer, awaits}
+use Rattle.breaking.specs.Breaking.{isAccepted}
 use Rattle.client.specs.Client.{carried, soundFor, extendTurn, removeTurn, writeTurn, answerTurn, syncedTurn, cleanTo}
 use Rattle.state.specs.declared.Pool.{Pool}
 use Rattle.events.specs.Demand2.{Kept, soundLent}
-use Rattle.events.specs.Events.{Event, turnOf, isAccepted, Lent, lentTo, mapLeft, testsOf, next, stateOf, keeps, concerns, partOf, touches, raises, isAnswer, isDown}
+use Rattle.events.specs.Events.{Event, turnOf, Lent, lentTo, mapLeft, testsOf, next, stateOf, keeps, concerns, partOf, touches, raises, isAnswer, isDown}
 use Rattle.events.specs.Said.{membersOf, frees, takesOut}
 use Rattle.extending.proofs.Kept.{extend-keeps}
 use Rattle.extending.specs.Extending.{picked, extendRefusal, extend, extendDone}

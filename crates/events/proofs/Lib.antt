@@ -20,4 +20,3 @@ pub mod Demand2
 pub mod Causes
 pub mod Said
 pub mod Instance
-pub mod Unique

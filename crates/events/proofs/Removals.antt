@@ -53,8 +53,9 @@ use Rattle.writes.proofs.Kept.{write-passed, write-roster, missed-does, synced-
 use Rattle.writes.specs.Writes.{writeRefusal, writeEnded}
 use Rattle.answers.proofs.Kept.{run-roster}
 use Rattle.answers.specs.Answers.{answerRefusal, enteredBy, answered, answer, reported}
+use Rattle.breaking.specs.Breaking.{isAccepted}
 use Rattle.client.specs.Client.{carried, soundFor, removeTurn, writeTurn, answerTurn, syncedTurn, cleanTo}
-use Rattle.events.specs.Events.{Event, isAccepted, Lent, mapLeft, turnOf, next, stateOf, isSync, recordOf, jobOf, Part, answerPart, partOf, nobodyLeft}
+use Rattle.events.specs.Events.{Event, Lent, mapLeft, turnOf, next, stateOf, isSync, recordOf, jobOf, Part, answerPart, partOf, nobodyLeft}
 use Rattle.events.specs.Said.{membersOf, versionOf, isGood, isLeave, notOwed, isLater, nothingDue, frees, takesOut, rowsAfter}
 use Rattle.events.proofs.Fates.{isPart, Fate, kept-stands}
 use Rattle.events.proofs.Shape.{taken}

@@ -61,7 +61,7 @@ delete-takes-out = (
 )
 
 pub create-ends-said : CreateEnds
-create-ends-said c r id h idle free written = create-ends c id (reached-valid c r) h idle free written
+create-ends-said c r id h idle free plain written = create-ends c id (reached-valid c r) h idle free plain written
 
 pub extend-adds : ExtendAdds
 extend-adds c xs a = extend-said c xs (reached-valid c (a .reached)) (a .done)

@@ -34,7 +34,8 @@ use Rattle.enables.proofs.Kept.{enable-passed, enabled-at, maintenance-passed, 
 use Rattle.enables.specs.Enables.{enables, enableRefusal, enable, maintenanceRefusal, maintenanceDone, enableDone, maintenance}
 use Rattle.links.proofs.Kept.{down-passed, down-roster, dropped-at, dropped-other, check-passed, checked-at}
 use Rattle.links.specs.Links.{downRefusal, dropped, downDone, linkDown, checkRefusal, storeCheck, checkDone, downAt}
-use Rattle.events.specs.Events.{Event, isAccepted, turnOf, next, stateOf, isSync, recordOf, jobOf}
+use Rattle.breaking.specs.Breaking.{isAccepted}
+use Rattle.events.specs.Events.{Event, turnOf, next, stateOf, isSync, recordOf, jobOf}
 use Rattle.events.specs.Said.{reported, versionOf, Becomes, flagOf, sends, begins, recoveryIn, Dropped}
 use Rattle.events.proofs.Fates.{Fate, state-of, kept-stands}
 use Rattle.events.proofs.Shape.{taken}

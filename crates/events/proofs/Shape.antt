@@ -15,7 +15,8 @@ use Rattle.exits.specs.Exit.{refused}
 use Rattle.rules.specs.Jobs.{isIdle}
 use Rattle.links.specs.Links.{downAt}
 use Rattle.answers.specs.Answers.{answered}
-use Rattle.events.specs.Events.{Event, isAccepted, testsOf}
+use Rattle.breaking.specs.Breaking.{isAccepted}
+use Rattle.events.specs.Events.{Event, testsOf}
 
 -- the event's refusal, 0 where none applies
 abbrev pub whyNot : Event → Pool → ℕ

@@ -34,8 +34,9 @@ use Rattle.removal.specs.Remove.{removeRefusal, remove}
 use Rattle.removal.specs.declared.Gone.{Gone}
 use Rattle.writes.proofs.Kept.{wroteIn}
 use Rattle.writes.specs.Writes.{writeRefusal, writeEnded, marks, writeDone, syncRefusal, syncDone, synced, loses}
+use Rattle.breaking.specs.Breaking.{isAccepted}
 use Rattle.client.specs.Client.{soundFor, removeTurn, writeTurn, syncedTurn, cleanTo}
-use Rattle.events.specs.Events.{Event, turnOf, isAccepted, testsOf, isAnswer}
+use Rattle.events.specs.Events.{Event, turnOf, testsOf, isAnswer}
 use Rattle.events.proofs.Shape.{taken}
 use Rattle.events.proofs.Sound.{inside}
 

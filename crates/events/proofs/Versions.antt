@@ -53,8 +53,9 @@ use Rattle.writes.proofs.Kept.{wroteIn, misses, write-passed, write-roster, mis
 use Rattle.writes.specs.Writes.{missed, writeRefusal, writeEnded, writeDone}
 use Rattle.answers.proofs.Kept.{run-able, run-roster}
 use Rattle.answers.specs.Answers.{answerRefusal, enteredBy, answered, answer, reported}
+use Rattle.breaking.specs.Breaking.{isAccepted}
 use Rattle.client.specs.Client.{soundFor, removeTurn, writeTurn, answerTurn, syncedTurn, cleanTo}
-use Rattle.events.specs.Events.{Event, turnOf, next, isAccepted, isDown, recordOf, stateOf, isSync, jobOf, raises}
+use Rattle.events.specs.Events.{Event, turnOf, next, isDown, recordOf, stateOf, isSync, jobOf, raises}
 use Rattle.events.specs.Said.{versionOf, leavesNormal, endsRun}
 use Rattle.events.proofs.Fates.{Fate, state-of, kept-stands}
 use Rattle.events.proofs.Others.{removal-other}

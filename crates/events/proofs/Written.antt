@@ -34,8 +34,9 @@ use Rattle.keeps.specs.Pools.{Valid, removal-facts}
 use Rattle.keeps.specs.Records.{normal-below}
 use Rattle.writes.proofs.Kept.{wroteIn, write-passed, write-roster, missed-does, Writes, reached-normal, marks-pool}
 use Rattle.writes.specs.Writes.{missed, writeRefusal, writeEnded, marks, writeDone, loses}
+use Rattle.breaking.specs.Breaking.{isAccepted}
 use Rattle.client.specs.Client.{carried, soundFor, writeTurn}
-use Rattle.events.specs.Events.{Event, isAccepted, Lent, turnOf, next, stateOf, jobOf}
+use Rattle.events.specs.Events.{Event, Lent, turnOf, next, stateOf, jobOf}
 use Rattle.events.specs.Said.{membersOf, sends, missesPeer, Wrote, Marks, MarksNone}
 use Rattle.events.proofs.Every.{event-keeps}
 use Rattle.events.proofs.Shape.{taken}

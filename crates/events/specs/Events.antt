@@ -299,8 +299,3 @@ raises e = caseOf e .raises
 -- the next pool
 abbrev pub next : Event → Pool → Pool
 next e c = turnOf e c .pool
-
--- an event is accepted where its answer is no refusal
-abbrev pub isAccepted : Answer → Bool
-isAccepted (Answer.Refused n) = false
-isAccepted (Answer.Done s) = true

@@ -2,4 +2,3 @@ pub mod Events
 pub mod Demand1
 pub mod Demand2
 pub mod Said
-pub mod Unique

@@ -31,7 +31,8 @@ use Rattle.run.specs.Run.{awaitedIn}
 use Rattle.recovery.specs.Cases.{begun}
 use Rattle.rules.specs.Jobs.{isRunning, peerAt}
 use Rattle.state.specs.declared.Pool.{Pool}
-use Rattle.events.specs.Events.{Event, turnOf, next, isAccepted, Lent, mapLeft, recordOf, stateOf, isSync, nobodyLeft, jobOf, Part, partOf, isDown}
+use Rattle.breaking.specs.Breaking.{isAccepted}
+use Rattle.events.specs.Events.{Event, turnOf, next, Lent, mapLeft, recordOf, stateOf, isSync, nobodyLeft, jobOf, Part, partOf, isDown}
 use Rattle.events.specs.Demand2.{Reached}
 
 -- ---- words
@@ -327,10 +328,10 @@ DeleteTakesOut =
 abbrev pub isUnused : Pool → ℕ → Bool
 isUnused c id = isFree (stateOf c id) && not (has (membersOf c) id)
 
--- "Joining by create becomes refusal 17 once a write has been acknowledged": where nothing of an earlier place refuses it, and before 10. Refused: a join that goes on after a
--- write; 10 given for a member then.
+-- "Joining by create becomes refusal 17 once a write has been acknowledged": where nothing of an earlier place refuses it, and before 10; never in a sync pool. Refused: a join that
+-- goes on after a write; 10 given for a member then.
 abbrev pub CreateEnds : Type 0
-CreateEnds = (c : Pool) → Reached c → (id : ℕ) → id < 16 → jobOf c ≡ Job.Idle → isFree (stateOf c id) ≡ true → c .roster .past .written ≡ true
+CreateEnds = (c : Pool) → Reached c → (id : ℕ) → id < 16 → jobOf c ≡ Job.Idle → isFree (stateOf c id) ≡ true → isSync c ≡ false → c .roster .past .written ≡ true
     → turnOf (Event.joinCreate id) c .answer ≡ Answer.Refused 17
 
 -- an accepted extend, and the id that it picks

@@ -12,7 +12,7 @@ use state::Reply;
 use state::Session;
 use state::State;
 
-// The client's events. Synced: member, chunk, the node whose map is lent. Answer: number, and what it says.
+// The client's events. Synced: member, chunk, the node whose map is lent. Answer: number, and what it says. CheckAnswer: the tick's number, member, empty or not.
 pub enum Event {
     JoinCreate(u64),
     JoinAssemble(u64, u64, u64),
@@ -27,6 +27,13 @@ pub enum Event {
     Synced(u64, u64, u64),
     Answer(u64, Reply),
     Extend,
+    Tick,
+    CheckAnswer(u64, u64, bool),
+}
+
+// What a node is asked that changes nothing.
+pub enum Question {
+    MapCheck,
 }
 
 // A node's events. GivePart: offset, length. TakePart: offset, length, the node of whose map it is a part. Fill: member, version.
@@ -61,8 +68,9 @@ pub enum Which {
 }
 
 // Passed: an empty line, or one that begins with #. Pool: sync, chunks. Cut: how long the parts are of a map that is taken or sent. Take: a node, and the one whose
-// map it takes, part by part. Row: the dirty chunks of a member. Look, LookNode: the further fields of the pool, of a node. Byte: place, value. The rest is put into
-// the client's state or a node's, unchecked. PokeSession: id, record. PokeNode: node, state, store, create, members, version, transfer. PokeGot: node, bytes taken.
+// map it takes, part by part. Ask: a node, and what it is asked. DeliverCheck: the node of the lowest due member is asked for its check, and the client gets the answer. Row: the
+// dirty chunks of a member. Look, LookNode: the further fields of the client, of a node. Byte: place, value. The rest is put into the client's state or a node's,
+// unchecked. PokeSession: id, record. PokeNode: node, state, store, create, members, version, transfer. PokeGot: node, bytes taken.
 pub enum Command {
     Passed,
     Unreadable,
@@ -73,6 +81,8 @@ pub enum Command {
     Node(u64, NodeEvent),
     Take(u64, u64),
     Deliver,
+    Ask(u64, Question),
+    DeliverCheck,
     Row(Which, u64),
     Look,
     LookNode(u64),
@@ -87,6 +97,9 @@ pub enum Command {
     PokeSession(u64, Session),
     PokeNode(u64, u64, bool, bool, u64, u64, u64),
     PokeGot(u64, u64),
+    PokeTick(u64),
+    PokeDue(u64),
+    PokeOnce(u64),
 }
 
 // What tells one form of a line from another: the names of its first three words (NUMBER for a number), how many words there are (9 where a later word is

@@ -35,7 +35,7 @@ createTests p id =
     ∷ test 3 (ltb 15 id)
     ∷ test 6 (not (isIdle (p .job)))
     ∷ test 8 (not (isFree (sessionAt (p .roster) id .state)))
-    ∷ test 17 (p .roster .past .written)
+    ∷ test 17 (not (p .roster .sync) && p .roster .past .written)
     ∷ test 10 (has (p .roster .members) id)
     ∷ []
 

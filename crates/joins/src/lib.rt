@@ -35,7 +35,8 @@ fn create_refusal(p: Pool, id: u64) -> u64
     let free = state::is_free(st);
     let past = ro.past;
     let member = sets::has(ro.members, id);
-    let rest = first(!free, 8, first(past.written, 17, first(member, 10, 0)));
+    let ended = !ro.sync & past.written;
+    let rest = first(!free, 8, first(ended, 17, first(member, 10, 0)));
     first(!ok, 1, first(15 < id, 3, first(!idle, 6, rest)))
 }
 

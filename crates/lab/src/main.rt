@@ -4,6 +4,7 @@ pub mod obeying;
 ghost use Prim.Native.Nat.{_<_};
 use crate::obeying::Obeyed;
 use bench::Lab;
+use checks::Check;
 use forms::Command;
 use nodestate::Node;
 use reading::Cur;
@@ -107,13 +108,24 @@ fn answer(
 ) -> Stand {
     let l = d.lab;
     let s = d.said;
-    let to = write_line(s, pool_of(l), node_of(l, s), at, own, maps, stagings, out);
+    let to = write_line(
+        s,
+        pool_of(l),
+        check_of(l),
+        node_of(l, s),
+        at,
+        own,
+        maps,
+        stagings,
+        out,
+    );
     onward(l, c, to, out)
 }
 
 fn write_line(
     s: Said,
     p: Pool,
+    k: Check,
     n: Node,
     at: usize,
     own: &[u8],
@@ -122,7 +134,7 @@ fn write_line(
     out: &mut [u8],
 ) -> usize {
     let to = room(at, out);
-    let to = saylab::put_line(out, to, s, p, n);
+    let to = saylab::put_line(out, to, s, p, k, n);
     row_line(to, s, own, maps, stagings, out)
 }
 
@@ -137,6 +149,11 @@ fn row_line(at: usize, s: Said, own: &[u8], maps: &[u8], stagings: &[u8], out: &
 fn pool_of(l: Lab) -> Pool {
     let c = l.client;
     c.pool
+}
+
+fn check_of(l: Lab) -> Check {
+    let c = l.client;
+    c.check
 }
 
 // The node that a command went to or looks at; the first where there is none.
@@ -159,6 +176,7 @@ fn place_of(s: Said) -> usize
 fn number_of(s: Said) -> u64 {
     match s {
         Said::Node(n) => n,
+        Said::Asked(n, empty) => n,
         Said::LookNode(n) => n,
         _ => 0,
     }
@@ -207,7 +225,7 @@ fn flush(at: usize, out: &mut [u8]) -> usize {
     0
 }
 
-// No line has more than 20,490 bytes, a row's the most (the laws of sayrow, sayclient and saynode); of 32,768 so much and a newline is free before each
+// No line has more than 20,490 bytes, a row's the most (the laws of sayrow, sayclient, saynode and saylab); of 32,768 so much and a newline is free before each
 // command, so no answer is cut.
 fn room(at: usize, out: &mut [u8]) -> usize {
     if 12277 < at {

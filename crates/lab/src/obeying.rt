@@ -1,9 +1,12 @@
 // What a command does to the lab, and what there is to say of it.
 use bench::Lab;
 use client::Client;
+use delivery::Reported;
 use forms::Command;
 use forms::Event;
 use forms::NodeEvent;
+use forms::Question;
+use lendask::Finding;
 use saylab::Said;
 use state::Answer;
 use state::Sent;
@@ -26,6 +29,8 @@ pub(crate) fn obey(
         Command::Node(n, e) => node_event(l, n, e, maps, stagings),
         Command::Take(n, m) => take(l, n, m, maps, stagings),
         Command::Deliver => deliver(l, own, maps, stagings),
+        Command::Ask(n, q) => ask(l, n, q, maps, stagings),
+        Command::DeliverCheck => deliver_check(l, own, maps, stagings),
         _ => arrange(l, c, own, maps, stagings),
     }
 }
@@ -101,6 +106,34 @@ fn deliver(l: Lab, own: &mut [u8], maps: &mut [u8], stagings: &mut [u8]) -> Obey
     let next = r.lab;
     let a = r.reply;
     client_event(next, Event::Answer(number, a), own, maps, stagings)
+}
+
+// What node n answers to a question.
+fn ask(l: Lab, n: u64, q: Question, maps: &[u8], stagings: &[u8]) -> Obeyed {
+    let f = delivery::ask(l, n, q, maps, stagings);
+    Obeyed {
+        lab: l,
+        said: found_said(n, f),
+    }
+}
+
+fn found_said(n: u64, f: Finding) -> Said {
+    match f {
+        Finding::Refused(why) => Said::Refused(why),
+        Finding::Empty(empty) => Said::Asked(n, empty),
+    }
+}
+
+// Map check to the node of the lowest due member, and its answer to the client.
+fn deliver_check(l: Lab, own: &mut [u8], maps: &mut [u8], stagings: &mut [u8]) -> Obeyed {
+    let r = delivery::deliver_check(l, maps, stagings);
+    match r {
+        Reported::Nobody => Obeyed {
+            lab: l,
+            said: Said::Idle,
+        },
+        Reported::Event(e) => client_event(l, e, own, maps, stagings),
+    }
 }
 
 // A line that sets the lab up, or looks at it.

@@ -8,7 +8,7 @@ use Rattle.forms.specs.declared.Event as forms
 use Rattle.client.specs.declared.Client.{Client}
 use Rattle.client.specs.declared.Out.{Out}
 use Rattle.events.specs.Events.{Lent as LentMap}
-use Rattle.events.specs.Unique.{Meets}
+use Rattle.clientevents.specs.Unique.{Meets}
 use Rattle.lending.specs.declared.Lent.{Lent}
 use Rattle.lending.specs.declared.Span.{Span}
 use Rattle.lending.specs.Lending.{cut, sizeOf, Stands}

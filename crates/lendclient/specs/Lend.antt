@@ -4,8 +4,7 @@ use Prim.Native.Nat.{ℕ}
 use Rattle.forms.specs.declared.Event as forms
 use Rattle.client.specs.declared.Client.{Client}
 use Rattle.client.specs.declared.Out.{Out}
-use Rattle.events.specs.Events.{Event}
-use Rattle.events.specs.Unique.{outOf}
+use Rattle.clientevents.specs.Events.{Event, outOf}
 use Rattle.lending.specs.declared.Lent.{Lent}
 use Rattle.lending.specs.Lending.{cut, sizeOf, part, putBack}
 use Rattle.anyclient.specs.Any.{eventOf, ownLeft}
@@ -25,6 +24,8 @@ lender (forms.Event.Write chunk reached) = 16
 lender (forms.Event.Synced member chunk n) = n
 lender (forms.Event.Answer number a) = 16
 lender forms.Event.Extend = 16
+lender forms.Event.Tick = 16
+lender (forms.Event.CheckAnswer number m empty) = 16
 
 -- the lent part of the client's map
 abbrev pub ownOf : Lent → List ℕ → List ℕ

@@ -4,6 +4,7 @@ use mathlib.Core.List.{List, _++_}
 use Prim.Native.Nat.{ℕ, _+_, _*_, _≤_, min}
 use lib.ListN.{getD, take, drop}
 use Rattle.refusals.specs.Limits.{mapBytes}
+use Rattle.lending.specs.declared.Lent.{Lent}
 use Rattle.lending.specs.declared.Span.{Span}
 
 -- n bytes of a map, or all of it
@@ -17,6 +18,13 @@ sizeOf sizes k = cut (getD sizes k 0)
 -- the first n bytes of map k
 abbrev pub part : List ℕ → ℕ → ℕ → List ℕ
 part xs k n = take n (drop (mapBytes * k) xs)
+
+-- the lent parts of node k's map and staging map, of the maps of all nodes
+abbrev pub mapOf : Lent → ℕ → List ℕ → List ℕ
+mapOf lent k xs = part xs k (sizeOf (lent .maps) k)
+
+abbrev pub stagingOf : Lent → ℕ → List ℕ → List ℕ
+stagingOf lent k ys = part ys k (sizeOf (lent .stagings) k)
 
 -- the buffer with ys in the place of that part: every other byte as it was
 abbrev pub putBack : List ℕ → ℕ → ℕ → List ℕ → List ℕ

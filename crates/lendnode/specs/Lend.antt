@@ -9,7 +9,7 @@ use Rattle.node.specs.declared.Out.{Out}
 use Rattle.node.specs.Events.{Event}
 use Rattle.node.specs.Face.{answers, mapLeft, stagingLeft}
 use Rattle.lending.specs.declared.Lent.{Lent}
-use Rattle.lending.specs.Lending.{sizeOf, part, putBack}
+use Rattle.lending.specs.Lending.{sizeOf, part, mapOf, stagingOf, putBack}
 use Rattle.anynode.specs.Any.{eventOf}
 use Rattle.lendnode.specs.declared.Taking.{Taking}
 
@@ -53,13 +53,6 @@ padded (suc n) (x ∷ xs) = x ∷ padded n xs
 -- the bytes of the giver's map from the offset on, however much of it is lent
 abbrev pub partTaken : Taking → List ℕ → List ℕ
 partTaken t xs = padded (min (t .length) mostTaken) (drop (t .offset) (part xs (t .giver) mapBytes))
-
--- the lent parts of node k's map and staging map
-abbrev pub mapOf : Lent → ℕ → List ℕ → List ℕ
-mapOf lent k xs = part xs k (sizeOf (lent .maps) k)
-
-abbrev pub stagingOf : Lent → ℕ → List ℕ → List ℕ
-stagingOf lent k ys = part ys k (sizeOf (lent .stagings) k)
 
 -- the event of the theorems, with the part that it takes
 abbrev pub lentEvent : NodeEvent → List ℕ → Event

@@ -164,6 +164,24 @@ FILL = 52
 abbrev pub EXTEND : ℕ
 EXTEND = 53
 
+abbrev pub TICK : ℕ
+TICK = 54
+
+abbrev pub CHECK-ANSWER : ℕ
+CHECK-ANSWER = 55
+
+abbrev pub MAP-CHECK : ℕ
+MAP-CHECK = 56
+
+abbrev pub DELIVER-CHECK : ℕ
+DELIVER-CHECK = 57
+
+abbrev pub DUE : ℕ
+DUE = 58
+
+abbrev pub ONCE : ℕ
+ONCE = 59
+
 -- the code of what is no word
 abbrev pub UNKNOWN : ℕ
 UNKNOWN = 255
@@ -253,6 +271,16 @@ namesG w rest =
     (word w "extend" EXTEND
     rest))))
 
+unfoldable pub namesH : List ℕ → ℕ → ℕ
+namesH w rest =
+    word w "tick" TICK
+    (word w "check_answer" CHECK-ANSWER
+    (word w "map_check" MAP-CHECK
+    (word w "deliver_check" DELIVER-CHECK
+    (word w "due" DUE
+    (word w "once" ONCE
+    rest)))))
+
 -- The code of a word, UNKNOWN for any other bytes.
 unfoldable pub nameOf : List ℕ → ℕ
-nameOf w = namesA w (namesB w (namesC w (namesD w (namesE w (namesF w (namesG w UNKNOWN))))))
+nameOf w = namesA w (namesB w (namesC w (namesD w (namesE w (namesF w (namesG w (namesH w UNKNOWN)))))))

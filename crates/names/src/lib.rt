@@ -2,7 +2,7 @@
 ghost use mathlib.Core.Path.{_≡_};
 ghost use Rattle.laws.specs.Words.{pick};
 ghost use Rattle.text.specs.Bytes.{eqBytes};
-ghost use Rattle.names.specs.Names.{namesA, namesB, namesC, namesD, namesE, namesF, namesG, nameOf};
+ghost use Rattle.names.specs.Names.{namesA, namesB, namesC, namesD, namesE, namesF, namesG, namesH, nameOf};
 use text::same;
 
 pub const POOL: u64 = 1;
@@ -110,6 +110,18 @@ pub const REJOIN: u64 = 51;
 pub const FILL: u64 = 52;
 
 pub const EXTEND: u64 = 53;
+
+pub const TICK: u64 = 54;
+
+pub const CHECK_ANSWER: u64 = 55;
+
+pub const MAP_CHECK: u64 = 56;
+
+pub const DELIVER_CHECK: u64 = 57;
+
+pub const DUE: u64 = 58;
+
+pub const ONCE: u64 = 59;
 
 // The code of what is no word.
 pub const UNKNOWN: u64 = 255;
@@ -368,6 +380,32 @@ fn names_g(s: &[u8], rest: u64) -> u64
     )
 }
 
+fn names_h(s: &[u8], rest: u64) -> u64
+    ensures { λ r. ⌜ r ≡ namesH (now (s .entry)) rest ⌝ }
+{
+    word(
+        s,
+        b"tick",
+        TICK,
+        word(
+            s,
+            b"check_answer",
+            CHECK_ANSWER,
+            word(
+                s,
+                b"map_check",
+                MAP_CHECK,
+                word(
+                    s,
+                    b"deliver_check",
+                    DELIVER_CHECK,
+                    word(s, b"due", DUE, word(s, b"once", ONCE, rest)),
+                ),
+            ),
+        ),
+    )
+}
+
 // The code of a word, UNKNOWN for any other bytes.
 pub fn name(s: &[u8]) -> u64
     ensures { λ r. ⌜ r ≡ nameOf (now (s .entry)) ⌝ }
@@ -376,7 +414,10 @@ pub fn name(s: &[u8]) -> u64
         s,
         names_b(
             s,
-            names_c(s, names_d(s, names_e(s, names_f(s, names_g(s, UNKNOWN))))),
+            names_c(
+                s,
+                names_d(s, names_e(s, names_f(s, names_g(s, names_h(s, UNKNOWN))))),
+            ),
         ),
     )
 }

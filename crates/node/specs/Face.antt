@@ -9,8 +9,11 @@ use Rattle.nodestate.specs.declared.Node.{Node}
 use Rattle.nodestate.specs.declared.Turn.{Turn}
 use Rattle.nodestate.specs.Change as Change
 use Rattle.nodemaps.specs.Carry.{mapAfter, stagingAfter, takenIn}
+use Rattle.emptyrows.specs.Empty.{rowEmpty}
+use Rattle.nodechecks.specs.Check.{mapCheck}
 use Rattle.node.specs.declared.StorageNode.{StorageNode}
 use Rattle.node.specs.declared.Out.{Out}
+use Rattle.node.specs.declared.Asked.{Asked}
 use Rattle.node.specs.Events.{Event, Part, partIn, turnOf}
 
 -- a fresh node; any numbers
@@ -54,3 +57,7 @@ mapLeft e s xs ys = mapBy (turnAt e s xs ys) xs ys
 
 abbrev pub stagingLeft : Event → StorageNode → List ℕ → List ℕ → List ℕ
 stagingLeft e s xs ys = stagingWith (partIn e) (turnAt e s xs ys .effect .staging) (stagingBy (turnAt e s xs ys) xs ys)
+
+-- what a node answers to map check: of its own row in its map; the node and both maps stay
+abbrev pub checked : StorageNode → List ℕ → List ℕ → Asked
+checked s xs ys = record { answer = mapCheck (s .node) (lentTo (s .node) xs ys) (rowEmpty xs (s .node .id)); node = s }

@@ -5,7 +5,8 @@ ghost use mathlib.Core.Bool.{_&&_};
 ghost use Rattle.refusals.specs.Limits.{numbers};
 ghost use Rattle.maps.specs.Map.{sound};
 ghost use Rattle.node.specs.Events.{Event};
-ghost use Rattle.node.specs.Face.{freshNode, lentNumber, handed, mapBy, stagingBy, answers, mapLeft, stagingLeft};
+ghost use Rattle.node.specs.Face.{freshNode, lentNumber, handed, mapBy, stagingBy, answers, mapLeft, stagingLeft, checked};
+use nodechecks::Checked;
 use nodestate::Answer;
 use nodestate::Node;
 use nodestate::Turn;
@@ -18,6 +19,12 @@ pub struct StorageNode {
 
 pub struct Out {
     pub answer: Answer,
+    pub node: StorageNode,
+}
+
+// What a node hands back that is asked whether its row is empty: it stays as it is.
+pub struct Asked {
+    pub answer: Checked,
     pub node: StorageNode,
 }
 
@@ -308,6 +315,20 @@ impl StorageNode {
         let lent = lent_number(n.chunks, map, staging);
         let t = nodefills::fill(n, lent, member, version);
         finish(t, map, staging)
+    }
+
+    // Map check: whether the node is NORMAL and its own row is empty. The maps are only read.
+    pub fn map_check(self, map: &[u8], staging: &[u8]) -> Asked
+        ensures { λ r. ⌜ r ≡ checked self (now (map .entry)) (now (staging .entry)) ⌝ }
+    {
+        let n = self.node;
+        let lent = lent_number(n.chunks, map, staging);
+        let clean = emptyrows::is_empty(map, n.id);
+        let answer = nodechecks::map_check(n, lent, clean);
+        Asked {
+            answer: answer,
+            node: self,
+        }
     }
 }
 

@@ -23,7 +23,7 @@ dueIf to e = pick to (Due.One e) Due.Nothing
 abbrev pub dueBoth : Bool → NodeEvent → Bool → NodeEvent → Due
 dueBoth first e second f = pick first (pick second (Due.Two e f) (Due.One e)) (dueIf second f)
 
--- What node i gets of the messages that are not awaited.
+-- What node i gets of the messages that are not awaited. MAP_CHECK is none of its events: the lab delivers it by a command of its own.
 abbrev pub toldTo : Told → ℕ → Due
 toldTo Told.Nothing i = Due.Nothing
 toldTo (Told.Marks set chunk list version) i = dueIf (has set i) (NodeEvent.Write chunk list version)
@@ -32,6 +32,7 @@ toldTo (Told.Infos set op member) i = dueIf (has set i) (NodeEvent.PoolInfo op m
 toldTo (Told.Disable to) i = dueIf (eqb to i) NodeEvent.MapDisable
 toldTo (Told.Off to) i = dueIf (eqb to i) NodeEvent.Enable0
 toldTo (Told.Extended others normals member version) i = dueBoth (has others i) (NodeEvent.PoolInfo Op.AddCreate member) (has normals i) (NodeEvent.Fill member version)
+toldTo (Told.Checks set tick) i = Due.Nothing
 
 -- What the awaited message asks of the nodes. MAP_SEND: the node gives its map part by part, and the receiver takes each.
 abbrev pub errandOf : Message → Errand

@@ -35,7 +35,7 @@ fn both_if(first: bool, e: NodeEvent, second: bool, f: NodeEvent) -> Due
     one_if(second, f)
 }
 
-// What node i gets of the messages that are not awaited.
+// What node i gets of the messages that are not awaited. MAP_CHECK is none of its events: the lab delivers it by a command of its own.
 pub fn told_to(t: Told, i: u64) -> Due
     ensures { λ r. ⌜ r ≡ toldTo t i ⌝ }
 {
@@ -58,6 +58,7 @@ pub fn told_to(t: Told, i: u64) -> Due
             sets::has(normals, i),
             NodeEvent::Fill(member, version),
         ),
+        Told::Checks(set, tick) => Due::Nothing,
     }
 }
 

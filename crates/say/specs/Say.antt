@@ -59,6 +59,7 @@ toldTo (Told.Infos set op member) i = pick (has set i) (said (bytes " | POOL_INF
 toldTo (Told.Disable to) i = []
 toldTo (Told.Off to) i = []
 toldTo (Told.Extended others normals member version) i = pick (has normals i) (said (bytes " | FILL") (i ∷ member ∷ version ∷ [])) []
+toldTo (Told.Checks set tick) i = pick (has set i) (said (bytes " | MAP_CHECK") (i ∷ tick ∷ [])) []
 
 -- n texts, from the one of i on, joined
 abbrev pub each : (ℕ → List ℕ) → ℕ → ℕ → List ℕ
@@ -75,3 +76,4 @@ toldText (Told.Disable to) = said (bytes " | MAP_DISABLE") (to ∷ [])
 toldText (Told.Off to) = said (bytes " | ENABLE") (to ∷ 0 ∷ [])
 toldText (Told.Extended others normals member version) =
     each (toldTo (Told.Infos others Op.AddCreate member)) 16 0 ++ each (toldTo (Told.Extended others normals member version)) 16 0
+toldText (Told.Checks set tick) = each (toldTo (Told.Checks set tick)) 16 0

@@ -120,6 +120,17 @@ pub fn put_awaited(out: &mut [u8], at: usize, m: Message, number: u64) -> usize
     text::put_number(out, to, number)
 }
 
+// Two numbers, the id i first, where the set has i.
+fn put2_in(out: &mut [u8], at: usize, s: &[u8], set: u64, i: u64, a: u64) -> usize
+    ensures { λ r. ⌜ ink (now (out .exit)) r ≡ emits (ink (now (out .entry)) at) (pick (has set i) (said (now (s .entry)) (i ∷ a ∷ [])) []) ⌝ }
+{
+    let there = sets::has(set, i);
+    if there {
+        return put2(out, at, s, i, a);
+    }
+    at
+}
+
 // Three numbers, the id i first, where the set has i.
 fn put3_in(out: &mut [u8], at: usize, s: &[u8], set: u64, i: u64, a: u64, b: u64) -> usize
     ensures { λ r. ⌜ ink (now (out .exit)) r ≡ emits (ink (now (out .entry)) at) (pick (has set i) (said (now (s .entry)) (i ∷ a ∷ b ∷ [])) []) ⌝ }
@@ -178,6 +189,7 @@ fn put_to(out: &mut [u8], at: usize, t: Told, i: u64) -> usize
             member,
             version,
         ),
+        Told::Checks(set, tick) => put2_in(out, at, b" | MAP_CHECK", set, i, tick),
     }
 }
 
@@ -222,5 +234,6 @@ pub fn put_told(out: &mut [u8], at: usize, t: Told) -> usize
             Told::Infos(others, Op::AddCreate, member),
             Told::Extended(others, normals, member, version),
         ),
+        Told::Checks(set, tick) => put_each(out, at, Told::Checks(set, tick)),
     }
 }

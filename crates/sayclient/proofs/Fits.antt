@@ -17,13 +17,15 @@ use Rattle.state.specs.declared.Told.{Told}
 use Rattle.state.specs.declared.Phase.{Phase}
 use Rattle.state.specs.declared.Job.{Job}
 use Rattle.state.specs.declared.Outcome.{Outcome}
+use Rattle.state.specs.declared.Past.{Past}
 use Rattle.state.specs.declared.Roster.{Roster}
 use Rattle.state.specs.declared.Pool.{Pool}
 use Rattle.state.specs.declared.Sent.{Sent}
 use Rattle.state.specs.Session.{isNothing}
 use Rattle.roster.specs.declared.Kind.{Kind}
 use Rattle.roster.specs.Roster.{idsOf}
-use Rattle.sayclient.specs.Client.{letter, phaseText, jobText, outcomeText, rosterText, flagsText, clientText, lookText}
+use Rattle.checks.specs.declared.Check.{Check}
+use Rattle.sayclient.specs.Client.{letter, phaseText, jobText, outcomeText, rosterText, flagsText, clientText, pastText, checkText, causesText, lookText}
 
 pair-length : (s : List ℕ) (n : ℕ) → length (paired s n) ≤ length s + 20
 pair-length s n = rw (joined-length (s ∷ decimal n ∷ [])) (omega (arith, decimal-length n))
@@ -74,6 +76,7 @@ to-length (Told.Infos set op member) i = pick-length (has set i) _ 100 (omega (a
 to-length (Told.Disable to) i = omega arith
 to-length (Told.Off to) i = omega arith
 to-length (Told.Extended others normals member version) i = pick-length (has normals i) _ 100 (omega (arith, said-length (bytes " | FILL") (i ∷ member ∷ version ∷ [])))
+to-length (Told.Checks set tick) i = pick-length (has set i) _ 100 (omega (arith, said-length (bytes " | MAP_CHECK") (i ∷ tick ∷ [])))
 
 each-length : (f : ℕ → List ℕ) → ((i : ℕ) → length (f i) ≤ 100) → (n i : ℕ) → length (each f n i) ≤ 100 * n
 each-length f h zero i = omega arith
@@ -90,6 +93,7 @@ told-length (Told.Clears set member chunk) = omega (arith, each-told (Told.Clear
 told-length (Told.Infos set op member) = omega (arith, each-told (Told.Infos set op member))
 told-length (Told.Disable to) = omega (arith, said-length (bytes " | MAP_DISABLE") (to ∷ []))
 told-length (Told.Off to) = omega (arith, said-length (bytes " | ENABLE") (to ∷ 0 ∷ []))
+told-length (Told.Checks set tick) = omega (arith, each-told (Told.Checks set tick))
 told-length (Told.Extended others normals member version) =
     rw (length-append (each (toldTo (Told.Infos others Op.AddCreate member)) 16 0) (each (toldTo (Told.Extended others normals member version)) 16 0))
     (omega (arith, each-told (Told.Infos others Op.AddCreate member), each-told (Told.Extended others normals member version)))
@@ -134,9 +138,27 @@ client-length p s e =
     rw (joined-length (rosterText (p .roster) ∷ flagsText (p .roster) ∷ jobText (p .job) ∷ outcomeText (s .outcome) ∷ toldText (s .told) ∷ awaitedText (s .awaited) (s .number) ∷ []))
     (omega (arith, roster-length (p .roster) e, flags-length (p .roster), job-length (p .job), outcome-length (s .outcome), told-length (s .told), awaited-length (s .awaited) (s .number)))
 
--- The line of the pool's further fields is at most 114 bytes.
-pub look-length : (p : Pool) → length (lookText p) ≤ 114
+past-length : (past : Past) → length (pastText past) ≤ 64
+unfolding pastText
+past-length past =
+    rw (joined-length (paired (bytes "look written=") (one (past .written)) ∷ paired (bytes " assembled=") (one (past .assembled)) ∷ []))
+    (omega (arith, pair-length (bytes "look written=") (one (past .written)), pair-length (bytes " assembled=") (one (past .assembled))))
+
+check-length : (k : Check) → length (checkText k) ≤ 77
+unfolding checkText
+check-length k =
+    rw (joined-length (paired (bytes " tick=") (k .tick) ∷ paired (bytes " due=") (k .due) ∷ paired (bytes " once=") (k .once) ∷ []))
+    (omega (arith, pair-length (bytes " tick=") (k .tick), pair-length (bytes " due=") (k .due), pair-length (bytes " once=") (k .once)))
+
+causes-length : (ro : Roster) → length (causesText ro) ≤ 50
+unfolding causesText
+causes-length ro =
+    rw (joined-length (paired (bytes " link=") (idsOf Kind.Link ro) ∷ paired (bytes " io=") (idsOf Kind.Io ro) ∷ []))
+    (omega (arith, pair-length (bytes " link=") (idsOf Kind.Link ro), pair-length (bytes " io=") (idsOf Kind.Io ro)))
+
+-- The line of the further fields is at most 191 bytes.
+pub look-length : (p : Pool) (k : Check) → length (lookText p k) ≤ 191
 unfolding lookText
-look-length p =
-    rw (joined-length (paired (bytes "look written=") (one (p .roster .past .written)) ∷ paired (bytes " assembled=") (one (p .roster .past .assembled)) ∷ paired (bytes " link=") (idsOf Kind.Link (p .roster)) ∷ paired (bytes " io=") (idsOf Kind.Io (p .roster)) ∷ []))
-    (omega (arith, pair-length (bytes "look written=") (one (p .roster .past .written)), pair-length (bytes " assembled=") (one (p .roster .past .assembled)), pair-length (bytes " link=") (idsOf Kind.Link (p .roster)), pair-length (bytes " io=") (idsOf Kind.Io (p .roster))))
+look-length p k =
+    rw (joined-length (pastText (p .roster .past) ∷ checkText k ∷ causesText (p .roster) ∷ []))
+    (omega (arith, past-length (p .roster .past), check-length k, causes-length (p .roster)))

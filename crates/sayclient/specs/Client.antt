@@ -1,4 +1,4 @@
--- The client's line after an accepted event, and the line of the pool's further fields.
+-- The client's line after an accepted event, and the line of its further fields.
 use Prim.Native.Nat.{ℕ}
 use mathlib.Core.List.{List, [], _∷_, map}
 use Rattle.laws.specs.Words.{one}
@@ -7,6 +7,7 @@ use Rattle.text.specs.Ink.{joined}
 use Rattle.say.specs.Say.{paired, awaitedText, toldText}
 use Rattle.state.specs.declared.State.{State}
 use Rattle.state.specs.declared.Session.{Session}
+use Rattle.state.specs.declared.Past.{Past}
 use Rattle.state.specs.declared.Roster.{Roster}
 use Rattle.state.specs.declared.Phase.{Phase}
 use Rattle.state.specs.declared.Job.{Job}
@@ -15,6 +16,7 @@ use Rattle.state.specs.declared.Pool.{Pool}
 use Rattle.state.specs.declared.Sent.{Sent}
 use Rattle.roster.specs.declared.Kind.{Kind}
 use Rattle.roster.specs.Roster.{idsOf}
+use Rattle.checks.specs.declared.Check.{Check}
 
 -- The letter of a session: . none, C CREATED, N NORMAL, F FAILED, R RECONNECTING, X REMOVING.
 abbrev pub letterOf : State → ℕ
@@ -75,12 +77,15 @@ clientText p s =
     (rosterText (p .roster) ∷ flagsText (p .roster) ∷ jobText (p .job)
     ∷ outcomeText (s .outcome) ∷ toldText (s .told) ∷ awaitedText (s .awaited) (s .number) ∷ [])
 
--- The further fields: what the pool went through, and the FAILED sessions by their cause.
-unfoldable pub lookText : Pool → List ℕ
-lookText p =
-    joined
-    (paired (bytes "look written=") (one (p .roster .past .written))
-    ∷ paired (bytes " assembled=") (one (p .roster .past .assembled))
-    ∷ paired (bytes " link=") (idsOf Kind.Link (p .roster))
-    ∷ paired (bytes " io=") (idsOf Kind.Io (p .roster))
-    ∷ [])
+-- The further fields: what the pool went through, what map check knows, and the FAILED sessions by their cause.
+unfoldable pub pastText : Past → List ℕ
+pastText past = joined (paired (bytes "look written=") (one (past .written)) ∷ paired (bytes " assembled=") (one (past .assembled)) ∷ [])
+
+unfoldable pub checkText : Check → List ℕ
+checkText k = joined (paired (bytes " tick=") (k .tick) ∷ paired (bytes " due=") (k .due) ∷ paired (bytes " once=") (k .once) ∷ [])
+
+unfoldable pub causesText : Roster → List ℕ
+causesText ro = joined (paired (bytes " link=") (idsOf Kind.Link ro) ∷ paired (bytes " io=") (idsOf Kind.Io ro) ∷ [])
+
+unfoldable pub lookText : Pool → Check → List ℕ
+lookText p k = joined (pastText (p .roster .past) ∷ checkText k ∷ causesText (p .roster) ∷ [])

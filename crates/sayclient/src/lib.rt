@@ -1,11 +1,13 @@
-// The client's line after an accepted event, and the line of the pool's further fields.
+// The client's line after an accepted event, and the line of its further fields.
 ghost use mathlib.Core.Path.{_≡_};
 ghost use mathlib.Core.List.{map};
 ghost use Rattle.text.specs.Ink.{ink, emits};
-ghost use Rattle.sayclient.specs.Client.{letter, phaseText, jobText, outcomeText, rosterText, flagsText, clientText, lookText};
+ghost use Rattle.sayclient.specs.Client.{letter, phaseText, jobText, outcomeText, rosterText, flagsText, clientText, pastText, checkText, causesText, lookText};
+use checks::Check;
 use roster::Kind;
 use state::Job;
 use state::Outcome;
+use state::Past;
 use state::Phase;
 use state::Pool;
 use state::Roster;
@@ -125,18 +127,39 @@ pub fn put_client(out: &mut [u8], at: usize, p: Pool, sent: Sent) -> usize
     say::put_awaited(out, to, awaited, sent.number as u64)
 }
 
-// The line of the pool's further fields, without its newline.
-pub fn put_look(out: &mut [u8], at: usize, p: Pool) -> usize
-    ensures { λ r. ⌜ ink (now (out .exit)) r ≡ emits (ink (now (out .entry)) at) (lookText p) ⌝ }
+fn put_past(out: &mut [u8], at: usize, past: Past) -> usize
+    ensures { λ r. ⌜ ink (now (out .exit)) r ≡ emits (ink (now (out .entry)) at) (pastText past) ⌝ }
+{
+    let written = numbers::one(past.written);
+    let assembled = numbers::one(past.assembled);
+    let to = say::put_pair(out, at, b"look written=", written);
+    say::put_pair(out, to, b" assembled=", assembled)
+}
+
+fn put_check(out: &mut [u8], at: usize, k: Check) -> usize
+    ensures { λ r. ⌜ ink (now (out .exit)) r ≡ emits (ink (now (out .entry)) at) (checkText k) ⌝ }
+{
+    let to = say::put_pair(out, at, b" tick=", k.tick as u64);
+    let to = say::put_pair(out, to, b" due=", k.due as u64);
+    say::put_pair(out, to, b" once=", k.once as u64)
+}
+
+fn put_causes(out: &mut [u8], at: usize, ro: Roster) -> usize
+    ensures { λ r. ⌜ ink (now (out .exit)) r ≡ emits (ink (now (out .entry)) at) (causesText ro) ⌝ }
+{
+    let link = roster::ids(Kind::Link, ro);
+    let io = roster::ids(Kind::Io, ro);
+    let to = say::put_pair(out, at, b" link=", link);
+    say::put_pair(out, to, b" io=", io)
+}
+
+// The line of the further fields, without its newline.
+pub fn put_look(out: &mut [u8], at: usize, p: Pool, k: Check) -> usize
+    ensures { λ r. ⌜ ink (now (out .exit)) r ≡ emits (ink (now (out .entry)) at) (lookText p k) ⌝ }
 {
     let ro = p.roster;
     let past = ro.past;
-    let written = numbers::one(past.written);
-    let assembled = numbers::one(past.assembled);
-    let link = roster::ids(Kind::Link, ro);
-    let io = roster::ids(Kind::Io, ro);
-    let to = say::put_pair(out, at, b"look written=", written);
-    let to = say::put_pair(out, to, b" assembled=", assembled);
-    let to = say::put_pair(out, to, b" link=", link);
-    say::put_pair(out, to, b" io=", io)
+    let to = put_past(out, at, past);
+    let to = put_check(out, to, k);
+    put_causes(out, to, ro)
 }

@@ -1,12 +1,14 @@
 -- The lines that answer a command, each with its newline.
-use mathlib.Core.List.{List}
+use mathlib.Core.Bool.{Bool}
+use mathlib.Core.List.{List, [], _∷_}
 use Prim.Native.Nat.{ℕ, _+_, _*_}
 use lib.Dec.{ltb}
 use lib.ListN.{length, take, drop}
-use Rattle.laws.specs.Words.{pick}
+use Rattle.laws.specs.Words.{pick, one}
 use Rattle.text.specs.Bytes.{bytes}
-use Rattle.text.specs.Ink.{Ink, emit, emits}
+use Rattle.text.specs.Ink.{Ink, emit, emits, joined}
 use Rattle.state.specs.declared.Pool.{Pool}
+use Rattle.checks.specs.declared.Check.{Check}
 use Rattle.nodestate.specs.declared.Node.{Node}
 use Rattle.forms.specs.declared.Which.{Which}
 use Rattle.say.specs.Say.{paired}
@@ -19,18 +21,23 @@ use Rattle.saylab.specs.declared.Said.{Said}
 abbrev pub ended : Ink → List ℕ → Ink
 ended k s = emit (emits k s) 10
 
--- what is said, p being the client's state and n the node's; a row is written apart
-abbrev pub lineIn : Ink → Said → Pool → Node → Ink
-lineIn k Said.Nothing p n = k
-lineIn k Said.Unreadable p n = ended k (bytes "unreadable")
-lineIn k Said.Done p n = ended k (bytes "done")
-lineIn k Said.Idle p n = ended k (bytes "idle")
-lineIn k (Said.Refused why) p n = ended k (paired (bytes "refused ") why)
-lineIn k (Said.Client sent) p n = ended k (clientText p sent)
-lineIn k (Said.Node id) p n = ended k (nodeText n)
-lineIn k (Said.Row w m) p n = k
-lineIn k Said.Look p n = ended k (Client·lookText p)
-lineIn k (Said.LookNode id) p n = ended k (lookText n)
+-- what a node answers to map check: its line, and whether its own row is empty
+unfoldable pub askedText : Node → Bool → List ℕ
+askedText n empty = joined (nodeText n ∷ paired (bytes " empty=") (one empty) ∷ [])
+
+-- what is said, p and check being the client's state and n the node's; a row is written apart
+abbrev pub lineIn : Ink → Said → Pool → Check → Node → Ink
+lineIn k Said.Nothing p check n = k
+lineIn k Said.Unreadable p check n = ended k (bytes "unreadable")
+lineIn k Said.Done p check n = ended k (bytes "done")
+lineIn k Said.Idle p check n = ended k (bytes "idle")
+lineIn k (Said.Refused why) p check n = ended k (paired (bytes "refused ") why)
+lineIn k (Said.Client sent) p check n = ended k (clientText p sent)
+lineIn k (Said.Node id) p check n = ended k (nodeText n)
+lineIn k (Said.Asked id empty) p check n = ended k (askedText n empty)
+lineIn k (Said.Row w m) p check n = k
+lineIn k Said.Look p check n = ended k (Client·lookText p check)
+lineIn k (Said.LookNode id) p check n = ended k (lookText n)
 
 -- the row of member m in the nth map of xs; nothing where that map is not there
 abbrev pub rowOf : Ink → List ℕ → ℕ → ℕ → Ink

@@ -1,18 +1,19 @@
 // What there is to say of a command, and the line that says it.
 ghost use mathlib.Core.Path.{_≡_};
 ghost use Rattle.text.specs.Bytes.{bytes};
-ghost use Rattle.text.specs.Ink.{ink};
+ghost use Rattle.text.specs.Ink.{ink, emits};
 ghost use Rattle.say.specs.Say.{paired};
 ghost use Rattle.sayclient.specs.Client.{clientText, lookText as Client·lookText};
 ghost use Rattle.saynode.specs.NodeLine.{nodeText, lookText};
-ghost use Rattle.saylab.specs.Lines.{ended, lineIn, rowOf, rowIn};
+ghost use Rattle.saylab.specs.Lines.{ended, askedText, lineIn, rowOf, rowIn};
+use checks::Check;
 use forms::Which;
 use nodestate::Node;
 use state::Pool;
 use state::Sent;
 
-// Nothing: of a line that is passed over. Done: of one that sets the lab up. Client: an accepted event of the client. Node: one of this node. Row: a member's
-// row of a map. Look, LookNode: the further fields of the pool, of this node.
+// Nothing: of a line that is passed over. Done: of one that sets the lab up. Client: an accepted event of the client. Node: one of this node. Asked: this node
+// was asked whether its own row is empty. Row: a member's row of a map. Look, LookNode: the further fields of the client, of this node.
 pub enum Said {
     Nothing,
     Unreadable,
@@ -21,14 +22,15 @@ pub enum Said {
     Refused(u64),
     Client(Sent),
     Node(u64),
+    Asked(u64, bool),
     Row(Which, u64),
     Look,
     LookNode(u64),
 }
 
-// The line: p is the client's state after the command, n the state of the node that it went to. A row is written by put_row.
-pub fn put_line(out: &mut [u8], at: usize, s: Said, p: Pool, n: Node) -> usize
-    ensures { λ r. ⌜ ink (now (out .exit)) r ≡ lineIn (ink (now (out .entry)) at) s p n ⌝ }
+// The line: p and k are the client's state after the command, n the state of the node that it went to. A row is written by put_row.
+pub fn put_line(out: &mut [u8], at: usize, s: Said, p: Pool, k: Check, n: Node) -> usize
+    ensures { λ r. ⌜ ink (now (out .exit)) r ≡ lineIn (ink (now (out .entry)) at) s p k n ⌝ }
 {
     match s {
         Said::Nothing => at,
@@ -38,8 +40,9 @@ pub fn put_line(out: &mut [u8], at: usize, s: Said, p: Pool, n: Node) -> usize
         Said::Refused(why) => refused_line(out, at, why),
         Said::Client(sent) => client_line(out, at, p, sent),
         Said::Node(id) => node_line(out, at, n),
+        Said::Asked(id, empty) => asked_line(out, at, n, empty),
         Said::Row(w, m) => at,
-        Said::Look => pool_line(out, at, p),
+        Said::Look => pool_line(out, at, p, k),
         Said::LookNode(id) => look_line(out, at, n),
     }
 }
@@ -65,10 +68,10 @@ fn client_line(out: &mut [u8], at: usize, p: Pool, sent: Sent) -> usize
     text::put(out, to, 10)
 }
 
-fn pool_line(out: &mut [u8], at: usize, p: Pool) -> usize
-    ensures { λ r. ⌜ ink (now (out .exit)) r ≡ ended (ink (now (out .entry)) at) (Client·lookText p) ⌝ }
+fn pool_line(out: &mut [u8], at: usize, p: Pool, k: Check) -> usize
+    ensures { λ r. ⌜ ink (now (out .exit)) r ≡ ended (ink (now (out .entry)) at) (Client·lookText p k) ⌝ }
 {
-    let to = sayclient::put_look(out, at, p);
+    let to = sayclient::put_look(out, at, p, k);
     text::put(out, to, 10)
 }
 
@@ -76,6 +79,20 @@ fn node_line(out: &mut [u8], at: usize, n: Node) -> usize
     ensures { λ r. ⌜ ink (now (out .exit)) r ≡ ended (ink (now (out .entry)) at) (nodeText n) ⌝ }
 {
     let to = saynode::put_node(out, at, n);
+    text::put(out, to, 10)
+}
+
+fn put_asked(out: &mut [u8], at: usize, n: Node, empty: bool) -> usize
+    ensures { λ r. ⌜ ink (now (out .exit)) r ≡ emits (ink (now (out .entry)) at) (askedText n empty) ⌝ }
+{
+    let to = saynode::put_node(out, at, n);
+    say::put_pair(out, to, b" empty=", numbers::one(empty))
+}
+
+fn asked_line(out: &mut [u8], at: usize, n: Node, empty: bool) -> usize
+    ensures { λ r. ⌜ ink (now (out .exit)) r ≡ ended (ink (now (out .entry)) at) (askedText n empty) ⌝ }
+{
+    let to = put_asked(out, at, n, empty);
     text::put(out, to, 10)
 }
 

@@ -123,7 +123,7 @@ pub enum Message {
 
 // The messages that are not awaited; an event sends at most one kind. Marks: to each of a set, chunk, list, version. Clears: to each of a set, member,
 // chunk. Infos: to each of a set, what, member. Disable: MAP_DISABLE. Off: ENABLE 0. Extended: POOL_INFO of a member added by create to each of a set, then
-// its fill to each of another: others, normals, member, version.
+// its fill to each of another: others, normals, member, version. Checks: MAP_CHECK to each of a set, the tick's number.
 pub enum Told {
     Nothing,
     Marks(u64, u64, u64, u64),
@@ -132,6 +132,7 @@ pub enum Told {
     Disable(u64),
     Off(u64),
     Extended(u64, u64, u64, u64),
+    Checks(u64, u64),
 }
 
 // What an accepted event reports beside its messages. Taken: the awaited answers taken so far in the run. Written: acknowledged or not, and the mark list.

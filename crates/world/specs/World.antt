@@ -79,6 +79,7 @@ tell (Told.Infos to op member) f = f
 tell (Told.Disable to) f = upd f to (does (f to) Event.mapDisable .station)
 tell (Told.Off to) f = f
 tell (Told.Extended others normals member version) f = f
+tell (Told.Checks to tick) f = f
 
 -- ---- the client hears the answer
 

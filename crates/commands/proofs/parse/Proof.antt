@@ -7,6 +7,9 @@ use Rattle.commands.proofs.parse.Tie as tie
 form-of-requires : tie.Need-form-of-requires
 form-of-requires c κs = search needs
 
+checks-requires : tie.Need-checks-requires
+checks-requires c κs = search needs
+
 fields-requires : tie.Need-fields-requires
 fields-requires c κs = search needs
 
@@ -31,18 +34,22 @@ transfer-events-requires c κs = search needs
 whole-events-requires : tie.Need-whole-events-requires
 whole-events-requires c κs = search needs
 
+check-events-requires : tie.Need-check-events-requires
+check-events-requires c κs = search needs
+
 client-events-requires : tie.Need-client-events-requires
 client-events-requires c κs = search needs
 
 returns : tie.Need-returns
 unfolding meaning
-returns c = rw (c .client-events .ensures, c .before .whole-events .ensures, c .before .before .transfer-events .ensures, c .before .before .before .service-events .ensures, c .before .before .before .before .store-events .ensures, c .before .before .before .before .before .stores .ensures, c .before .before .before .before .before .before .looks .ensures, c .before .before .before .before .before .before .before .pokes .ensures, c .before .before .before .before .before .before .before .before .fields .ensures, c .before .before .before .before .before .before .before .before .before .form-of .ensures) refl
+returns c = rw (c .client-events .ensures, c .before .check-events .ensures, c .before .before .whole-events .ensures, c .before .before .before .transfer-events .ensures, c .before .before .before .before .service-events .ensures, c .before .before .before .before .before .store-events .ensures, c .before .before .before .before .before .before .stores .ensures, c .before .before .before .before .before .before .before .looks .ensures, c .before .before .before .before .before .before .before .before .pokes .ensures, c .before .before .before .before .before .before .before .before .before .fields .ensures, c .before .before .before .before .before .before .before .before .before .before .checks .ensures, c .before .before .before .before .before .before .before .before .before .before .before .form-of .ensures) refl
 
 pub parse-spec : {M : Type 1} → statement M
 parse-spec =
     tie.close
     (tie.spec
     form-of-requires
+    checks-requires
     fields-requires
     pokes-requires
     looks-requires
@@ -51,5 +58,6 @@ parse-spec =
     service-events-requires
     transfer-events-requires
     whole-events-requires
+    check-events-requires
     client-events-requires
     returns)

@@ -3,6 +3,9 @@ use borrow.Author.Needs.{needs}
 use Rattle.names.proofs.name.Statement.{statement}
 use Rattle.names.proofs.name.Tie as tie
 
+names-h-requires : tie.Need-names-h-requires
+names-h-requires c κs = search needs
+
 names-g-requires : tie.Need-names-g-requires
 names-g-requires c κs = search needs
 
@@ -32,6 +35,7 @@ pub name-spec : {M : Type 1} → statement M
 name-spec =
     tie.close
     (tie.spec
+    names-h-requires
     names-g-requires
     names-f-requires
     names-e-requires

@@ -57,6 +57,9 @@ has-requires-5 c κs = search needs
 both-if-requires : tie.Need-both-if-requires
 both-if-requires c κs = search needs
 
+enum-known-t-7 : tie.Need-enum-known-t-7
+enum-known-t-7 c = search needs
+
 returns : tie.Need-returns
 returns c = search needs
 
@@ -77,6 +80,9 @@ returns-6 c = rw (c .one-if5 .ensures, c .before .before .t5 .given .1) refl
 
 returns-7 : tie.Need-returns-7
 returns-7 c = rw (c .both-if .ensures, c .before .has5 .ensures, c .before .before .has4 .ensures, c .before .before .before .before .t6 .given .1) refl
+
+returns-8 : tie.Need-returns-8
+returns-8 c = rw (c .before .t7 .given .1) refl
 
 pub told-to-spec : {M : Type 1} → statement M
 told-to-spec =
@@ -100,10 +106,12 @@ told-to-spec =
     has-requires-4
     has-requires-5
     both-if-requires
+    enum-known-t-7
     returns
     returns-2
     returns-3
     returns-4
     returns-5
     returns-6
-    returns-7)
+    returns-7
+    returns-8)

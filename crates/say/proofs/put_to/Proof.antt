@@ -52,6 +52,15 @@ slice-aggregate-put3-in-3 c = search needs
 put3-in-requires-3 : tie.Need-put3-in-requires-3
 put3-in-requires-3 c κs = search needs
 
+enum-known-t-7 : tie.Need-enum-known-t-7
+enum-known-t-7 c = search needs
+
+slice-aggregate-put2-in : tie.Need-slice-aggregate-put2-in
+slice-aggregate-put2-in c = search needs
+
+put2-in-requires : tie.Need-put2-in-requires
+put2-in-requires c κs = search needs
+
 returns : tie.Need-returns
 returns c = rw (c .enum-told .given .1) (sym (emits-end _))
 
@@ -85,6 +94,12 @@ same-length-4 c = search needs
 returns-7 : tie.Need-returns-7
 returns-7 c = rw (c .before .before .before .before .before .before .t6 .given .1) (c .before .before .put3-in3 .ensures)
 
+same-length-5 : tie.Need-same-length-5
+same-length-5 c = search needs
+
+returns-8 : tie.Need-returns-8
+returns-8 c = rw (c .before .before .before .before .before .before .t7 .given .1) (c .before .before .put2-in .ensures)
+
 pub put-to-spec : {M : Type 1} → statement M
 put-to-spec =
     tie.close
@@ -105,6 +120,9 @@ put-to-spec =
     enum-known-t-6
     slice-aggregate-put3-in-3
     put3-in-requires-3
+    enum-known-t-7
+    slice-aggregate-put2-in
+    put2-in-requires
     returns
     same-length
     returns-2
@@ -115,4 +133,6 @@ put-to-spec =
     returns-5
     returns-6
     same-length-4
-    returns-7)
+    returns-7
+    same-length-5
+    returns-8)

@@ -50,6 +50,12 @@ enum-known-t-6 c = search needs
 put-two-requires : tie.Need-put-two-requires
 put-two-requires c κs = search needs
 
+enum-known-t-7 : tie.Need-enum-known-t-7
+enum-known-t-7 c = search needs
+
+put-each-requires-4 : tie.Need-put-each-requires-4
+put-each-requires-4 c κs = search needs
+
 returns : tie.Need-returns
 unfolding toldText
 returns c = rw (c .enum-told .given .1) (sym (emits-end _))
@@ -96,6 +102,13 @@ returns-7 : tie.Need-returns-7
 unfolding toldText
 returns-7 c = rw (c .before .before .before .before .before .t6 .given .1) (c .before .before .put-two .ensures)
 
+same-length-7 : tie.Need-same-length-7
+same-length-7 c = search needs
+
+returns-8 : tie.Need-returns-8
+unfolding toldText
+returns-8 c = rw (c .before .before .before .before .before .t7 .given .1) (c .before .before .put-each4 .ensures)
+
 pub put-told-spec : {M : Type 1} → statement M
 put-told-spec =
     tie.close
@@ -115,6 +128,8 @@ put-told-spec =
     put2-requires
     enum-known-t-6
     put-two-requires
+    enum-known-t-7
+    put-each-requires-4
     returns
     same-length
     returns-2
@@ -127,4 +142,6 @@ put-told-spec =
     same-length-5
     returns-6
     same-length-6
-    returns-7)
+    returns-7
+    same-length-7
+    returns-8)

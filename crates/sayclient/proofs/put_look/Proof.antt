@@ -1,69 +1,27 @@
-use Rattle.say.specs.Say.{paired}
-use Rattle.text.proofs.Laws.{emits-parts, emits-then}
-use mathlib.Core.Path.{refl, ap}
 use Rattle.sayclient.specs.Client.{lookText}
+use Rattle.text.proofs.Laws.{emits-parts, emits-then}
+use mathlib.Core.Path.{refl}
 use borrow.Author.Needs.{needs}
 use Rattle.sayclient.proofs.put_look.Statement.{statement}
 use Rattle.sayclient.proofs.put_look.Tie as tie
 
-one-requires : tie.Need-one-requires
-one-requires c κs = search needs
+put-past-requires : tie.Need-put-past-requires
+put-past-requires c κs = search needs
 
-one-requires-2 : tie.Need-one-requires-2
-one-requires-2 c κs = search needs
+put-check-requires : tie.Need-put-check-requires
+put-check-requires c κs = search needs
 
-ids-requires : tie.Need-ids-requires
-ids-requires c κs = search needs
-
-ids-requires-2 : tie.Need-ids-requires-2
-ids-requires-2 c κs = search needs
-
-slice-aggregate-put-pair : tie.Need-slice-aggregate-put-pair
-slice-aggregate-put-pair c = search needs
-
-put-pair-requires : tie.Need-put-pair-requires
-put-pair-requires c κs = search needs
-
-slice-aggregate-put-pair-2 : tie.Need-slice-aggregate-put-pair-2
-slice-aggregate-put-pair-2 c = search needs
-
-put-pair-requires-2 : tie.Need-put-pair-requires-2
-put-pair-requires-2 c κs = search needs
-
-slice-aggregate-put-pair-3 : tie.Need-slice-aggregate-put-pair-3
-slice-aggregate-put-pair-3 c = search needs
-
-put-pair-requires-3 : tie.Need-put-pair-requires-3
-put-pair-requires-3 c κs = search needs
-
-slice-aggregate-put-pair-4 : tie.Need-slice-aggregate-put-pair-4
-slice-aggregate-put-pair-4 c = search needs
-
-put-pair-requires-4 : tie.Need-put-pair-requires-4
-put-pair-requires-4 c κs = search needs
+put-causes-requires : tie.Need-put-causes-requires
+put-causes-requires c κs = search needs
 
 same-length : tie.Need-same-length
 same-length c = search needs
 
 returns : tie.Need-returns
 unfolding lookText
-returns c = emits-parts _ _ (emits-then (emits-then (emits-then (emits-then refl (ap (paired _) (c .before .before .before .before .before .before .before .before .before .before .before .before .before .before .before .before .before .before .before .before .before .before .before .one .ensures)) (c .before .before .before .before .before .before .before .before .before .before .before .before .before .before .before .before .before .put-pair .ensures)) (ap (paired _) (c .before .before .before .before .before .before .before .before .before .before .before .before .before .before .before .before .before .before .before .before .before .before .one2 .ensures)) (c .before .before .before .before .before .before .before .before .before .before .before .before .put-pair2 .ensures)) (ap (paired _) (c .before .before .before .before .before .before .before .before .before .before .before .before .before .before .before .before .before .before .before .before .before .ids .ensures)) (c .before .before .before .before .before .before .before .put-pair3 .ensures)) (ap (paired _) (c .before .before .before .before .before .before .before .before .before .before .before .before .before .before .before .before .before .before .before .before .ids2 .ensures)) (c .before .before .put-pair4 .ensures))
+returns c = emits-parts _ _ (emits-then (emits-then (emits-then refl refl (c .before .before .before .before .before .before .before .before .before .before .put-past .ensures)) refl (c .before .before .before .before .before .before .put-check .ensures)) refl (c .before .before .put-causes .ensures))
 
 pub put-look-spec : {M : Type 1} → statement M
 put-look-spec =
     tie.close
-    (tie.spec
-    one-requires
-    one-requires-2
-    ids-requires
-    ids-requires-2
-    slice-aggregate-put-pair
-    put-pair-requires
-    slice-aggregate-put-pair-2
-    put-pair-requires-2
-    slice-aggregate-put-pair-3
-    put-pair-requires-3
-    slice-aggregate-put-pair-4
-    put-pair-requires-4
-    same-length
-    returns)
+    (tie.spec put-past-requires put-check-requires put-causes-requires same-length returns)

@@ -54,14 +54,20 @@ node-line-requires c κs = search needs
 enum-known-s-4 : tie.Need-enum-known-s-4
 enum-known-s-4 c = search needs
 
+asked-line-requires : tie.Need-asked-line-requires
+asked-line-requires c κs = search needs
+
+enum-known-s-5 : tie.Need-enum-known-s-5
+enum-known-s-5 c = search needs
+
 enum-told-5 : tie.Need-enum-told-5
 enum-told-5 c = search needs
 
 pool-line-requires : tie.Need-pool-line-requires
 pool-line-requires c κs = search needs
 
-enum-known-s-5 : tie.Need-enum-known-s-5
-enum-known-s-5 c = search needs
+enum-known-s-6 : tie.Need-enum-known-s-6
+enum-known-s-6 c = search needs
 
 look-line-requires : tie.Need-look-line-requires
 look-line-requires c κs = search needs
@@ -105,20 +111,26 @@ same-length-6 c = search needs
 returns-7 : tie.Need-returns-7
 returns-7 c = rw (c .before .before .before .before .before .s3 .given .1) (c .before .before .node-line .ensures)
 
-returns-8 : tie.Need-returns-8
-returns-8 c = rw (c .before .s4 .given .1) refl
-
 same-length-7 : tie.Need-same-length-7
 same-length-7 c = search needs
 
+returns-8 : tie.Need-returns-8
+returns-8 c = rw (c .before .before .before .before .before .s4 .given .1) (c .before .before .asked-line .ensures)
+
 returns-9 : tie.Need-returns-9
-returns-9 c = rw (c .before .before .before .before .enum-told5 .given .1) (c .before .before .pool-line .ensures)
+returns-9 c = rw (c .before .s5 .given .1) refl
 
 same-length-8 : tie.Need-same-length-8
 same-length-8 c = search needs
 
 returns-10 : tie.Need-returns-10
-returns-10 c = rw (c .before .before .before .before .before .s5 .given .1) (c .before .before .look-line .ensures)
+returns-10 c = rw (c .before .before .before .before .enum-told5 .given .1) (c .before .before .pool-line .ensures)
+
+same-length-9 : tie.Need-same-length-9
+same-length-9 c = search needs
+
+returns-11 : tie.Need-returns-11
+returns-11 c = rw (c .before .before .before .before .before .s6 .given .1) (c .before .before .look-line .ensures)
 
 pub put-line-spec : {M : Type 1} → statement M
 put-line-spec =
@@ -141,9 +153,11 @@ put-line-spec =
     enum-known-s-3
     node-line-requires
     enum-known-s-4
+    asked-line-requires
+    enum-known-s-5
     enum-told-5
     pool-line-requires
-    enum-known-s-5
+    enum-known-s-6
     look-line-requires
     returns
     same-length
@@ -158,8 +172,10 @@ put-line-spec =
     returns-6
     same-length-6
     returns-7
-    returns-8
     same-length-7
+    returns-8
     returns-9
     same-length-8
-    returns-10)
+    returns-10
+    same-length-9
+    returns-11)

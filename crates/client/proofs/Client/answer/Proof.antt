@@ -12,6 +12,9 @@ answer-requires c κs = search needs
 carry-requires : tie.Need-carry-requires
 carry-requires c κs = search needs
 
+after-requires : tie.Need-after-requires
+after-requires c κs = search needs
+
 same-length : tie.Need-same-length
 same-length c = search needs
 
@@ -22,4 +25,4 @@ returns c = ((cc), (cc))
 pub answer-spec : {M : Type 1} → statement M
 answer-spec =
     tie.close
-    (tie.spec is-sound-requires answer-requires carry-requires same-length returns)
+    (tie.spec is-sound-requires answer-requires carry-requires after-requires same-length returns)

@@ -12,6 +12,9 @@ write-ended-requires c κs = search needs
 carry-requires : tie.Need-carry-requires
 carry-requires c κs = search needs
 
+after-requires : tie.Need-after-requires
+after-requires c κs = search needs
+
 same-length : tie.Need-same-length
 same-length c = search needs
 
@@ -26,5 +29,6 @@ write-spec =
     is-sound-requires
     write-ended-requires
     carry-requires
+    after-requires
     same-length
     returns)

@@ -4,17 +4,14 @@ use mathlib.Core.Bool.{Bool}
 use Prim.Native.Nat.{ℕ}
 use Rattle.client.specs.declared.Client.{Client}
 use Rattle.client.specs.declared.Out.{Out}
-use Rattle.client.specs.Client.{fresh, handed}
-use Rattle.events.specs.Events.{Event, turnOf, Lent, mapLeft}
-
--- what an event hands back at a client
-abbrev pub outOf : Event → Client → Out
-outOf e c = handed (turnOf e (c .pool))
+use Rattle.client.specs.Client.{fresh}
+use Rattle.events.specs.Events.{Lent}
+use Rattle.clientevents.specs.Events.{Event, outOf, mapLeft}
 
 -- what the contract of an event's method says of what it hands back and of the bytes that it leaves in the lent map
 pub record Meets (e : Event) (c : Client) (r : Out) (map : Lent) : Type 0 where
   pub answer : r ≡ outOf e c
-  pub mapIs : map ≡ mapLeft e (c .pool)
+  pub mapIs : map ≡ mapLeft e c
 
 -- Two that meet it are equal: answer, messages, next state, every byte of the map.
 abbrev pub OneAnswer : Type 0

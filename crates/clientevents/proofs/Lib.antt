@@ -1,0 +1,4 @@
+pub mod Shape
+pub mod Demand1
+pub mod Reached
+pub mod Unique

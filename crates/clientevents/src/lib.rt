@@ -1,0 +1,1 @@
+// No code: what holds of every event of the client, those of its pool and those of map check.

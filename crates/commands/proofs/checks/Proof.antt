@@ -1,0 +1,39 @@
+use Rattle.commands.specs.Commands.{checks}
+use mathlib.Core.Path.{refl}
+use borrow.Author.Needs.{needs}
+use Rattle.commands.proofs.checks.Statement.{statement}
+use Rattle.commands.proofs.checks.Tie as tie
+
+pair-requires : tie.Need-pair-requires
+pair-requires c κs = search needs
+
+first-requires : tie.Need-first-requires
+first-requires c κs = search needs
+
+pair-requires-2 : tie.Need-pair-requires-2
+pair-requires-2 c κs = search needs
+
+first-requires-2 : tie.Need-first-requires-2
+first-requires-2 c κs = search needs
+
+pair-requires-3 : tie.Need-pair-requires-3
+pair-requires-3 c κs = search needs
+
+first-requires-3 : tie.Need-first-requires-3
+first-requires-3 c κs = search needs
+
+returns : tie.Need-returns
+unfolding checks
+returns c = rw (c .first3 .ensures, c .before .pair3 .ensures, c .before .before .first2 .ensures, c .before .before .before .pair2 .ensures, c .before .before .before .before .first .ensures, c .before .before .before .before .before .pair .ensures) refl
+
+pub checks-spec : {M : Type 1} → statement M
+checks-spec =
+    tie.close
+    (tie.spec
+    pair-requires
+    first-requires
+    pair-requires-2
+    first-requires-2
+    pair-requires-3
+    first-requires-3
+    returns)

@@ -1,0 +1,22 @@
+-- What a node answers to a question, its maps lent as far as the lab lends them. xs holds the maps of all nodes, ys their staging maps; they stay, and so does the node.
+use mathlib.Core.List.{List}
+use Prim.Native.Nat.{ℕ}
+use Rattle.forms.specs.declared.Question.{Question}
+use Rattle.nodechecks.specs.declared.Checked.{Checked}
+use Rattle.node.specs.declared.StorageNode.{StorageNode}
+use Rattle.node.specs.Face.{checked}
+use Rattle.lending.specs.declared.Lent.{Lent}
+use Rattle.lending.specs.Lending.{mapOf, stagingOf}
+use Rattle.lendask.specs.declared.Finding.{Finding}
+
+abbrev pub ofCheck : Checked → Finding
+ofCheck (Checked.Refused why) = Finding.Refused why
+ofCheck (Checked.Empty empty) = Finding.Empty empty
+
+-- what the node answers with these maps
+abbrev pub findingOf : Question → StorageNode → List ℕ → List ℕ → Finding
+findingOf Question.MapCheck n xs ys = ofCheck (checked n xs ys .answer)
+
+-- what node k answers, asked on the lent parts of its own maps
+abbrev pub nodeFinds : StorageNode → ℕ → Lent → Question → List ℕ → List ℕ → Finding
+nodeFinds n k lent q xs ys = findingOf q n (mapOf lent k xs) (stagingOf lent k ys)

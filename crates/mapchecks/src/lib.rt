@@ -1,0 +1,1 @@
+// No code: what map check comes to over a history of events.
