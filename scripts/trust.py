@@ -20,12 +20,13 @@ LAYERS = {
     "client": "state roster changes run recovery rules exits joins extending enables links writes removal answers breaking checks client",
     "node": "nodestate noderegister nodejoins nodeenables nodewrites nodefills nodeserve nodehand nodemaps nodechecks node",
     "theorems": "order events creation bounds table clientevents mapchecks nodeevents commuting world honest demand3 added",
-    "lab": "text names lines forms eventlines commands say sayclient saynode sayrow saylab post lending anyclient anynode lendclient lendnode lendask bench delivery reading arranging lab",
+    "lab": "text names lines forms eventlines commands say sayclient saynode sayrow journal sayrecord saylab post lending anyclient anynode lendclient lendnode lendask bench delivery fetching reading arranging lab",
     "backup": "descriptors statuswriter statusreader statuslaws statustool status statusread statusrefused",
     "compare": "dumps differences saydifferences comparing compare comparesame comparelong",
+    "audit": "records replay auditing auditor batches logs ownlogs auditlines auditrun audit auditwrong auditword",
 }
 LAWS = "laws keeps"  # crates of laws: what they say is proved of the others; only the definitions named in the table change what a contract or statement means
-THEOREMS = set((LAYERS["theorems"] + " versions statuslaws dumps differences saydifferences").split())  # crates with statements in specs/
+THEOREMS = set((LAYERS["theorems"] + " versions statuslaws dumps differences saydifferences batches logs ownlogs").split())  # crates with statements in specs/
 
 HEAD = re.compile(r"^(?:(?:abbrev|unfoldable) )?(?:pub )?(?:(?:record|data) ([^\s(){}:;]+)|([^\s(){}:;]+)(?: \{[^}]*\})? :)")
 USE = re.compile(r"^(?:ghost )?use Rattle·(\w+?)(?:·specs\.specs|\.specs)\.([\w.]+?)(?:\.\{([^}]*)\}| as (\w[\w-]*));?$")

@@ -21,7 +21,7 @@ import tempfile
 
 ROOT = os.path.dirname(os.path.dirname(os.path.abspath(__file__)))
 FOLDER = os.path.join(ROOT, "scripts", "wrong-rules")
-THEOREMS = ("events", "creation", "nodeevents", "commuting", "table", "demand3", "added")  # what these rest on is checked first, the lab after it
+THEOREMS = ("events", "creation", "nodeevents", "commuting", "table", "demand3", "added", "logs", "ownlogs")  # what these rest on is checked first, the lab after it
 
 
 def read(path):

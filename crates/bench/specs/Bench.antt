@@ -268,3 +268,4 @@ arranged l (Command.Row w m) = l
 arranged l Command.Look = l
 arranged l (Command.LookNode n) = l
 arranged l (Command.Byte w i v) = l
+arranged l Command.Record = l

@@ -139,6 +139,7 @@ pub fn arrange(l: Lab, c: Command) -> Lab
         Command::Look => l,
         Command::LookNode(n) => l,
         Command::Byte(w, i, v) => l,
+        Command::Record => l,
     }
 }
 

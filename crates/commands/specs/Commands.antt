@@ -7,7 +7,7 @@ use lib.Dec.{ltb, eqb}
 use Rattle.laws.specs.Words.{pick}
 use Rattle.lines.specs.Lines.{lineOf}
 use Rattle.lines.specs.declared.Line.{Line}
-use Rattle.names.specs.Names.{POKE, CLIENT, ROW, STAGING, BYTE, STAGING-BYTE, LEND, LEND-STAGING, POKE-NODE, SESSION, VERSION, COUNT, CHUNKS, MEMBERS, CUT, POKE-GOT, LOOK, WRITTEN, ASSEMBLED, TICK, DUE, ONCE}
+use Rattle.names.specs.Names.{POKE, CLIENT, ROW, STAGING, BYTE, STAGING-BYTE, LEND, LEND-STAGING, POKE-NODE, SESSION, VERSION, COUNT, CHUNKS, MEMBERS, CUT, POKE-GOT, LOOK, WRITTEN, ASSEMBLED, TICK, DUE, ONCE, RECORD}
 use Rattle.forms.specs.declared.Form.{Form}
 use Rattle.forms.specs.declared.Which.{Which}
 use Rattle.forms.specs.declared.Command.{Command}
@@ -56,13 +56,14 @@ fields f rest =
     (pick (plain f CUT 2 && (ltb 0 (f .x1) && ltb (f .x1) 1025)) (Command.Cut (f .x1))
     rest)))))
 
--- What map check knows, put into the client.
+-- What map check knows, put into the client; and the record of its last event, looked at.
 unfoldable pub checks : Form → Command → Command
 checks f rest =
-    pick (pair f POKE TICK 3 && ltb (f .x2) 4294967296) (Command.PokeTick (f .x2))
+    pick (plain f RECORD 1) Command.Record
+    (pick (pair f POKE TICK 3 && ltb (f .x2) 4294967296) (Command.PokeTick (f .x2))
     (pick (pair f POKE DUE 3 && ltb (f .x2) 65536) (Command.PokeDue (f .x2))
     (pick (pair f POKE ONCE 3 && ltb (f .x2) 65536) (Command.PokeOnce (f .x2))
-    rest))
+    rest)))
 
 -- What a line of words says. Each form stands once, and no two have the same words, so the order is free.
 unfoldable pub meaning : Line → Command

@@ -96,7 +96,7 @@ fn fields(f: Form, rest: Command) -> Command
     first(is, Command::Look, r)
 }
 
-// What map check knows, put into the client.
+// What map check knows, put into the client; and the record of its last event, looked at.
 fn checks(f: Form, rest: Command) -> Command
     ensures { λ r. ⌜ r ≡ Commands·checks f rest ⌝ }
 {
@@ -106,7 +106,9 @@ fn checks(f: Form, rest: Command) -> Command
     let is = pair(f, names::POKE, names::DUE, 3) & (x2 < 65536);
     let r = first(is, Command::PokeDue(x2), r);
     let is = pair(f, names::POKE, names::TICK, 3) & (x2 < 4294967296);
-    first(is, Command::PokeTick(x2), r)
+    let r = first(is, Command::PokeTick(x2), r);
+    let is = plain(f, names::RECORD, 1);
+    first(is, Command::Record, r)
 }
 
 fn parse(l: Line) -> Command

@@ -70,7 +70,7 @@ pub enum Which {
 // Passed: an empty line, or one that begins with #. Pool: sync, chunks. Cut: how long the parts are of a map that is taken or sent. Take: a node, and the one whose
 // map it takes, part by part. Ask: a node, and what it is asked. DeliverCheck: the node of the lowest due member is asked for its check, and the client gets the answer. Row: the
 // dirty chunks of a member. Look, LookNode: the further fields of the client, of a node. Byte: place, value. The rest is put into the client's state or a node's,
-// unchecked. PokeSession: id, record. PokeNode: node, state, store, create, members, version, transfer. PokeGot: node, bytes taken.
+// unchecked. Record: the record of the client's last event. PokeSession: id, record. PokeNode: node, state, store, create, members, version, transfer. PokeGot: node, bytes taken.
 pub enum Command {
     Passed,
     Unreadable,
@@ -100,6 +100,7 @@ pub enum Command {
     PokeTick(u64),
     PokeDue(u64),
     PokeOnce(u64),
+    Record,
 }
 
 // What tells one form of a line from another: the names of its first three words (NUMBER for a number), how many words there are (9 where a later word is

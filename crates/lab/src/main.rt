@@ -5,16 +5,18 @@ ghost use Prim.Native.Nat.{_<_};
 use crate::obeying::Obeyed;
 use bench::Lab;
 use checks::Check;
+use fetching::Cur;
+use fetching::Got;
 use forms::Command;
+use journal::Journal;
 use nodestate::Node;
-use reading::Cur;
-use reading::Got;
 use saylab::Said;
 use state::Pool;
 
-// Where a run stands: the lab, the reading, how many bytes of the output are not written yet, and whether to go on.
+// Where a run stands: the lab and its log, the reading, how many bytes of the output are not written yet, and whether to go on.
 pub struct Stand {
     pub lab: Lab,
+    pub log: Journal,
     pub cur: Cur,
     pub at: usize,
     pub go: bool,
@@ -56,9 +58,10 @@ pub fn run_all(
 
 fn begin() -> Stand {
     let l = bench::fresh(false, 4096);
-    let c = reading::start();
+    let c = fetching::start();
     Stand {
         lab: l,
+        log: journal::fresh(),
         cur: c,
         at: 0,
         go: true,
@@ -77,13 +80,15 @@ fn turn(
 ) -> Stand {
     let cur = s.cur;
     let l = s.lab;
-    let c = reading::fetch(cur, buf, line);
-    step(l, c, s.at, line, own, maps, stagings, out)
+    let j = s.log;
+    let c = fetching::fetch(cur, buf, line);
+    step(l, j, c, s.at, line, own, maps, stagings, out)
 }
 
 // The command of what was read, obeyed.
 fn step(
     l: Lab,
+    j: Journal,
     c: Cur,
     at: usize,
     line: &[u8],
@@ -92,7 +97,7 @@ fn step(
     stagings: &mut [u8],
     out: &mut [u8],
 ) -> Stand {
-    let d = obeying::obey(l, command_of(c, line), own, maps, stagings);
+    let d = obeying::obey(l, j, command_of(c, line), own, maps, stagings);
     answer(d, c, at, own, maps, stagings, out)
 }
 
@@ -107,6 +112,7 @@ fn answer(
     out: &mut [u8],
 ) -> Stand {
     let l = d.lab;
+    let j = d.log;
     let s = d.said;
     let to = write_line(
         s,
@@ -119,7 +125,7 @@ fn answer(
         stagings,
         out,
     );
-    onward(l, c, to, out)
+    onward(l, j, c, to, out)
 }
 
 fn write_line(
@@ -192,23 +198,26 @@ fn command_of(c: Cur, line: &[u8]) -> Command {
 }
 
 // The line goes on, the next one begins, or all that is left is written.
-fn onward(l: Lab, c: Cur, at: usize, out: &mut [u8]) -> Stand {
+fn onward(l: Lab, j: Journal, c: Cur, at: usize, out: &mut [u8]) -> Stand {
     let k = c.kind;
     match k {
         Got::Part => Stand {
             lab: l,
+            log: j,
             cur: c,
             at: at,
             go: true,
         },
         Got::Whole => Stand {
             lab: l,
-            cur: reading::fresh(c),
+            log: j,
+            cur: fetching::fresh(c),
             at: at,
             go: true,
         },
         Got::End => Stand {
             lab: l,
+            log: j,
             cur: c,
             at: flush(at, out),
             go: false,

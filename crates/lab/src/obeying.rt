@@ -6,79 +6,114 @@ use forms::Command;
 use forms::Event;
 use forms::NodeEvent;
 use forms::Question;
+use journal::Journal;
 use lendask::Finding;
 use saylab::Said;
 use state::Answer;
+use state::Roster;
 use state::Sent;
 
-// The lab after a command, and what is said.
+// The lab after a command, its log, and what is said.
 pub struct Obeyed {
     pub lab: Lab,
+    pub log: Journal,
     pub said: Said,
 }
 
 pub(crate) fn obey(
     l: Lab,
+    j: Journal,
     c: Command,
     own: &mut [u8],
     maps: &mut [u8],
     stagings: &mut [u8],
 ) -> Obeyed {
     match c {
-        Command::Client(e) => client_event(l, e, own, maps, stagings),
-        Command::Node(n, e) => node_event(l, n, e, maps, stagings),
-        Command::Take(n, m) => take(l, n, m, maps, stagings),
-        Command::Deliver => deliver(l, own, maps, stagings),
-        Command::Ask(n, q) => ask(l, n, q, maps, stagings),
-        Command::DeliverCheck => deliver_check(l, own, maps, stagings),
-        _ => arrange(l, c, own, maps, stagings),
+        Command::Client(e) => client_event(l, j, e, own, maps, stagings),
+        Command::Node(n, e) => node_event(l, j, n, e, maps, stagings),
+        Command::Take(n, m) => take(l, j, n, m, maps, stagings),
+        Command::Deliver => deliver(l, j, own, maps, stagings),
+        Command::Ask(n, q) => ask(l, j, n, q, maps, stagings),
+        Command::DeliverCheck => deliver_check(l, j, own, maps, stagings),
+        _ => arrange(l, j, c, own, maps, stagings),
     }
 }
 
-fn client_event(l: Lab, e: Event, own: &mut [u8], maps: &mut [u8], stagings: &mut [u8]) -> Obeyed {
+fn client_event(
+    l: Lab,
+    j: Journal,
+    e: Event,
+    own: &mut [u8],
+    maps: &mut [u8],
+    stagings: &mut [u8],
+) -> Obeyed {
     let before = l.client;
     let lent = l.lent;
     let o = lendclient::client_event(before, lent, e, own, maps);
     let a = o.answer;
     let c = o.client;
+    let log = journal::enter(j, e, a, roster_of(c));
     match a {
         Answer::Refused(n) => Obeyed {
             lab: l,
+            log: log,
             said: Said::Refused(n),
         },
-        Answer::Done(sent) => accepted(l, c, sent, maps, stagings),
+        Answer::Done(sent) => accepted(l, log, c, sent, maps, stagings),
     }
 }
 
+fn roster_of(c: Client) -> Roster {
+    let p = c.pool;
+    p.roster
+}
+
 // The messages that are not awaited go to their nodes where auto is on.
-fn accepted(l: Lab, c: Client, sent: Sent, maps: &mut [u8], stagings: &mut [u8]) -> Obeyed {
+fn accepted(
+    l: Lab,
+    j: Journal,
+    c: Client,
+    sent: Sent,
+    maps: &mut [u8],
+    stagings: &mut [u8],
+) -> Obeyed {
     let awaited = sent.awaited;
     let told = sent.told;
     let k = bench::after(l, c, awaited, sent.number);
     let next = delivery::tell_auto(k, told, maps, stagings);
     Obeyed {
         lab: next,
+        log: j,
         said: Said::Client(sent),
     }
 }
 
-fn node_event(l: Lab, n: u64, e: NodeEvent, maps: &mut [u8], stagings: &mut [u8]) -> Obeyed {
+fn node_event(
+    l: Lab,
+    j: Journal,
+    n: u64,
+    e: NodeEvent,
+    maps: &mut [u8],
+    stagings: &mut [u8],
+) -> Obeyed {
     let r = delivery::node_event(l, n, e, maps, stagings);
     let next = r.lab;
     let a = r.answer;
     Obeyed {
         lab: next,
+        log: j,
         said: node_said(n, a),
     }
 }
 
 // Node n takes node m's map, part by part; what is said is the last one's.
-fn take(l: Lab, n: u64, m: u64, maps: &mut [u8], stagings: &mut [u8]) -> Obeyed {
+fn take(l: Lab, j: Journal, n: u64, m: u64, maps: &mut [u8], stagings: &mut [u8]) -> Obeyed {
     let r = delivery::take(l, n, m, maps, stagings);
     let next = r.lab;
     let a = r.answer;
     Obeyed {
         lab: next,
+        log: j,
         said: node_said(n, a),
     }
 }
@@ -92,12 +127,13 @@ fn node_said(n: u64, a: nodestate::Answer) -> Said {
 }
 
 // The awaited message to its node, and the node's answer to the client.
-fn deliver(l: Lab, own: &mut [u8], maps: &mut [u8], stagings: &mut [u8]) -> Obeyed {
+fn deliver(l: Lab, j: Journal, own: &mut [u8], maps: &mut [u8], stagings: &mut [u8]) -> Obeyed {
     let m = l.awaited;
     let none = state::is_nothing(m);
     if none {
         return Obeyed {
             lab: l,
+            log: j,
             said: Said::Idle,
         };
     }
@@ -105,14 +141,15 @@ fn deliver(l: Lab, own: &mut [u8], maps: &mut [u8], stagings: &mut [u8]) -> Obey
     let r = delivery::deliver(l, m, maps, stagings);
     let next = r.lab;
     let a = r.reply;
-    client_event(next, Event::Answer(number, a), own, maps, stagings)
+    client_event(next, j, Event::Answer(number, a), own, maps, stagings)
 }
 
 // What node n answers to a question.
-fn ask(l: Lab, n: u64, q: Question, maps: &[u8], stagings: &[u8]) -> Obeyed {
+fn ask(l: Lab, j: Journal, n: u64, q: Question, maps: &[u8], stagings: &[u8]) -> Obeyed {
     let f = delivery::ask(l, n, q, maps, stagings);
     Obeyed {
         lab: l,
+        log: j,
         said: found_said(n, f),
     }
 }
@@ -125,24 +162,47 @@ fn found_said(n: u64, f: Finding) -> Said {
 }
 
 // Map check to the node of the lowest due member, and its answer to the client.
-fn deliver_check(l: Lab, own: &mut [u8], maps: &mut [u8], stagings: &mut [u8]) -> Obeyed {
+fn deliver_check(
+    l: Lab,
+    j: Journal,
+    own: &mut [u8],
+    maps: &mut [u8],
+    stagings: &mut [u8],
+) -> Obeyed {
     let r = delivery::deliver_check(l, maps, stagings);
     match r {
         Reported::Nobody => Obeyed {
             lab: l,
+            log: j,
             said: Said::Idle,
         },
-        Reported::Event(e) => client_event(l, e, own, maps, stagings),
+        Reported::Event(e) => client_event(l, j, e, own, maps, stagings),
     }
 }
 
 // A line that sets the lab up, or looks at it.
-fn arrange(l: Lab, c: Command, own: &mut [u8], maps: &mut [u8], stagings: &mut [u8]) -> Obeyed {
+fn arrange(
+    l: Lab,
+    j: Journal,
+    c: Command,
+    own: &mut [u8],
+    maps: &mut [u8],
+    stagings: &mut [u8],
+) -> Obeyed {
     arrange_maps(c, own, maps, stagings);
     Obeyed {
         lab: bench::arrange(l, c),
-        said: said_of(c),
+        log: log_after(j, c),
+        said: said_of(j, c),
     }
+}
+
+// A new pool's log is empty.
+fn log_after(j: Journal, c: Command) -> Journal {
+    let Command::Pool(sync, chunks) = c else {
+        return j;
+    };
+    journal::fresh()
 }
 
 fn arrange_maps(c: Command, own: &mut [u8], maps: &mut [u8], stagings: &mut [u8]) {
@@ -153,13 +213,15 @@ fn arrange_maps(c: Command, own: &mut [u8], maps: &mut [u8], stagings: &mut [u8]
     }
 }
 
-fn said_of(c: Command) -> Said {
+fn said_of(j: Journal, c: Command) -> Said {
+    let last = j.last;
     match c {
         Command::Passed => Said::Nothing,
         Command::Unreadable => Said::Unreadable,
         Command::Row(w, m) => Said::Row(w, m),
         Command::Look => Said::Look,
         Command::LookNode(n) => Said::LookNode(n),
+        Command::Record => Said::Record(last),
         _ => Said::Done,
     }
 }

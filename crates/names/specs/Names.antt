@@ -182,6 +182,9 @@ DUE = 58
 abbrev pub ONCE : ℕ
 ONCE = 59
 
+abbrev pub RECORD : ℕ
+RECORD = 60
+
 -- the code of what is no word
 abbrev pub UNKNOWN : ℕ
 UNKNOWN = 255
@@ -279,7 +282,8 @@ namesH w rest =
     (word w "deliver_check" DELIVER-CHECK
     (word w "due" DUE
     (word w "once" ONCE
-    rest)))))
+    (word w "record" RECORD
+    rest))))))
 
 -- The code of a word, UNKNOWN for any other bytes.
 unfoldable pub nameOf : List ℕ → ℕ

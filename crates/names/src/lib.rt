@@ -123,6 +123,8 @@ pub const DUE: u64 = 58;
 
 pub const ONCE: u64 = 59;
 
+pub const RECORD: u64 = 60;
+
 // The code of what is no word.
 pub const UNKNOWN: u64 = 255;
 
@@ -399,7 +401,12 @@ fn names_h(s: &[u8], rest: u64) -> u64
                     s,
                     b"deliver_check",
                     DELIVER_CHECK,
-                    word(s, b"due", DUE, word(s, b"once", ONCE, rest)),
+                    word(
+                        s,
+                        b"due",
+                        DUE,
+                        word(s, b"once", ONCE, word(s, b"record", RECORD, rest)),
+                    ),
                 ),
             ),
         ),

@@ -15,6 +15,7 @@ use Rattle.say.specs.Say.{paired}
 use Rattle.sayclient.specs.Client.{clientText, lookText as Client·lookText}
 use Rattle.saynode.specs.NodeLine.{nodeText, lookText}
 use Rattle.sayrow.specs.Row.{rowText}
+use Rattle.sayrecord.specs.Text.{lastText}
 use Rattle.saylab.specs.declared.Said.{Said}
 
 -- a text and its newline
@@ -38,6 +39,7 @@ lineIn k (Said.Asked id empty) p check n = ended k (askedText n empty)
 lineIn k (Said.Row w m) p check n = k
 lineIn k Said.Look p check n = ended k (Client·lookText p check)
 lineIn k (Said.LookNode id) p check n = ended k (lookText n)
+lineIn k (Said.Record last) p check n = ended k (lastText last)
 
 -- the row of member m in the nth map of xs; nothing where that map is not there
 abbrev pub rowOf : Ink → List ℕ → ℕ → ℕ → Ink

@@ -5,15 +5,17 @@ ghost use Rattle.text.specs.Ink.{ink, emits};
 ghost use Rattle.say.specs.Say.{paired};
 ghost use Rattle.sayclient.specs.Client.{clientText, lookText as Client·lookText};
 ghost use Rattle.saynode.specs.NodeLine.{nodeText, lookText};
+ghost use Rattle.sayrecord.specs.Text.{lastText};
 ghost use Rattle.saylab.specs.Lines.{ended, askedText, lineIn, rowOf, rowIn};
 use checks::Check;
 use forms::Which;
+use journal::Last;
 use nodestate::Node;
 use state::Pool;
 use state::Sent;
 
 // Nothing: of a line that is passed over. Done: of one that sets the lab up. Client: an accepted event of the client. Node: one of this node. Asked: this node
-// was asked whether its own row is empty. Row: a member's row of a map. Look, LookNode: the further fields of the client, of this node.
+// was asked whether its own row is empty. Row: a member's row of a map. Look, LookNode: the further fields of the client, of this node. Record: that of the client's last event.
 pub enum Said {
     Nothing,
     Unreadable,
@@ -26,6 +28,7 @@ pub enum Said {
     Row(Which, u64),
     Look,
     LookNode(u64),
+    Record(Last),
 }
 
 // The line: p and k are the client's state after the command, n the state of the node that it went to. A row is written by put_row.
@@ -44,6 +47,7 @@ pub fn put_line(out: &mut [u8], at: usize, s: Said, p: Pool, k: Check, n: Node) 
         Said::Row(w, m) => at,
         Said::Look => pool_line(out, at, p, k),
         Said::LookNode(id) => look_line(out, at, n),
+        Said::Record(last) => record_line(out, at, last),
     }
 }
 
@@ -100,6 +104,13 @@ fn look_line(out: &mut [u8], at: usize, n: Node) -> usize
     ensures { λ r. ⌜ ink (now (out .exit)) r ≡ ended (ink (now (out .entry)) at) (lookText n) ⌝ }
 {
     let to = saynode::put_look(out, at, n);
+    text::put(out, to, 10)
+}
+
+fn record_line(out: &mut [u8], at: usize, l: Last) -> usize
+    ensures { λ r. ⌜ ink (now (out .exit)) r ≡ ended (ink (now (out .entry)) at) (lastText l) ⌝ }
+{
+    let to = sayrecord::put_last(out, at, l);
     text::put(out, to, 10)
 }
 

@@ -135,6 +135,9 @@ enum-known-c-22 c = search needs
 enum-known-c-23 : tie.Need-enum-known-c-23
 enum-known-c-23 c = search needs
 
+enum-told-6 : tie.Need-enum-told-6
+enum-told-6 c = search needs
+
 returns : tie.Need-returns
 returns c = rw (c .before .before .c .given .1) (c .fresh .ensures)
 
@@ -219,6 +222,9 @@ returns-27 c = rw (c .before .c22 .given .1) refl
 returns-28 : tie.Need-returns-28
 returns-28 c = rw (c .before .c23 .given .1) refl
 
+returns-29 : tie.Need-returns-29
+returns-29 c = rw (c .enum-told6 .given .1) refl
+
 pub arrange-spec : {M : Type 1} → statement M
 arrange-spec =
     tie.close
@@ -267,6 +273,7 @@ arrange-spec =
     enum-told-5
     enum-known-c-22
     enum-known-c-23
+    enum-told-6
     returns
     returns-2
     returns-3
@@ -294,4 +301,5 @@ arrange-spec =
     returns-25
     returns-26
     returns-27
-    returns-28)
+    returns-28
+    returns-29)

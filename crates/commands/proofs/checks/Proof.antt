@@ -22,9 +22,15 @@ pair-requires-3 c κs = search needs
 first-requires-3 : tie.Need-first-requires-3
 first-requires-3 c κs = search needs
 
+plain-requires : tie.Need-plain-requires
+plain-requires c κs = search needs
+
+first-requires-4 : tie.Need-first-requires-4
+first-requires-4 c κs = search needs
+
 returns : tie.Need-returns
 unfolding checks
-returns c = rw (c .first3 .ensures, c .before .pair3 .ensures, c .before .before .first2 .ensures, c .before .before .before .pair2 .ensures, c .before .before .before .before .first .ensures, c .before .before .before .before .before .pair .ensures) refl
+returns c = rw (c .first4 .ensures, c .before .plain .ensures, c .before .before .first3 .ensures, c .before .before .before .pair3 .ensures, c .before .before .before .before .first2 .ensures, c .before .before .before .before .before .pair2 .ensures, c .before .before .before .before .before .before .first .ensures, c .before .before .before .before .before .before .before .pair .ensures) refl
 
 pub checks-spec : {M : Type 1} → statement M
 checks-spec =
@@ -36,4 +42,6 @@ checks-spec =
     first-requires-2
     pair-requires-3
     first-requires-3
+    plain-requires
+    first-requires-4
     returns)

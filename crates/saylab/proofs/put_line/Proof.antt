@@ -72,6 +72,12 @@ enum-known-s-6 c = search needs
 look-line-requires : tie.Need-look-line-requires
 look-line-requires c κs = search needs
 
+enum-known-s-7 : tie.Need-enum-known-s-7
+enum-known-s-7 c = search needs
+
+record-line-requires : tie.Need-record-line-requires
+record-line-requires c κs = search needs
+
 returns : tie.Need-returns
 returns c = rw (c .enum-told .given .1) refl
 
@@ -132,6 +138,12 @@ same-length-9 c = search needs
 returns-11 : tie.Need-returns-11
 returns-11 c = rw (c .before .before .before .before .before .s6 .given .1) (c .before .before .look-line .ensures)
 
+same-length-10 : tie.Need-same-length-10
+same-length-10 c = search needs
+
+returns-12 : tie.Need-returns-12
+returns-12 c = rw (c .before .before .before .before .before .s7 .given .1) (c .before .before .record-line .ensures)
+
 pub put-line-spec : {M : Type 1} → statement M
 put-line-spec =
     tie.close
@@ -159,6 +171,8 @@ put-line-spec =
     pool-line-requires
     enum-known-s-6
     look-line-requires
+    enum-known-s-7
+    record-line-requires
     returns
     same-length
     returns-2
@@ -178,4 +192,6 @@ put-line-spec =
     same-length-8
     returns-10
     same-length-9
-    returns-11)
+    returns-11
+    same-length-10
+    returns-12)

@@ -2,8 +2,8 @@ use borrow.Author.Needs.{needs}
 use lib.ListN.{length}
 use Prim.Native.Nat.{_-_}
 use mathlib.Core.Path.{_≡_, refl}
-use Rattle.reading.proofs.scan.Statement.{statement}
-use Rattle.reading.proofs.scan.Tie as tie
+use Rattle.fetching.proofs.scan.Statement.{statement}
+use Rattle.fetching.proofs.scan.Tie as tie
 
 abbrev Inv-loop : tie.InvT-loop
 Inv-loop pos end len buf line₀ i₀ n₀ line i n = length line ≡ length line₀

@@ -1,0 +1,1 @@
+// No code: which logs the auditor accepts, and what it names otherwise.

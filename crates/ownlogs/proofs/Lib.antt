@@ -1,0 +1,5 @@
+pub mod Turns
+pub mod Alike
+pub mod Own
+pub mod Instance
+pub mod Lab

@@ -1,0 +1,1 @@
+// No code: the log that our own client writes is accepted.
