@@ -16,7 +16,7 @@ ROOT = os.path.dirname(os.path.dirname(os.path.abspath(__file__)))
 PAGE = os.path.join(ROOT, "docs", "TRUST.md")
 START, END = "| layer | files | lines, comments and imports with them |\n", "\n## What the definitions were compared with"
 LAYERS = {
-    "ground": "numbers refusals sets chunks maps parts fills emptyrows rows versions",
+    "ground": "numbers refusals sets chunks maps parts fills emptyrows rows summaries mending searching versions",
     "client": "state roster changes run recovery rules exits joins extending enables links writes removal answers breaking checks client",
     "node": "nodestate noderegister nodejoins nodeenables nodewrites nodefills nodeserve nodehand nodemaps nodechecks node",
     "theorems": "order events creation bounds table clientevents mapchecks nodeevents commuting world honest demand3 added",
@@ -26,7 +26,7 @@ LAYERS = {
     "audit": "records replay auditing auditor batches logs ownlogs auditlines auditrun audit auditwrong auditword",
 }
 LAWS = "laws keeps"  # crates of laws: what they say is proved of the others; only the definitions named in the table change what a contract or statement means
-THEOREMS = set((LAYERS["theorems"] + " versions statuslaws dumps differences saydifferences batches logs ownlogs").split())  # crates with statements in specs/
+THEOREMS = set((LAYERS["theorems"] + " versions statuslaws dumps differences saydifferences batches logs ownlogs summaries mending searching").split())  # crates with statements in specs/
 
 HEAD = re.compile(r"^(?:(?:abbrev|unfoldable) )?(?:pub )?(?:(?:record|data) ([^\s(){}:;]+)|([^\s(){}:;]+)(?: \{[^}]*\})? :)")
 USE = re.compile(r"^(?:ghost )?use Rattle·(\w+?)(?:·specs\.specs|\.specs)\.([\w.]+?)(?:\.\{([^}]*)\}| as (\w[\w-]*));?$")

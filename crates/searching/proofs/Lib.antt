@@ -1,0 +1,5 @@
+pub mod Spans
+pub mod Among
+pub mod First
+pub mod Looks
+pub mod Laws

@@ -1,0 +1,21 @@
+use Rattle.summaries.specs.Summary.{base}
+use native.Mathlib.Omega.{arith}
+use mathlib.Core.Path.{_≡_, refl, sym, ap, _∙_}
+use borrow.Author.Needs.{needs}
+use Rattle.summaries.proofs.base.Statement.{statement}
+use Rattle.summaries.proofs.base.Tie as tie
+use Rattle.summaries.proofs.base.Reads as reads
+use Rattle.summaries.proofs.base.Lts as lts
+use Rattle.summaries.proofs.entry.Reads as entry-reads
+
+-- src/lib.rt:98:5
+entry-requires : tie.Need-entry-requires
+entry-requires c κs = search needs
+
+-- src/lib.rt:95:1
+returns : tie.Need-returns
+unfolding base
+returns c = c .entry .ensures
+
+pub base-spec : {M : Type 1} → statement M
+base-spec = tie.close (tie.spec entry-requires returns)

@@ -1,0 +1,21 @@
+use Rattle.summaries.specs.Summary.{isPlace}
+use native.Mathlib.Omega.{arith}
+use mathlib.Core.Path.{_≡_, refl, sym, ap, _∙_}
+use borrow.Author.Needs.{needs}
+use Rattle.summaries.proofs.is_place.Statement.{statement}
+use Rattle.summaries.proofs.is_place.Tie as tie
+use Rattle.summaries.proofs.is_place.Reads as reads
+use Rattle.summaries.proofs.is_place.Lts as lts
+use Rattle.summaries.proofs.size.Reads as size-reads
+
+-- src/lib.rt:112:21
+size-requires : tie.Need-size-requires
+size-requires c κs = search needs
+
+-- src/lib.rt:109:1
+returns : tie.Need-returns
+unfolding isPlace
+returns c = rw (c .size .ensures)
+
+pub is-place-spec : {M : Type 1} → statement M
+is-place-spec = tie.close (tie.spec size-requires returns)

@@ -1,0 +1,21 @@
+use Rattle.summaries.specs.Summary.{size}
+use native.Mathlib.Omega.{arith}
+use mathlib.Core.Path.{_≡_, refl, sym, ap, _∙_}
+use borrow.Author.Needs.{needs}
+use Rattle.summaries.proofs.size.Statement.{statement}
+use Rattle.summaries.proofs.size.Tie as tie
+use Rattle.summaries.proofs.size.Reads as reads
+use Rattle.summaries.proofs.size.Lts as lts
+use Rattle.summaries.proofs.entry.Reads as entry-reads
+
+-- src/lib.rt:105:5
+entry-requires : tie.Need-entry-requires
+entry-requires c κs = search needs
+
+-- src/lib.rt:102:1
+returns : tie.Need-returns
+unfolding size
+returns c = c .entry .ensures
+
+pub size-spec : {M : Type 1} → statement M
+size-spec = tie.close (tie.spec entry-requires returns)
