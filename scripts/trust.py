@@ -19,13 +19,13 @@ LAYERS = {
     "ground": "numbers refusals sets chunks maps parts fills emptyrows rows summaries mending searching versions",
     "client": "state roster changes run recovery rules exits joins extending enables links writes removal answers breaking checks client",
     "node": "nodestate noderegister nodejoins nodeenables nodewrites nodefills nodeserve nodehand nodemaps nodechecks node",
-    "theorems": "order events creation bounds table clientevents mapchecks nodeevents commuting world honest demand3 added",
+    "theorems": "order events creation bounds table clientevents mapchecks nodeevents commuting world honest demand3 added histories forgotten followed",
     "lab": "text names lines forms eventlines commands say sayclient saynode sayrow journal sayrecord saylab post lending anyclient anynode lendclient lendnode lendask bench delivery fetching reading arranging lab",
     "backup": "descriptors statuswriter statusreader statuslaws statustool status statusread statusrefused",
     "compare": "dumps differences saydifferences comparing compare comparesame comparelong",
     "audit": "records replay auditing auditor batches logs ownlogs auditlines auditrun audit auditwrong auditword",
 }
-LAWS = "laws keeps"  # crates of laws: what they say is proved of the others; only the definitions named in the table change what a contract or statement means
+LAWS = "laws keeps missed mirror mirrorlinks mirrorruns mirrorremoval mirrorpool mirrornodes mirrorworld"  # crates of laws: what they say is proved of the others; only the definitions named in the table change what a contract or statement means
 THEOREMS = set((LAYERS["theorems"] + " versions statuslaws dumps differences saydifferences batches logs ownlogs summaries mending searching").split())  # crates with statements in specs/
 
 HEAD = re.compile(r"^(?:(?:abbrev|unfoldable) )?(?:pub )?(?:(?:record|data) ([^\s(){}:;]+)|([^\s(){}:;]+)(?: \{[^}]*\})? :)")

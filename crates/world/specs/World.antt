@@ -14,6 +14,7 @@ use Rattle.state.specs.declared.Answer.{Answer}
 use Rattle.state.specs.declared.Brought.{Brought}
 use Rattle.state.specs.declared.Reply.{Reply}
 use Rattle.state.specs.declared.Turn.{Turn}
+use Rattle.state.specs.Session.{isDelete}
 use Rattle.nodestate.specs.declared.Answer as says
 use Rattle.client.specs.Client.{carried, answerTurn}
 use Rattle.node.specs.Events.{Event}
@@ -58,7 +59,7 @@ send (l ∷ ls) offset from to f =
     (ifGood (replyOf (takesFrom offset l from to f .answer)) (send ls (offset + l) from to (upd f to (takesFrom offset l from to f .station))) (byOne f to (takesFrom offset l from to f)))
     (record { nodes = f; reply = Reply.Failed })
 
--- An awaited message delivered; the lengths are those of the parts in which a MAP_SEND goes. Messages of a removal are no part of a run: they reach no node here.
+-- An awaited message delivered; the lengths are those of the parts in which a MAP_SEND goes.
 abbrev pub deliver : List ℕ → Message → (ℕ → Station) → Delivered
 deliver lengths Message.Nothing f = record { nodes = f; reply = Reply.Failed }
 deliver lengths (Message.GetVersion to) f = byOne f to (does (f to) Event.mapGetVer)
@@ -67,8 +68,8 @@ deliver lengths (Message.Send from to) f = send lengths 0 from to f
 deliver lengths (Message.Done to enable version members) f = byOne f to (does (f to) (Event.mapDone enable version members))
 deliver lengths (Message.LastIo to chosen) f = byOne f to (does (f to) (Event.lastIoToMap chosen))
 deliver lengths (Message.Enable to version members) f = byOne f to (does (f to) (Event.enable1 version members))
-deliver lengths (Message.Leave to mode) f = record { nodes = f; reply = Reply.Failed }
-deliver lengths (Message.Info to op member) f = record { nodes = f; reply = Reply.Failed }
+deliver lengths (Message.Leave to mode) f = byOne f to (does (f to) (Event.leave (isDelete mode)))
+deliver lengths (Message.Info to op member) f = byOne f to (does (f to) (Event.poolInfo op member))
 
 -- The one message of a run that is not awaited, MAP_DISABLE, delivered. The others are sent by other events: they reach no node here.
 abbrev pub tell : Told → (ℕ → Station) → ℕ → Station

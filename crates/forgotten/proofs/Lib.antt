@@ -1,0 +1,12 @@
+pub mod Tells
+pub mod Ground
+pub mod Own
+pub mod Arrives
+pub mod Client
+pub mod Refused
+pub mod Joins
+pub mod Hand
+pub mod Removes
+pub mod Writes
+pub mod Extends
+pub mod Theorem

@@ -1,0 +1,5 @@
+pub mod Sessions
+pub mod Shifts
+pub mod Tries
+pub mod Turns
+pub mod Removals

@@ -1,0 +1,1 @@
+// No code: the client's pool seen as the simplified one.

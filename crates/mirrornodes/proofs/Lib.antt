@@ -1,0 +1,5 @@
+pub mod Bits
+pub mod Did
+pub mod Sane
+pub mod Events
+pub mod Parts

@@ -1,0 +1,1 @@
+// No code: nodes seen as those of the simplified pool.

@@ -1,0 +1,3 @@
+pub mod Joins
+pub mod Writes
+pub mod Extends

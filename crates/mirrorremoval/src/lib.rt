@@ -1,0 +1,1 @@
+// No code: removals as courses of the simplified pool.

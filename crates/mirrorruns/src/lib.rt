@@ -1,0 +1,1 @@
+// No code: answers in a run as courses of the simplified pool.

@@ -1,0 +1,5 @@
+pub mod Nodes
+pub mod Every
+pub mod Arrives
+pub mod Told
+pub mod Acts

@@ -1,0 +1,12 @@
+pub mod Ground
+pub mod Sessions
+pub mod Nodes
+pub mod Writes
+pub mod Own
+pub mod Client
+pub mod Runs
+pub mod Messages
+pub mod Removal
+pub mod Joins
+pub mod Extends
+pub mod Kept
