@@ -184,6 +184,11 @@ NODE_EVENTS = [
     ("fill of no member", "fill 3 5"),
     ("map check", "map_check"),
     ("map check, its own row empty", "map_check", emptied(1)),
+    ("next dirty chunk", "next 2 19"),
+    ("next dirty chunk, none", "next 2 23"),
+    ("next dirty chunk, a start past the last", "next 2 4096"),
+    ("next dirty chunk, the root's bit clear", "next 2 19", "summary 1 17 0"),
+    ("write, the root's bit clear", "write 9 5 6", "summary 1 17 0"),
 ]
 
 
@@ -242,7 +247,7 @@ def cell(line, further=""):
     fields = dict(w.split("=", 1) for w in head.split() if "=" in w)
     if "node" in fields:
         words = [fields["state"]]
-        words += ["%s=%s" % (k, fields[k]) for k in ("store", "create", "members", "version", "kept", "transfer", "empty") if k in fields]
+        words += ["%s=%s" % (k, fields[k]) for k in ("store", "create", "members", "version", "kept", "transfer", "empty", "next") if k in fields]
     else:
         words = [fields["sessions"].rstrip(".") or "-", "v%s" % fields["version"], "n%s" % fields["count"]]
         for k in ("members", "maint", "marked", "delete", "owed"):

@@ -18,9 +18,9 @@ START, END = "| layer | files | lines, comments and imports with them |\n", "\n#
 LAYERS = {
     "ground": "numbers refusals sets chunks maps parts fills emptyrows rows summaries mending searching versions",
     "client": "state roster changes run recovery rules exits joins extending enables links writes removal answers breaking checks client",
-    "node": "nodestate noderegister nodejoins nodeenables nodewrites nodefills nodeserve nodehand nodemaps nodechecks node",
+    "node": "nodestate noderegister nodejoins nodeenables nodewrites nodefills nodeserve nodehand nodemaps nodesummaries nodenext nodechecks node",
     "theorems": "order events creation bounds table clientevents mapchecks nodeevents commuting world honest demand3 added histories forgotten followed",
-    "lab": "text names lines forms eventlines commands say sayclient saynode sayrow journal sayrecord saylab post lending anyclient anynode lendclient lendnode lendask bench delivery fetching reading arranging lab",
+    "lab": "text names lines forms eventlines commands say sayclient saynode sayrow journal sayrecord saylab post lending anyclient anynode lendclient lendnode lendask bench truing delivery fetching reading arranging lab",
     "backup": "descriptors statuswriter statusreader statuslaws statustool status statusread statusrefused",
     "compare": "dumps differences saydifferences comparing compare comparesame comparelong",
     "audit": "records replay auditing auditor batches logs ownlogs auditlines auditrun audit auditwrong auditword",

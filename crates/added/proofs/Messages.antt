@@ -11,6 +11,7 @@ use Rattle.refusals.specs.Limits.{versionTop}
 use Rattle.sets.specs.Sets.{has}
 use Rattle.sets.proofs.Laws.{has-with-same}
 use Rattle.chunks.specs.Chunk.{dirty}
+use Rattle.summaries.proofs.Laws.{one-summary}
 use Rattle.maps.specs.Map.{sound, zeroRow}
 use Rattle.maps.proofs.Sound.{Sound, sound-fact, sound-test, sound-zeroRow}
 use Rattle.fills.specs.Fill.{rowFilled}
@@ -26,7 +27,7 @@ use Rattle.nodefills.specs.Fill.{fillRefusal, filled, fill}
 use Rattle.nodefills.proofs.Keeps.{fill-keeps}
 use Rattle.node.specs.Events.{Event}
 use Rattle.node.specs.Face.{lentTo, mapBy, stagingBy}
-use Rattle.world.specs.Station.{Station, does}
+use Rattle.world.specs.Station.{Station, face, does}
 use Rattle.honest.specs.Demand.{Able}
 use Rattle.added.specs.Added.{Full}
 
@@ -47,10 +48,10 @@ staging-sound c j s a = and-right (sound (s .node .chunks) (s .map)) (sound (s .
 abbrev informedTo : ℕ → Station → Station
 informedTo member s = record { node = memberEntered (s .node) member; map = zeroRow member (s .map); staging = s .staging }
 
-can-inform : (c j member : ℕ) (s : Station) → Able c j s → j < 16 → member < 16 → member ≢ j → poolInfoRefusal (s .node) (lentTo (s .node) (s .map) (s .staging)) Op.AddCreate member ≡ 0
+can-inform : (c j member : ℕ) (s : Station) → Able c j s → j < 16 → member < 16 → member ≢ j → poolInfoRefusal (s .node) (lentTo (face s) (s .map) (s .staging)) Op.AddCreate member ≡ 0
 unfolding poolInfoRefusal
 can-inform c j member s a h m d =
-    rw (a .rules, a .sound, own-id c j s a h, le-ltb 15 member (omega (arith, m)), joined c j s a, (let e : eqb member (s .node .id) ≡ false = rw (a .itself) (ne-eqb member j d) in e))
+    rw (a .rules, a .sound, one-summary .agrees (s .map), own-id c j s a h, le-ltb 15 member (omega (arith, m)), joined c j s a, (let e : eqb member (s .node .id) ≡ false = rw (a .itself) (ne-eqb member j d) in e))
 
 informs : (c j member : ℕ) (s : Station) → Able c j s → j < 16 → member < 16 → member ≢ j → does s (Event.poolInfo Op.AddCreate member) .station ≡ informedTo member s
 unfolding does mapBy stagingBy poolInfo settled mapAfter stagingAfter informed
@@ -79,10 +80,10 @@ knows c j member s a h m d = rw (informs c j member s a h m d) (has-with-same (s
 abbrev filledTo : ℕ → ℕ → Station → Station
 filledTo member version s = record { node = filled (s .node) version; map = rowFilled member (s .node .chunks) (s .map); staging = s .staging }
 
-can-fill : (c j member version : ℕ) (s : Station) → Able c j s → j < 16 → member < 16 → has (s .node .members) member ≡ true → version ≤ versionTop → fillRefusal (s .node) (lentTo (s .node) (s .map) (s .staging)) member version ≡ 0
+can-fill : (c j member version : ℕ) (s : Station) → Able c j s → j < 16 → member < 16 → has (s .node .members) member ≡ true → version ≤ versionTop → fillRefusal (s .node) (lentTo (face s) (s .map) (s .staging)) member version ≡ 0
 unfolding fillRefusal
 can-fill c j member version s a h m k v =
-    rw (a .rules, a .sound, own-id c j s a h, le-ltb 15 member (omega (arith, m)), joined c j s a, k, le-ltb versionTop version v)
+    rw (a .rules, a .sound, one-summary .agrees (s .map), own-id c j s a h, le-ltb 15 member (omega (arith, m)), joined c j s a, k, le-ltb versionTop version v)
 
 fills : (c j member version : ℕ) (s : Station) → Able c j s → j < 16 → member < 16 → has (s .node .members) member ≡ true → version ≤ versionTop → does s (Event.fill member version) .station ≡ filledTo member version s
 unfolding does mapBy stagingBy fill filled storedVersion settled mapAfter stagingAfter

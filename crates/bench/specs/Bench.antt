@@ -74,6 +74,7 @@ noNode =
         held = 0;
         transfer = Transfer.Nothing;
       };
+      summaries = [];
     }
 
 abbrev pub nodeAt : Lab → ℕ → StorageNode
@@ -212,7 +213,7 @@ poked n state store create members version transfer =
 
 unfoldable pub pokeNode : Lab → ℕ → ℕ → Bool → Bool → ℕ → ℕ → ℕ → Lab
 pokeNode l n state store create members version transfer =
-    withNode l n (record { node = poked (nodeAt l n .node) state store create members version transfer })
+    withNode l n (record { node = poked (nodeAt l n .node) state store create members version transfer; summaries = nodeAt l n .summaries })
 
 -- of a transfer in hand so many bytes are taken
 abbrev pub gotTo : Transfer → ℕ → Transfer
@@ -235,7 +236,11 @@ pokedGot n got =
     }
 
 unfoldable pub pokeGot : Lab → ℕ → ℕ → Lab
-pokeGot l n got = withNode l n (record { node = pokedGot (nodeAt l n .node) got })
+pokeGot l n got = withNode l n (record { node = pokedGot (nodeAt l n .node) got; summaries = nodeAt l n .summaries })
+
+-- a word of a node's summaries
+unfoldable pub pokeSummary : Lab → ℕ → ℕ → ℕ → Lab
+pokeSummary l n i v = withNode l n (record { node = nodeAt l n .node; summaries = set (nodeAt l n .summaries) i v })
 
 -- ---- a line that sets the lab up; the others leave it
 
@@ -251,6 +256,7 @@ arranged l (Command.PokeMembers v) = pokeMembers l v
 arranged l (Command.PokeSession id s) = pokeSession l id s
 arranged l (Command.PokeNode n state store create members version transfer) = pokeNode l n state store create members version transfer
 arranged l (Command.PokeGot n got) = pokeGot l n got
+arranged l (Command.Summary n i v) = pokeSummary l n i v
 arranged l (Command.PokeWritten v) = pokeWritten l v
 arranged l (Command.PokeAssembled v) = pokeAssembled l v
 arranged l (Command.PokeTick v) = pokeTick l v

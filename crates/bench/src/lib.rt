@@ -2,7 +2,7 @@
 // program: the client's 8,192 bytes, and 16 times 8,192 for the nodes' maps and for their staging maps.
 ghost use mathlib.Core.Path.{_≡_};
 ghost use lib.ListN.{set};
-ghost use Rattle.bench.specs.Bench.{freshBelow, freshLab, withAuto, withCut, withLent, awaiting, stillAwaiting, afterEvent, arranged, lentBy, withRoster, rosterOf, withCheck, checkOf, pokeVersion, pokeCount, pokeMembers, pokeChunks, pokeWritten, pokeAssembled, pokeTick, pokeDue, pokeOnce, pokeSession, nodeStateOf, transferOf, pokeNode, gotTo, pokedGot, pokeGot};
+ghost use Rattle.bench.specs.Bench.{freshBelow, freshLab, withAuto, withCut, withLent, awaiting, stillAwaiting, afterEvent, arranged, lentBy, withRoster, rosterOf, withCheck, checkOf, pokeVersion, pokeCount, pokeMembers, pokeChunks, pokeWritten, pokeAssembled, pokeTick, pokeDue, pokeOnce, pokeSession, nodeStateOf, transferOf, pokeNode, gotTo, pokedGot, pokeGot, pokeSummary};
 use checks::Check;
 use client::Client;
 use forms::Command;
@@ -17,6 +17,7 @@ use state::Past;
 use state::Pool;
 use state::Roster;
 use state::Session;
+use summaries::Summaries;
 
 // lent: how many bytes of each map are lent. cut: how long the parts are of a map that is taken or sent. awaited, number: the awaited message as it was sent.
 pub struct Lab {
@@ -122,6 +123,7 @@ pub fn arrange(l: Lab, c: Command) -> Lab
         Command::PokeSession(id, s) => poke_session(l, id, s),
         Command::PokeNode(n, s, st, cr, m, v, t) => poke_node(l, n, s, st, cr, m, v, t),
         Command::PokeGot(n, got) => poke_got(l, n, got),
+        Command::Summary(n, i, v) => poke_summary(l, n, i, v),
         Command::PokeWritten(v) => poke_written(l, v),
         Command::PokeAssembled(v) => poke_assembled(l, v),
         Command::PokeTick(v) => poke_tick(l, v),
@@ -358,6 +360,7 @@ fn poke_node(
     let i = n as usize;
     let was = l.nodes[i];
     let v = was.node;
+    let words = was.summaries;
     let kept = v.kept;
     let changed = Node {
         id: v.id,
@@ -371,7 +374,10 @@ fn poke_node(
         held: v.held,
         transfer: transfer_of(transfer),
     };
-    l.nodes[i] = StorageNode { node: changed };
+    l.nodes[i] = StorageNode {
+        node: changed,
+        summaries: words,
+    };
     l
 }
 
@@ -415,9 +421,42 @@ fn poke_got(mut l: Lab, n: u64, got: u64) -> Lab
     let i = n as usize;
     let was = l.nodes[i];
     let v = was.node;
+    let words = was.summaries;
     let changed = with_got(v, got);
-    l.nodes[i] = StorageNode { node: changed };
+    l.nodes[i] = StorageNode {
+        node: changed,
+        summaries: words,
+    };
     l
+}
+
+// A word of a node's summaries put in, unchecked; there are 96.
+fn poke_summary(mut l: Lab, n: u64, i: u64, v: u64) -> Lab
+    ensures { λ r. ⌜ r ≡ pokeSummary l n i v ⌝ }
+{
+    if 15 < n {
+        return l;
+    }
+    let at = n as usize;
+    let was = l.nodes[at];
+    let node = was.node;
+    let words = was.summaries;
+    l.nodes[at] = StorageNode {
+        node: node,
+        summaries: with_word(words, i, v),
+    };
+    l
+}
+
+fn with_word(mut words: Summaries, i: u64, v: u64) -> Summaries
+    ensures { λ r. ⌜ r ≡ set words i v ⌝ }
+{
+    if 95 < i {
+        return words;
+    }
+    let at = i as usize;
+    words[at] = v;
+    words
 }
 
 fn with_got(v: Node, got: u64) -> Node

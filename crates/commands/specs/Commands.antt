@@ -7,13 +7,13 @@ use lib.Dec.{ltb, eqb}
 use Rattle.laws.specs.Words.{pick}
 use Rattle.lines.specs.Lines.{lineOf}
 use Rattle.lines.specs.declared.Line.{Line}
-use Rattle.names.specs.Names.{POKE, CLIENT, ROW, STAGING, BYTE, STAGING-BYTE, LEND, LEND-STAGING, POKE-NODE, SESSION, VERSION, COUNT, CHUNKS, MEMBERS, CUT, POKE-GOT, LOOK, WRITTEN, ASSEMBLED, TICK, DUE, ONCE, RECORD}
+use Rattle.names.specs.Names.{POKE, CLIENT, ROW, STAGING, BYTE, STAGING-BYTE, LEND, LEND-STAGING, POKE-NODE, SESSION, VERSION, COUNT, CHUNKS, MEMBERS, CUT, POKE-GOT, LOOK, WRITTEN, ASSEMBLED, TICK, DUE, ONCE, RECORD, SUMMARY}
 use Rattle.forms.specs.declared.Form.{Form}
 use Rattle.forms.specs.declared.Which.{Which}
 use Rattle.forms.specs.declared.Command.{Command}
 use Rattle.forms.specs.Forms.{formOf, plain, pair}
 use Rattle.forms.specs.Values.{sessionOf, maybeSession}
-use Rattle.eventlines.specs.Events.{clientEvents, checkEvents, wholeEvents, storeEvents, serviceEvents, transferEvents}
+use Rattle.eventlines.specs.Events.{clientEvents, checkEvents, searchEvents, wholeEvents, storeEvents, serviceEvents, transferEvents}
 
 -- The dirty chunks of a member, and how much of a map is lent.
 unfoldable pub looks : Form → Command → Command
@@ -65,10 +65,14 @@ checks f rest =
     (pick (pair f POKE ONCE 3 && ltb (f .x2) 65536) (Command.PokeOnce (f .x2))
     rest)))
 
+-- A word put into a node's summaries.
+unfoldable pub words : Form → Command → Command
+words f rest = pick (plain f SUMMARY 4 && (ltb (f .x1) 16 && ltb (f .x2) 96)) (Command.Summary (f .x1) (f .x2) (f .x3)) rest
+
 -- What a line of words says. Each form stands once, and no two have the same words, so the order is free.
 unfoldable pub meaning : Line → Command
 meaning l =
-    clientEvents (formOf l) (checkEvents (formOf l) (wholeEvents (formOf l) (transferEvents (formOf l) (serviceEvents (formOf l) (storeEvents (formOf l) (stores (formOf l) (looks (formOf l) (pokes (formOf l) (fields (formOf l) (checks (formOf l) Command.Unreadable))))))))))
+    clientEvents (formOf l) (checkEvents (formOf l) (searchEvents (formOf l) (wholeEvents (formOf l) (transferEvents (formOf l) (serviceEvents (formOf l) (storeEvents (formOf l) (stores (formOf l) (looks (formOf l) (pokes (formOf l) (fields (formOf l) (checks (formOf l) (words (formOf l) Command.Unreadable))))))))))))
 
 -- An empty line, and one that begins with # (35), is passed over.
 abbrev pub passedOver : List ℕ → Bool

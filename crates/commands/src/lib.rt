@@ -1,6 +1,6 @@
 // A line of a history to the command that it is.
 ghost use mathlib.Core.Path.{_≡_};
-ghost use Rattle.commands.specs.Commands.{looks as Commands·looks, stores as Commands·stores, pokes as Commands·pokes, fields as Commands·fields, checks as Commands·checks, meaning, commandOf};
+ghost use Rattle.commands.specs.Commands.{looks as Commands·looks, stores as Commands·stores, pokes as Commands·pokes, fields as Commands·fields, checks as Commands·checks, words as Commands·words, meaning, commandOf};
 use forms::Command;
 use forms::Form;
 use forms::Which;
@@ -111,20 +111,29 @@ fn checks(f: Form, rest: Command) -> Command
     first(is, Command::Record, r)
 }
 
+// A word put into a node's summaries.
+fn words(f: Form, rest: Command) -> Command
+    ensures { λ r. ⌜ r ≡ Commands·words f rest ⌝ }
+{
+    let x1 = f.x1;
+    let x2 = f.x2;
+    let x3 = f.x3;
+    let is = plain(f, names::SUMMARY, 4) & ((x1 < 16) & (x2 < 96));
+    first(is, Command::Summary(x1, x2, x3), rest)
+}
+
 fn parse(l: Line) -> Command
     ensures { λ r. ⌜ r ≡ meaning l ⌝ }
 {
     let f = forms::form_of(l);
-    let u = pokes(f, fields(f, checks(f, Command::Unreadable)));
+    let u = pokes(f, fields(f, checks(f, words(f, Command::Unreadable))));
     let v = stores(f, looks(f, u));
     let w = eventlines::transfer_events(
         f,
         eventlines::service_events(f, eventlines::store_events(f, v)),
     );
-    eventlines::client_events(
-        f,
-        eventlines::check_events(f, eventlines::whole_events(f, w)),
-    )
+    let e = eventlines::search_events(f, eventlines::whole_events(f, w));
+    eventlines::client_events(f, eventlines::check_events(f, e))
 }
 
 // A line, its newline cut off, to its command. A line longer than 255 bytes is none.

@@ -7,12 +7,14 @@ use native.Mathlib.Decide.{ℕ-discrete}
 use native.Mathlib.Omega.{arith}
 use lib.Dec.{eqb}
 use Rattle.laws.specs.Words.{pick}
-use Rattle.laws.specs.Tests.{by-cases, clash, and-left, and-right}
+use Rattle.laws.specs.Tests.{by-cases, clash, and-left, and-right, and-both}
 use Rattle.refusals.specs.Refusals.{refusal}
 use Rattle.sets.specs.Sets.{has}
 use Rattle.chunks.specs.Chunk.{dirty}
 use Rattle.maps.specs.Map.{sound}
 use Rattle.maps.proofs.Sound.{sound-fact, same-chunks}
+use Rattle.summaries.specs.Summary.{summariesOf}
+use Rattle.summaries.proofs.Laws.{one-summary}
 use Rattle.nodestate.specs.declared.Answer.{Answer}
 use Rattle.nodestate.specs.declared.Node.{Node}
 use Rattle.nodestate.specs.declared.Turn.{Turn}
@@ -26,7 +28,7 @@ use Rattle.node.specs.declared.StorageNode.{StorageNode}
 use Rattle.node.specs.Events.{Event, testsAt}
 use Rattle.node.specs.Face.{lentTo, answers}
 use Rattle.node.specs.Held.{Held, next}
-use Rattle.node.proofs.Theorems.{law, Good, stays-good}
+use Rattle.node.proofs.Theorems.{law, lent-zero, Good, stays-good}
 use Rattle.nodeevents.specs.Demand1.{isAccepted, Verdict}
 use Rattle.nodeevents.specs.Said.{Accepts, Marked, Cleared, In}
 use Rattle.nodeevents.proofs.Demand1.{demand-1}
@@ -54,7 +56,7 @@ pub good : (e : Event) (w : Held) → Sized w → Accepts e w → GoodAt w
 good e w h a =
     let d = known e w a in
     let n = w .at .node .chunks in
-    record { rules = valid-of (w .at .node) (d .rules); size = h; map = and-left (sound n (w .map)) (sound n (w .staging)) (d .sure); staging = and-right (sound n (w .map)) (sound n (w .staging)) (d .sure) }
+    record { rules = valid-of (w .at .node) (d .rules); size = h; map = and-left (sound n (w .map)) (sound n (w .staging)) (d .sure); staging = and-right (sound n (w .map)) (sound n (w .staging)) (d .sure); agrees = d .agrees }
 
 pub good-next : (e : Event) (w : Held) → GoodAt w → GoodAt (next e w)
 good-next e w g = stays-good e (w .at) (w .map) (w .staging) g
@@ -62,7 +64,7 @@ good-next e w g = stays-good e (w .at) (w .map) (w .staging) g
 -- ---- what the tests of a mark or a clear see of a node
 
 abbrev lentAt : Held → ℕ
-lentAt w = lentTo (w .at .node) (w .map) (w .staging)
+lentAt w = lentTo (w .at) (w .map) (w .staging)
 
 pub record Alike (w v : Held) : Type 0 where
   id : v .at .node .id ≡ w .at .node .id
@@ -72,9 +74,9 @@ pub record Alike (w v : Held) : Type 0 where
   rules : valid (v .at .node) ≡ valid (w .at .node)
   lent : lentAt v ≡ lentAt w
 
--- sound maps do not refuse
+-- sound maps and true summaries do not refuse
 not-lent : (w : Held) → GoodAt w → lentAt w ≡ 0
-not-lent w g = rw (g .map, g .staging) refl
+not-lent w g = lent-zero (w .at) (w .map) (w .staging) (and-both (g .map) (g .staging)) (g .agrees)
 
 pub alike-good : (w v : Held) → GoodAt w → GoodAt v → v .at .node .id ≡ w .at .node .id → v .at .node .chunks ≡ w .at .node .chunks → v .at .node .state ≡ w .at .node .state → v .at .node .members ≡ w .at .node .members → Alike w v
 alike-good w v g k i c s m = record { id = i; count = c; state = s; members = m; rules = k .rules ∙ sym (g .rules); lent = not-lent v k ∙ sym (not-lent w g) }
@@ -148,6 +150,16 @@ order-free e f w m k h = same-answer f w (next e w) k (alike-next e w m h)
 pub still : (e f : Event) (w : Held) → Marking e → Marking f → Sized w → Accepts f w → Accepts f (next e w)
 still e f w m k h a = ap isAccepted (order-free e f w m k h) ∙ a
 
+-- ---- two good nodes with the same map have the same summaries; with the same state too they are the same
+pub same-words : (w v : Held) → GoodAt w → GoodAt v → w .map ≡ v .map → w .at .summaries ≡ v .at .summaries
+same-words w v g k q = one-summary .own (w .at .summaries) (w .map) (g .agrees) ∙ (ap summariesOf q ∙ sym (one-summary .own (v .at .summaries) (v .map) (k .agrees)))
+
+pub same-node : (w v : Held) → GoodAt w → GoodAt v → w .at .node ≡ v .at .node → w .map ≡ v .map → w .at ≡ v .at
+same-node w v g k p q = λ i. record { node = p i; summaries = same-words w v g k q i }
+
+pub good-both : (e f : Event) (w : Held) → Sized w → Accepts e w → GoodAt (both e f w)
+good-both e f w h a = good-next f (next e w) (good-next e w (good e w h a))
+
 -- ---- maps after two of them
 
 -- sound maps with the same bits are the same
@@ -216,8 +228,10 @@ writes-commute chunk set version chunk′ set′ version′ w h a b =
     let t = second chunk set version chunk′ set′ version′ w h a b in
     let t′ = second chunk′ set′ version′ chunk set version w h b a in
     let top : max (max (w .at .node .version) version) version′ ≡ max (max (w .at .node .version) version′) version = omega arith in
+    let q = same-map (w .at .node .chunks) _ _ (sound-two one two w m₁ m₂ h a b) (sound-two two one w m₂ m₁ h b a) bits in
     record {
-      map = same-map (w .at .node .chunks) _ _ (sound-two one two w m₁ m₂ h a b) (sound-two two one w m₂ m₁ h b a) bits;
+      map = q;
+      summaries = same-words (both one two w) (both two one w) (good-both one two w h a) (good-both two one w h b) q;
       staging = (staging-as-said two (next one w) t ∙ staging-as-said one w a) ∙ sym (staging-as-said one (next two w) t′ ∙ staging-as-said two w b);
       node = ap forgotten (node-both chunk set version chunk′ set′ version′ w h a b) ∙ (rw top refl ∙ sym (ap forgotten (node-both chunk′ set′ version′ chunk set version w h b a)));
     }
@@ -243,8 +257,10 @@ write-twice chunk set version w h a =
     let t = second chunk set version chunk set version w h a a in
     let top : max (max (w .at .node .version) version) version ≡ max (w .at .node .version) version = omega arith in
     let g = good-next e w (good e w h a) in
+    let q = same-map (w .at .node .chunks) _ _ (sound-two e e w m m h a a) (subst (λ (n : ℕ). sound n (next e w .map) ≡ true) (alike-next e w m h .count) (g .map)) bits in
     record {
-      map = same-map (w .at .node .chunks) _ _ (sound-two e e w m m h a a) (subst (λ (n : ℕ). sound n (next e w .map) ≡ true) (alike-next e w m h .count) (g .map)) bits;
+      map = q;
+      summaries = same-words (both e e w) (next e w) (good-both e e w h a) g q;
       staging = staging-as-said e (next e w) t;
       node = ap forgotten (node-both chunk set version chunk set version w h a a) ∙ (rw top refl ∙ sym (ap forgotten (node-wrote chunk set version w a)));
     }
@@ -302,12 +318,10 @@ mark-and-clear chunk set version member cleared w h a b d =
     let q : both mark clear w .at .node ≡ both clear mark w .at .node =
     (node-synced member cleared (next mark w) t ∙ node-wrote chunk set version w a)
     ∙ sym (node-wrote chunk set version (next clear w) t′ ∙ ap (λ (n : Node). written n chunk version) (node-synced member cleared w b)) in
-    same-held (ap (λ (n : Node). storage n) q)
-    (same-map (w .at .node .chunks) _ _ (sound-two mark clear w m₁ m₂ h a b) (sound-two clear mark w m₂ m₁ h b a) (bits-apart chunk set version member cleared w h a b d))
+    let r : both mark clear w .map ≡ both clear mark w .map =
+    same-map (w .at .node .chunks) _ _ (sound-two mark clear w m₁ m₂ h a b) (sound-two clear mark w m₂ m₁ h b a) (bits-apart chunk set version member cleared w h a b d) in
+    same-held (same-node (both mark clear w) (both clear mark w) (good-both mark clear w h a) (good-both clear mark w h b) q r) r
     ((staging-as-said clear (next mark w) t ∙ staging-as-said mark w a) ∙ sym (staging-as-said mark (next clear w) t′ ∙ staging-as-said clear w b))
-  where
-    storage : Node → StorageNode
-    storage n = record { node = n }
 
 pub last-one-wins : LastOneWins
 last-one-wins chunk set version member w h a b i =

@@ -9,13 +9,12 @@ use Rattle.nodestate.specs.declared.Node.{Node}
 use Rattle.nodestate.specs.Change.{storedVersion, keptChunk}
 use Rattle.nodewrites.specs.Write.{written}
 use Rattle.nodefills.specs.Fill.{filled}
-use Rattle.node.specs.declared.StorageNode.{StorageNode}
 use Rattle.node.specs.Events.{Event}
 use Rattle.node.specs.Held.{Held, next}
 use Rattle.nodeevents.specs.Said.{Accepts, Marked, Filled, In}
 use Rattle.nodeevents.proofs.Said.{staging-as-said, map-as-said}
 use Rattle.commuting.specs.Commuting.{both, Sized, Marking, FillStoresTheLarger, FillAndMark, FillsCommute, FillAndClear, FillOrClear}
-use Rattle.commuting.proofs.Either.{Alike, alike-next, still, same-map, sound-two, same-held, marked-or, cleared-or, bit-marked, bit-cleared, node-wrote, node-synced, node-filled}
+use Rattle.commuting.proofs.Either.{Alike, alike-next, still, same-node, good-both, same-map, sound-two, same-held, marked-or, cleared-or, bit-marked, bit-cleared, node-wrote, node-synced, node-filled}
 
 -- all three leave staging as it was
 staging-stays : (e : Event) (w : Held) → Marking e → Accepts e w → next e w .staging ≡ w .staging
@@ -26,12 +25,9 @@ staging-stays _ w (Marking.fill member version) a = staging-as-said (Event.fill 
 -- two that leave the same node and the same bits leave the same
 both-same : (e f : Event) (w : Held) → Marking e → Marking f → Sized w → Accepts e w → Accepts f w → both e f w .at .node ≡ both f e w .at .node → ((m c : ℕ) → dirty (both e f w .map) m c ≡ dirty (both f e w .map) m c) → both e f w ≡ both f e w
 both-same e f w m k h a b q bits =
-    same-held (ap (λ (n : Node). storage n) q)
-    (same-map (w .at .node .chunks) _ _ (sound-two e f w m k h a b) (sound-two f e w k m h b a) bits)
+    let r = same-map (w .at .node .chunks) _ _ (sound-two e f w m k h a b) (sound-two f e w k m h b a) bits in
+    same-held (same-node (both e f w) (both f e w) (good-both e f w h a) (good-both f e w h b) q r) r
     ((staging-stays f (next e w) k (still e f w m k h b) ∙ staging-stays e w m a) ∙ sym (staging-stays e (next f w) m (still f e w k m h a) ∙ staging-stays f w k b))
-  where
-    storage : Node → StorageNode
-    storage n = record { node = n }
 
 -- a chunk that is filled, or not
 filled-or : (member count m c : ℕ) → Dec ((m ≡ member) × (c < count))

@@ -1,15 +1,19 @@
 -- The theorems' premises can be met.
 use mathlib.Core.Path.{_≡_, refl, ap, _∙_}
+use mathlib.Core.Bool.{true}
 use mathlib.Core.List.{[], _∷_}
 use Prim.Native.Nat.{ℕ, max}
 use lib.Dec.{lit<}
+use Rattle.laws.specs.Tests.{and-both}
 use Rattle.refusals.specs.Refusals.{refusal}
 use Rattle.sets.specs.Sets.{has}
 use Rattle.laws.specs.Words.{bit}
+use Rattle.summaries.specs.Summary.{agree}
+use Rattle.summaries.proofs.Laws.{zeros-agree}
 use Rattle.nodestate.specs.StateRules.{keptOk, valid}
 use Rattle.node.specs.Events.{Event, testsAt}
 use Rattle.node.specs.Face.{answers, lentTo}
-use Rattle.node.proofs.Theorems.{accepted-by}
+use Rattle.node.proofs.Theorems.{accepted-by, lent-zero}
 use Rattle.nodeevents.specs.Said.{Accepts}
 use Rattle.nodeevents.proofs.Demand1.{not-refused}
 use Rattle.nodeevents.proofs.Said.{map-as-said}
@@ -20,8 +24,11 @@ use Rattle.commuting.proofs.Arrival.{kept-follow-arrival}
 use Rattle.commuting.proofs.Maps.{zeros-sound}
 
 -- zero maps do not refuse
-not-lent : lentTo node1 zeros zeros ≡ 0
-not-lent = rw (zeros-sound 4096) refl
+agrees : agree (here .at .summaries) zeros ≡ true
+agrees = zeros-agree 8192
+
+not-lent : lentTo (here .at) zeros zeros ≡ 0
+not-lent = lent-zero (here .at) zeros zeros (and-both (zeros-sound 4096) (zeros-sound 4096)) agrees
 
 taken : (e : Event) → refusal (testsAt e node1 0) ≡ 0 → Accepts e here
 taken e z = not-refused (answers e (here .at) zeros zeros .answer) (accepted-by e (here .at) zeros zeros (ap (λ (lent : ℕ). refusal (testsAt e node1 lent)) not-lent ∙ z))
@@ -47,7 +54,7 @@ unfolding valid keptOk has bit
 instance =
     record {
       sized = refl;
-      able = record { size = refl; rules = refl; map = zeros-sound 4096; staging = zeros-sound 4096; serves = refl };
+      able = record { size = refl; rules = refl; map = zeros-sound 4096; staging = zeros-sound 4096; agrees = agrees; serves = refl };
       marks = marks;
       marks-too = marks-too;
       clears = clears;

@@ -111,7 +111,7 @@ serves-after : (enabling : Bool) (version set : ℕ) (w : Held) → Accepts (Eve
 unfolding law mapDoneRefusal committed instructed endedTransfer transferred takenOver storedVersion wentTo
 serves-after enabling version set w a =
     let d = known (Event.mapDone enabling version set) w a in
-    let t = whole-in-hand (w .at .node .transfer) (mapDone-passed (w .at .node) (lentTo (w .at .node) (w .map) (w .staging)) version set (d .none) .0 .from) in
+    let t = whole-in-hand (w .at .node .transfer) (mapDone-passed (w .at .node) (lentTo (w .at) (w .map) (w .staging)) version set (d .none) .0 .from) in
     let s : isServing (w .at .node) ≡ true = given _ _ (at-node (λ s store create hand own. gives (standing s store create hand own && hand) (isJoined s && store)) refl (w .at .node)) (and-both (d .rules .stand) t) in
     ap (λ (t : Turn). isServing (t .node)) (d .turn) ∙ at enabling (w .at .node .state) (w .at .node .store) s
   where
@@ -125,7 +125,7 @@ module _ (keep : Bool) (zs lengths : List ℕ) (enabling : Bool) (version set : 
 
   stays : Stays w (receive keep zs lengths enabling version set w)
   stays =
-      let a = stays-after (Event.mapReady keep ∷ takes zs 0 lengths) w (record { rules = b .rules; size = b .size; map = b .map; staging = b .staging }) in
+      let a = stays-after (Event.mapReady keep ∷ takes zs 0 lengths) w (record { rules = b .rules; size = b .size; map = b .map; staging = b .staging; agrees = b .agrees }) in
       let d = stays-next (Event.mapDone enabling version set) (took keep zs lengths w) (a .good) in
       record { id = d .id ∙ a .id; count = d .count ∙ a .count; good = d .good }
 
@@ -136,6 +136,7 @@ module _ (keep : Bool) (zs lengths : List ℕ) (enabling : Bool) (version set : 
         rules = stays .good .rules;
         map = stays .good .map;
         staging = stays .good .staging;
+        agrees = stays .good .agrees;
         serves = serves-after enabling version set (took keep zs lengths w) accepts;
       }
 

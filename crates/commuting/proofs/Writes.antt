@@ -21,7 +21,7 @@ use Rattle.nodeevents.proofs.Demand1.{demand-1}
 use Rattle.nodeevents.proofs.Demand2.{reached-good}
 use Rattle.nodeevents.proofs.Said.{known, staging-as-said}
 use Rattle.commuting.specs.Commuting.{SameButKept, Marking, Write, arrive, Rearranged, AnyArrival}
-use Rattle.commuting.proofs.Either.{GoodAt, good-next, alike-good, same-answer, same-held, node-wrote, order-free, writes-commute, write-twice}
+use Rattle.commuting.proofs.Either.{GoodAt, good-next, alike-good, same-answer, same-words, same-held, node-wrote, order-free, writes-commute, write-twice}
 
 abbrev eventOf : Write → Event
 eventOf x = Event.write (x .chunk) (x .set) (x .version)
@@ -35,13 +35,13 @@ answerOf x w = answers (eventOf x) (w .at) (w .map) (w .staging) .answer
 -- ---- the same but the kept chunks
 
 same-refl : (w : Held) → SameButKept w w
-same-refl w = record { map = refl; staging = refl; node = refl }
+same-refl w = record { map = refl; summaries = refl; staging = refl; node = refl }
 
 same-sym : {w v : Held} → SameButKept w v → SameButKept v w
-same-sym s = record { map = sym (s .map); staging = sym (s .staging); node = sym (s .node) }
+same-sym s = record { map = sym (s .map); summaries = sym (s .summaries); staging = sym (s .staging); node = sym (s .node) }
 
 same-trans : {w v u : Held} → SameButKept w v → SameButKept v u → SameButKept w u
-same-trans s r = record { map = s .map ∙ r .map; staging = s .staging ∙ r .staging; node = s .node ∙ r .node }
+same-trans s r = record { map = s .map ∙ r .map; summaries = s .summaries ∙ r .summaries; staging = s .staging ∙ r .staging; node = s .node ∙ r .node }
 
 same-by : {w v : Held} → w ≡ v → SameButKept w v
 same-by {w} {v} q = subst (SameButKept w) q (same-refl w)
@@ -88,8 +88,10 @@ module _ (x : Write) (w v : Held) (g : GoodAt w) (k : GoodAt v) (s : SameButKept
       at (Fate.stays p q) (Fate.done a) = clash a (ap isAccepted same-told ∙ p)
       at (Fate.done a) (Fate.stays p q) = clash (ap isAccepted same-told ∙ a) p
       at (Fate.done a) (Fate.done b) =
+          let q = map-wrote x w a ∙ (ap (λ (l : List ℕ). markedFor l (x .set) (x .chunk)) (s .map) ∙ sym (map-wrote x v b)) in
           record {
-            map = map-wrote x w a ∙ (ap (λ (l : List ℕ). markedFor l (x .set) (x .chunk)) (s .map) ∙ sym (map-wrote x v b));
+            map = q;
+            summaries = same-words (next (eventOf x) w) (next (eventOf x) v) (good-next (eventOf x) w g) (good-next (eventOf x) v k) q;
             staging = staging-as-said (eventOf x) w a ∙ (s .staging ∙ sym (staging-as-said (eventOf x) v b));
             node = ap forgotten (node-wrote (x .chunk) (x .set) (x .version) w a) ∙ (node-same x (w .at .node) (v .at .node) (s .node) ∙ sym (ap forgotten (node-wrote (x .chunk) (x .set) (x .version) v b)));
           }

@@ -36,9 +36,10 @@ abbrev pub StoresTheLarger : Type 0
 StoresTheLarger = (chunk set version : ℕ) (w : Held) → Accepts (Event.write chunk set version) w
     → next (Event.write chunk set version) w .at .node .version ≡ max (w .at .node .version) version
 
--- the same map, the same staging, and the same state, version with it, all but the kept chunks
+-- the same map and its summaries, the same staging, and the same state, version with it, all but the kept chunks
 pub record SameButKept (w v : Held) : Type 0 where
   pub map : w .map ≡ v .map
+  pub summaries : w .at .summaries ≡ v .at .summaries
   pub staging : w .staging ≡ v .staging
   pub node : forgotten (w .at .node) ≡ forgotten (v .at .node)
 
@@ -244,7 +245,7 @@ node1 =
     }
 
 abbrev pub here : Held
-here = record { at = record { node = node1 }; map = zeros; staging = zeros }
+here = record { at = record { node = node1; summaries = replicate 96 0 }; map = zeros; staging = zeros }
 
 -- two writes that did not reach node 0, the later version of the one that may come first, and a clear
 abbrev pub write7 : Event

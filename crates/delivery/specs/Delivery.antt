@@ -146,10 +146,11 @@ replyTo m w = replyOf (ranBy (errandOf m) w .answer)
 unfoldable pub foundAt : ℕ → Question → Whole → Finding
 foundAt n q w = pick (ltb n 16) (nodeFinds (nodeAt (w .lab) n) n (w .lab .lent) q (w .maps) (w .stagings)) (Finding.Refused 3)
 
--- a node that refuses did not find its row empty
+-- a node that refuses did not find its row empty, nor did one that was asked something else
 abbrev pub foundEmpty : Finding → Bool
 foundEmpty (Finding.Refused why) = false
 foundEmpty (Finding.Empty empty) = empty
+foundEmpty (Finding.Next found) = false
 
 -- the answer of the node of member m, under the last tick's number
 abbrev pub checkAnswer : Check → ℕ → Whole → Event

@@ -278,6 +278,7 @@ fn found_empty(f: Finding) -> bool
     match f {
         Finding::Refused(why) => false,
         Finding::Empty(empty) => empty,
+        Finding::Next(found) => false,
     }
 }
 

@@ -28,7 +28,7 @@ use Rattle.nodehand.specs.Hand.{handRefusal, mapDisable}
 use Rattle.nodehand.proofs.Keeps.{mapDisable-keeps}
 use Rattle.node.specs.Events as node
 use Rattle.node.specs.Face.{lentTo, mapBy, stagingBy}
-use Rattle.world.specs.Station.{Station, does}
+use Rattle.world.specs.Station.{Station, face, does}
 use Rattle.world.specs.World.{World, upd, tell, afterward}
 use Rattle.honest.specs.Demand.{Able}
 use Rattle.demand3.specs.Demand.{HeardLeaves}
@@ -36,7 +36,7 @@ use Rattle.demand3.specs.Demand.{HeardLeaves}
 -- ---- MAP_DISABLE at an honest node
 
 abbrev refuses : Station → ℕ
-refuses s = handRefusal (s .node) (lentTo (s .node) (s .map) (s .staging))
+refuses s = handRefusal (s .node) (lentTo (face s) (s .map) (s .staging))
 
 abbrev disabled : Bool → Station → Station
 disabled true s = record { node = endedTransfer (s .node); map = s .map; staging = zeroed (s .staging) }

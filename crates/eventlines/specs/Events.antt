@@ -2,7 +2,7 @@
 use mathlib.Core.Bool.{_&&_}
 use lib.Dec.{ltb, eqb}
 use Rattle.laws.specs.Words.{pick}
-use Rattle.names.specs.Names.{POOL, AUTO, JOIN-CREATE, JOIN-ASSEMBLE, ENABLE, MAINTENANCE, LINK-DOWN, STORE-CHECK, REJOIN, TRY, REMOVE, WRITE, SYNCED, ANSWER, DELIVER, REGISTER-CREATE, REGISTER-ADD, UNREGISTER, LEAVE, ENABLE1, ENABLE0, FAULT, MAP-READY, GIVE-PART, TAKE, TAKE-PART, MAP-DONE, MAP-DISABLE, MAP-GET-VER, LAST-IO, POOL-INFO, FILL, EXTEND, TICK, CHECK-ANSWER, MAP-CHECK, DELIVER-CHECK}
+use Rattle.names.specs.Names.{POOL, AUTO, JOIN-CREATE, JOIN-ASSEMBLE, ENABLE, MAINTENANCE, LINK-DOWN, STORE-CHECK, REJOIN, TRY, REMOVE, WRITE, SYNCED, ANSWER, DELIVER, REGISTER-CREATE, REGISTER-ADD, UNREGISTER, LEAVE, ENABLE1, ENABLE0, FAULT, MAP-READY, GIVE-PART, TAKE, TAKE-PART, MAP-DONE, MAP-DISABLE, MAP-GET-VER, LAST-IO, POOL-INFO, FILL, EXTEND, TICK, CHECK-ANSWER, MAP-CHECK, DELIVER-CHECK, NEXT}
 use Rattle.forms.specs.declared.Form.{Form}
 use Rattle.forms.specs.declared.Event.{Event}
 use Rattle.forms.specs.declared.NodeEvent.{NodeEvent}
@@ -33,6 +33,10 @@ checkEvents f rest =
     (pick (node f MAP-CHECK 3) (Command.Ask (f .x1) Question.MapCheck)
     (pick (plain f DELIVER-CHECK 1) Command.DeliverCheck
     rest)))
+
+-- The next dirty chunk: a member, from which chunk on.
+unfoldable pub searchEvents : Form → Command → Command
+searchEvents f rest = pick (node f NEXT 5) (Command.Ask (f .x1) (Question.Next (f .x3) (f .x4))) rest
 
 -- The other four, and what concerns the lab as a whole.
 unfoldable pub wholeEvents : Form → Command → Command

@@ -1,6 +1,6 @@
 // The lines that are events of the client or of a node.
 ghost use mathlib.Core.Path.{_≡_};
-ghost use Rattle.eventlines.specs.Events.{clientEvents, checkEvents, wholeEvents, storeEvents, serviceEvents, transferEvents};
+ghost use Rattle.eventlines.specs.Events.{clientEvents, checkEvents, searchEvents, wholeEvents, storeEvents, serviceEvents, transferEvents};
 use forms::Command;
 use forms::Event;
 use forms::Form;
@@ -52,6 +52,14 @@ pub fn check_events(f: Form, rest: Command) -> Command
     let r = first(is, Command::Client(Event::CheckAnswer(x1, x2, x3 == 1)), r);
     let is = plain(f, names::TICK, 1);
     first(is, Command::Client(Event::Tick), r)
+}
+
+// The next dirty chunk: a member, from which chunk on.
+pub fn search_events(f: Form, rest: Command) -> Command
+    ensures { λ r. ⌜ r ≡ searchEvents f rest ⌝ }
+{
+    let is = node(f, names::NEXT, 5);
+    first(is, Command::Ask(f.x1, Question::Next(f.x3, f.x4)), rest)
 }
 
 // The other four, and what concerns the lab as a whole.

@@ -14,7 +14,6 @@ use Rattle.state.specs.Session.{isFree}
 use Rattle.rules.specs.Jobs.{isIdle}
 use Rattle.nodestate.specs.Change.{fresh}
 use Rattle.node.specs.Cuts.{total}
-use Rattle.node.proofs.Theorems.{fresh-good}
 use Rattle.world.specs.Station.{Station}
 use Rattle.world.specs.World.{upd}
 use Rattle.honest.proofs.Ground as real
@@ -25,6 +24,7 @@ use Rattle.missed.proofs.Kept.{kept-all}
 use Rattle.mirror.specs.Mirror.{Sees}
 use Rattle.mirror.proofs.Sessions.{is-gone}
 use Rattle.mirrornodes.specs.Holds.{Holds, Sane}
+use Rattle.mirrornodes.proofs.Fresh.{freshStation, fresh-sane, fresh-holds}
 use Rattle.mirrorworld.specs.Reflects.{Reads, Reflects}
 use Rattle.mirrorworld.proofs.Nodes.{held-all}
 use Rattle.mirrorworld.proofs.Arrives.{Lands, lands, works-still}
@@ -93,15 +93,7 @@ module _ (w : World) (h : History w) (t : Tells h) (ls : List ℕ) (busy : isIdl
 -- ---- another node
 module _ (w : World) (h : History w) (t : Tells h) (j : ℕ) (xs ys : List ℕ) (out : has (w .pool .roster .members) j ≡ false) (free : isFree (stateIn w j) ≡ true) (sx : sound (w .pool .chunks) xs ≡ true) (sy : sound (w .pool .chunks) ys ≡ true) where
   abbrev s′ : Station
-  s′ = record { node = fresh j (w .pool .chunks); map = xs; staging = ys }
-
-  new-sane : Sane (w .pool .chunks) j s′
-  unfolding fresh
-  new-sane = record { good = fresh-good j (w .pool .chunks) xs ys (t .reflects .valid .some) (t .reflects .valid .most) sx sy; itself = refl; count = refl; new = λ z. clash z refl }
-
-  new-holds : Holds s′ 0 m.none m.none m.Transfer.Shut
-  unfolding fresh
-  new-holds = record { ver = refl; map = λ n c z. clash z refl; stg = λ n c z. clash z refl; tr = refl }
+  s′ = freshStation j (w .pool .chunks) xs ys
 
   unmarked : s′ .node .create ≡ false
   unfolding fresh
@@ -128,9 +120,9 @@ module _ (w : World) (h : History w) (t : Tells h) (j : ℕ) (xs ys : List ℕ) 
           plain = r .plain;
           shows = record { sees = r .shows .sees; works = r .shows .works };
           sane = λ i. split i j
-              (λ q. subst (λ (n : ℕ). Sane (w .pool .chunks) n (upd (w .nodes) j s′ n)) (sym q) (subst (Sane (w .pool .chunks) j) (sym (real.upd-same (w .nodes) j s′)) new-sane))
+              (λ q. subst (λ (n : ℕ). Sane (w .pool .chunks) n (upd (w .nodes) j s′ n)) (sym q) (subst (Sane (w .pool .chunks) j) (sym (real.upd-same (w .nodes) j s′)) (fresh-sane j (w .pool .chunks) xs ys (t .reflects .valid .some) (t .reflects .valid .most) sx sy)))
               (λ q. subst (Sane (w .pool .chunks) i) (sym (real.upd-other (w .nodes) j i s′ q)) (r .sane i));
-          held = held-all (w .nodes) (t .a .nodes) j s′ 0 m.none m.none m.Transfer.Shut (r .held) new-holds;
+          held = held-all (w .nodes) (t .a .nodes) j s′ 0 m.none m.none m.Transfer.Shut (r .held) (fresh-holds j (w .pool .chunks) xs ys);
           awaits = r .awaits;
           reads = r .reads;
         };

@@ -13,7 +13,6 @@ use Rattle.state.specs.declared.Pool.{Pool}
 use Rattle.state.specs.Session.{free}
 use Rattle.nodestate.specs.declared.Node.{Node}
 use Rattle.nodestate.specs.Change as change
-use Rattle.node.proofs.Theorems.{fresh-good}
 use Rattle.events.specs.Events.{Event}
 use Rattle.events.proofs.Keeps.{fresh-valid}
 use Rattle.missed.specs.Model as m
@@ -21,6 +20,7 @@ use Rattle.missed.proofs.Kept as simple
 use Rattle.mirror.specs.Mirror.{sesOf}
 use Rattle.mirror.proofs.Sessions.{ups}
 use Rattle.mirrornodes.specs.Holds.{Holds, Sane}
+use Rattle.mirrornodes.proofs.Fresh.{fresh-sane, fresh-holds}
 use Rattle.mirrorworld.specs.Reflects.{Reflects}
 use Rattle.histories.specs.World.{World, Happening}
 use Rattle.histories.specs.History.{Starts, History, start, then}
@@ -50,14 +50,6 @@ nobody : (n j : ℕ) → getD (replicate n free) j free ≡ free
 nobody zero j = refl
 nobody (suc n) zero = refl
 nobody (suc n) (suc j) = nobody n j
-
-fresh-sane : (j c : ℕ) (xs ys : List ℕ) → 1 ≤ c → c ≤ chunkLimit → sound c xs ≡ true → sound c ys ≡ true → Sane c j (record { node = change.fresh j c; map = xs; staging = ys })
-unfolding change.fresh
-fresh-sane j c xs ys a b x y = record { good = fresh-good j c xs ys a b x y; itself = refl; count = refl; new = λ z. clash z refl }
-
-fresh-holds : (j c : ℕ) (xs ys : List ℕ) → Holds (record { node = change.fresh j c; map = xs; staging = ys }) 0 m.none m.none m.Transfer.Shut
-unfolding change.fresh
-fresh-holds j c xs ys = record { ver = refl; map = λ n d z. clash z refl; stg = λ n d z. clash z refl; tr = refl }
 
 fresh-chunks : (j c : ℕ) → change.fresh j c .chunks ≡ c
 unfolding change.fresh

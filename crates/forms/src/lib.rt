@@ -31,9 +31,10 @@ pub enum Event {
     CheckAnswer(u64, u64, bool),
 }
 
-// What a node is asked that changes nothing.
+// What a node is asked that changes nothing. Next: of a member's row, from which chunk on.
 pub enum Question {
     MapCheck,
+    Next(u64, u64),
 }
 
 // A node's events. GivePart: offset, length. TakePart: offset, length, the node of whose map it is a part. Fill: member, version.
@@ -69,8 +70,9 @@ pub enum Which {
 
 // Passed: an empty line, or one that begins with #. Pool: sync, chunks. Cut: how long the parts are of a map that is taken or sent. Take: a node, and the one whose
 // map it takes, part by part. Ask: a node, and what it is asked. DeliverCheck: the node of the lowest due member is asked for its check, and the client gets the answer. Row: the
-// dirty chunks of a member. Look, LookNode: the further fields of the client, of a node. Byte: place, value. The rest is put into the client's state or a node's,
-// unchecked. Record: the record of the client's last event. PokeSession: id, record. PokeNode: node, state, store, create, members, version, transfer. PokeGot: node, bytes taken.
+// dirty chunks of a member. Look, LookNode: the further fields of the client, of a node. Byte: place, value. Summary: a node, which word of its summaries, value. The rest is put into the
+// client's state or a node's, unchecked. Record: the record of the client's last event. PokeSession: id, record. PokeNode: node, state, store, create, members, version, transfer. PokeGot: node,
+// bytes taken.
 pub enum Command {
     Passed,
     Unreadable,
@@ -87,6 +89,7 @@ pub enum Command {
     Look,
     LookNode(u64),
     Byte(Which, u64, u64),
+    Summary(u64, u64, u64),
     Lend(Which, u64),
     PokeVersion(u64),
     PokeCount(u64),

@@ -9,6 +9,7 @@ use borrow.Author.Tests.{lt-ltb}
 use Rattle.laws.specs.Tests.{by-cases}
 use Rattle.sets.specs.Sets.{has}
 use Rattle.maps.specs.Map.{sound}
+use Rattle.summaries.proofs.Laws.{one-summary}
 use Rattle.state.specs.declared.Phase.{Phase}
 use Rattle.state.specs.declared.Run.{Run}
 use Rattle.state.specs.declared.Pool.{Pool}
@@ -48,22 +49,22 @@ needs-maps s keep h e = rw (h, e)
 -- that it serves
 pub needs-serving : (s : Station) (keep : Bool) → valid (s .node) ≡ true → bothSound s ≡ true → ltb 15 (s .node .id) ≡ false → isServing (s .node) ≡ false → does s (Event.mapReady keep) .answer ≡ Answer.Refused 9
 unfolding does mapReady serveRefusal settled
-needs-serving s keep h e i j = rw (h, e, i, j)
+needs-serving s keep h e i j = rw (h, e, one-summary .agrees (s .map), i, j)
 
 pub gives-needs-serving : (s : Station) (offset l : ℕ) → valid (s .node) ≡ true → bothSound s ≡ true → ltb 15 (s .node .id) ≡ false → isServing (s .node) ≡ false → does s (Event.givePart offset l) .answer ≡ Answer.Refused 9
 unfolding does givePart givePartRefusal settled
-gives-needs-serving s offset l h e i j = rw (h, e, i, j)
+gives-needs-serving s offset l h e i j = rw (h, e, one-summary .agrees (s .map), i, j)
 
 -- that what it is asked for is a part
 pub gives-needs-part : (s : Station) (offset l : ℕ) → valid (s .node) ≡ true → bothSound s ≡ true → ltb 15 (s .node .id) ≡ false → isServing (s .node) ≡ true → isPart offset l ≡ false → does s (Event.givePart offset l) .answer ≡ Answer.Refused 16
 unfolding does givePart givePartRefusal settled
-gives-needs-part s offset l h e i j p = rw (h, e, i, j, p)
+gives-needs-part s offset l h e i j p = rw (h, e, one-summary .agrees (s .map), i, j, p)
 
 -- that it is a member: the node of another id, no member, refuses MAP_DONE
 pub needs-itself : (s : Station) (on : Bool) (v m : ℕ) → valid (s .node) ≡ true → bothSound s ≡ true → ltb 15 (s .node .id) ≡ false → ltb 65535 m ≡ false → has m (s .node .id) ≡ false
     → does s (Event.mapDone on v m) .answer ≡ Answer.Refused 10
 unfolding does mapDone mapDoneRefusal settled
-needs-itself s on v m h e i l j = rw (h, e, i, l, j)
+needs-itself s on v m h e i l j = rw (h, e, one-summary .agrees (s .map), i, l, j)
 
 -- ---- a failed answer makes nobody NORMAL
 

@@ -14,6 +14,8 @@ use Rattle.refusals.specs.Limits.{versionLimit, versionTop}
 use Rattle.sets.specs.Sets.{has, without}
 use Rattle.chunks.specs.Chunk.{markedFor, dirty}
 use Rattle.maps.specs.Map.{sound, cleanFrom, copied, rowsKept, zeroed, orFrom, orIn}
+use Rattle.summaries.specs.Summary.{summariesOf, agree}
+use Rattle.summaries.proofs.Laws.{one-summary}
 use Rattle.maps.proofs.Sound.{Sound, sound-fact, sound-test, sound-or, sound-copied, sound-zeroed, sound-kept, sound-markedFor}
 use Rattle.maps.proofs.Rows.{copied-all, or-into-zero}
 use Rattle.parts.specs.Parts.{isPart, partOf}
@@ -33,8 +35,8 @@ use Rattle.nodeserve.specs.Serve.{serveRefusal, readied, mapReady, givePartRefu
 use Rattle.nodehand.specs.Hand.{takePartRefusal, partTaken, takePart, mapDoneRefusal, committed, mapDone}
 use Rattle.nodeenables.specs.Enable.{enable1Refusal, enabled, enable1}
 use Rattle.node.specs.Events.{Event}
-use Rattle.node.specs.Face.{mapBy, stagingBy}
-use Rattle.world.specs.Station.{Station, Did, bothSound, does}
+use Rattle.node.specs.Face.{lentTo, mapBy, stagingBy}
+use Rattle.world.specs.Station.{Station, Did, bothSound, face, does}
 use Rattle.honest.specs.Demand.{Able}
 
 -- ---- an honest node, as facts
@@ -233,15 +235,19 @@ both c j s f =
     let b : sound (s .node .chunks) (s .staging) ≡ true = rw (f .core .chunks) (sound-test c (s .staging) (f .staging)) in
     and-both a b
 
+-- its summaries are those of its map
+agreed : (s : Station) → agree (summariesOf (s .map)) (s .map) ≡ true
+agreed s = one-summary .agrees (s .map)
+
 own-id : (c j : ℕ) (n : Node) → Core c j n → ltb 15 (n .id) ≡ false
 own-id c j n k = rw (k .id) (le-ltb 15 j (let b = k .below in omega arith))
 
 serves : (c j : ℕ) (n : Node) → Core c j n → isServing n ≡ true
 serves c j n k = and-both (k .joined) (k .store)
 
-can-serve : (c j : ℕ) (s : Station) → Fine c j s → serveRefusal (s .node) (pick (not (bothSound s)) 2 0) ≡ 0
+can-serve : (c j : ℕ) (s : Station) → Fine c j s → serveRefusal (s .node) (lentTo (face s) (s .map) (s .staging)) ≡ 0
 unfolding serveRefusal
-can-serve c j s f = rw (f .rules, both c j s f, own-id c j (s .node) (f .core), serves c j (s .node) (f .core))
+can-serve c j s f = rw (f .rules, both c j s f, agreed s, own-id c j (s .node) (f .core), serves c j (s .node) (f .core))
 
 pub readies-law : (c j : ℕ) (keep : Bool) (s : Station) → Fine c j s → does s (Event.mapReady keep) ≡ did (readyTo keep s)
 unfolding does mapBy stagingBy mapReady settled mapAfter stagingAfter
@@ -250,7 +256,7 @@ readies-law c j false s f = rw (can-serve c j s f)
 
 pub gives-law : (c j offset l : ℕ) (s : Station) → Fine c j s → isPart offset l ≡ true → does s (Event.givePart offset l) .answer ≡ Answer.Done
 unfolding does mapBy stagingBy givePart givePartRefusal settled
-gives-law c j offset l s f p = rw (f .rules, both c j s f, own-id c j (s .node) (f .core), serves c j (s .node) (f .core), p)
+gives-law c j offset l s f p = rw (f .rules, both c j s f, agreed s, own-id c j (s .node) (f .core), serves c j (s .node) (f .core), p)
 
 pub asked-law : (c j : ℕ) (s : Station) → Fine c j s → does s Event.mapGetVer ≡ record { station = s; answer = Answer.Version (s .node .version) }
 unfolding does mapBy stagingBy mapGetVer settled mapAfter stagingAfter
@@ -259,7 +265,7 @@ asked-law c j s f = rw (can-serve c j s f)
 pub marks-law : (c j chosen : ℕ) (s : Station) → Fine c j s → chosen < 16 → does s (Event.lastIoToMap chosen) ≡ did (lastTo chosen s)
 unfolding does mapBy stagingBy lastIoToMap lastIoRefusal settled mapAfter stagingAfter
 marks-law c j chosen s f h =
-    rw (f .rules, both c j s f, own-id c j (s .node) (f .core), le-ltb 15 chosen (omega arith), serves c j (s .node) (f .core))
+    rw (f .rules, both c j s f, agreed s, own-id c j (s .node) (f .core), le-ltb 15 chosen (omega arith), serves c j (s .node) (f .core))
 
 -- the next part of a map
 pub takes-law : (c j a l : ℕ) (zs : List ℕ) (s : Station) → Fine c j (partly zs a s) → Sound c zs → isPart a l ≡ true → a + l ≤ 8192 → does (partly zs a s) (Event.takePart a (partOf a l zs)) ≡ did (partly zs (a + l) s)
@@ -268,18 +274,18 @@ takes-law c j a l zs s f z p h =
     let n : ℕ = s .node .chunks in
     let e : length (partOf a l zs) ≡ l = length-partOf a l zs (omega (arith, z .len)) in
     let k : cleanFrom n a (partOf a l zs) ≡ true = rw (f .core .chunks) (clean-part c a l zs z h) in
-    rw (f .rules, both c j (partly zs a s) f, own-id c j (partly zs a s .node) (f .core), k, e, p, eq-eqb a a refl, parts-more a l (s .staging) zs (omega (arith, z .len)))
+    rw (f .rules, both c j (partly zs a s) f, agreed (partly zs a s), own-id c j (partly zs a s .node) (f .core), k, e, p, eq-eqb a a refl, parts-more a l (s .staging) zs (omega (arith, z .len)))
 
 pub commits-law : (c j : ℕ) (on : Bool) (v m : ℕ) (s : Station) → Fine c j s → isWhole (s .node .transfer) ≡ true → v ≤ versionLimit → m < 65536 → has m j ≡ true
     → does s (Event.mapDone on v m) ≡ did (doneTo on v m s)
 unfolding does mapBy stagingBy mapDone mapDoneRefusal settled mapAfter stagingAfter
 commits-law c j on v m s f h hv hm own =
-    rw (f .rules, both c j s f, own-id c j (s .node) (f .core), le-ltb 65535 m (omega arith), (let e : has m (s .node .id) ≡ true = rw (f .core .id) own in e), le-ltb versionLimit v hv, h)
+    rw (f .rules, both c j s f, agreed s, own-id c j (s .node) (f .core), le-ltb 65535 m (omega arith), (let e : has m (s .node .id) ≡ true = rw (f .core .id) own in e), le-ltb versionLimit v hv, h)
 
 pub enables-law : (c j v m : ℕ) (s : Station) → Fine c j s → v ≤ versionLimit → m < 65536 → has m j ≡ true → does s (Event.enable1 v m) ≡ did (enabledTo v m s)
 unfolding does mapBy stagingBy enable1 enable1Refusal settled mapAfter stagingAfter
 enables-law c j v m s f hv hm own =
-    rw (f .rules, both c j s f, own-id c j (s .node) (f .core), le-ltb 65535 m (omega arith), serves c j (s .node) (f .core), (let e : has m (s .node .id) ≡ true = rw (f .core .id) own in e), le-ltb versionLimit v hv)
+    rw (f .rules, both c j s f, agreed s, own-id c j (s .node) (f .core), le-ltb 65535 m (omega arith), serves c j (s .node) (f .core), (let e : has m (s .node .id) ≡ true = rw (f .core .id) own in e), le-ltb versionLimit v hv)
 
 -- ---- and is honest after it
 

@@ -183,6 +183,7 @@ fn number_of(s: Said) -> u64 {
     match s {
         Said::Node(n) => n,
         Said::Asked(n, empty) => n,
+        Said::Next(n, found) => n,
         Said::LookNode(n) => n,
         _ => 0,
     }

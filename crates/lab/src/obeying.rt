@@ -6,6 +6,7 @@ use forms::Command;
 use forms::Event;
 use forms::NodeEvent;
 use forms::Question;
+use forms::Which;
 use journal::Journal;
 use lendask::Finding;
 use saylab::Said;
@@ -158,6 +159,7 @@ fn found_said(n: u64, f: Finding) -> Said {
     match f {
         Finding::Refused(why) => Said::Refused(why),
         Finding::Empty(empty) => Said::Asked(n, empty),
+        Finding::Next(found) => Said::Next(n, found),
     }
 }
 
@@ -190,8 +192,9 @@ fn arrange(
     stagings: &mut [u8],
 ) -> Obeyed {
     arrange_maps(c, own, maps, stagings);
+    let next = bench::arrange(l, c);
     Obeyed {
-        lab: bench::arrange(l, c),
+        lab: arrange_words(next, c, maps),
         log: log_after(j, c),
         said: said_of(j, c),
     }
@@ -203,6 +206,22 @@ fn log_after(j: Journal, c: Command) -> Journal {
         return j;
     };
     journal::fresh()
+}
+
+// A byte in a node's map: the six words of its row are made true of it.
+fn arrange_words(l: Lab, c: Command, maps: &[u8]) -> Lab {
+    match c {
+        Command::Byte(w, i, v) => true_words(l, w, i, maps),
+        _ => l,
+    }
+}
+
+fn true_words(l: Lab, w: Which, i: u64, maps: &[u8]) -> Lab {
+    match w {
+        Which::Client => l,
+        Which::Node(n) => truing::true_row(l, n, i / 512, maps),
+        Which::Staging(n) => l,
+    }
 }
 
 fn arrange_maps(c: Command, own: &mut [u8], maps: &mut [u8], stagings: &mut [u8]) {

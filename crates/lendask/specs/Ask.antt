@@ -4,7 +4,8 @@ use Prim.Native.Nat.{ℕ}
 use Rattle.forms.specs.declared.Question.{Question}
 use Rattle.nodechecks.specs.declared.Checked.{Checked}
 use Rattle.node.specs.declared.StorageNode.{StorageNode}
-use Rattle.node.specs.Face.{checked}
+use Rattle.nodenext.specs.declared.Next.{Next}
+use Rattle.node.specs.Face.{checked, nextAt}
 use Rattle.lending.specs.declared.Lent.{Lent}
 use Rattle.lending.specs.Lending.{mapOf, stagingOf}
 use Rattle.lendask.specs.declared.Finding.{Finding}
@@ -13,9 +14,14 @@ abbrev pub ofCheck : Checked → Finding
 ofCheck (Checked.Refused why) = Finding.Refused why
 ofCheck (Checked.Empty empty) = Finding.Empty empty
 
+abbrev pub ofNext : Next → Finding
+ofNext (Next.Refused why) = Finding.Refused why
+ofNext (Next.Is found) = Finding.Next found
+
 -- what the node answers with these maps
 abbrev pub findingOf : Question → StorageNode → List ℕ → List ℕ → Finding
 findingOf Question.MapCheck n xs ys = ofCheck (checked n xs ys .answer)
+findingOf (Question.Next member start) n xs ys = ofNext (nextAt n xs ys member start .answer)
 
 -- what node k answers, asked on the lent parts of its own maps
 abbrev pub nodeFinds : StorageNode → ℕ → Lent → Question → List ℕ → List ℕ → Finding

@@ -1,15 +1,19 @@
 // What a node answers to a question, its two maps lent as far as the lab lends them. The maps are only read, and the node stays.
 ghost use mathlib.Core.Path.{_≡_};
-ghost use Rattle.lendask.specs.Ask.{ofCheck, findingOf, nodeFinds};
+ghost use Rattle.node.specs.Face.{checked, nextAt};
+ghost use Rattle.lendask.specs.Ask.{ofCheck, ofNext, findingOf, nodeFinds};
 use forms::Question;
 use lending::Lent;
 use node::StorageNode;
 use nodechecks::Checked;
+use nodenext::Next;
+use searching::Found;
 
-// Empty: the node is NORMAL, and its own row is empty.
+// Empty: the node is NORMAL, and its own row is empty. Next: the next dirty chunk, or none.
 pub enum Finding {
     Refused(u64),
     Empty(bool),
+    Next(Found),
 }
 
 fn of_check(c: Checked) -> Finding
@@ -21,15 +25,37 @@ fn of_check(c: Checked) -> Finding
     }
 }
 
+fn of_next(a: Next) -> Finding
+    ensures { λ r. ⌜ r ≡ ofNext a ⌝ }
+{
+    match a {
+        Next::Refused(why) => Finding::Refused(why),
+        Next::Is(found) => Finding::Next(found),
+    }
+}
+
+fn check(n: StorageNode, map: &[u8], staging: &[u8]) -> Finding
+    ensures { λ r. ⌜ r ≡ ofCheck (checked n (now (map .entry)) (now (staging .entry)) .answer) ⌝ }
+{
+    let a = n.map_check(map, staging);
+    let c = a.answer;
+    of_check(c)
+}
+
+fn next(n: StorageNode, map: &[u8], staging: &[u8], member: u64, start: u64) -> Finding
+    ensures { λ r. ⌜ r ≡ ofNext (nextAt n (now (map .entry)) (now (staging .entry)) member start .answer) ⌝ }
+{
+    let a = n.next(map, staging, member, start);
+    let c = a.answer;
+    of_next(c)
+}
+
 fn call(n: StorageNode, q: Question, map: &[u8], staging: &[u8]) -> Finding
     ensures { λ r. ⌜ r ≡ findingOf q n (now (map .entry)) (now (staging .entry)) ⌝ }
 {
     match q {
-        Question::MapCheck => {
-            let a = n.map_check(map, staging);
-            let c = a.answer;
-            of_check(c)
-        }
+        Question::MapCheck => check(n, map, staging),
+        Question::Next(member, start) => next(n, map, staging, member, start),
     }
 }
 

@@ -21,11 +21,11 @@ use Rattle.mapchecks.proofs.Rows.{two-in-a-row}
 
 pub demand-1 : Demand1
 unfolding mapCheck checkRefusal
-demand-1 s xs ys = at (eqb (checkRefusal (s .node) (lentTo (s .node) xs ys)) 0) refl
+demand-1 s xs ys = at (eqb (checkRefusal (s .node) (lentTo s xs ys)) 0) refl
   where
-    at : (b : Bool) → eqb (checkRefusal (s .node) (lentTo (s .node) xs ys)) 0 ≡ b → Verdict s xs ys
-    at true e = Verdict.answered (isNormal (s .node .state) && rowEmpty xs (s .node .id)) (rw e refl) (none-applies (checkTests (s .node) (lentTo (s .node) xs ys)) (eqb-true (checkRefusal (s .node) (lentTo (s .node) xs ys)) 0 e))
-    at false e = Verdict.refused (checkRefusal (s .node) (lentTo (s .node) xs ys)) (rw e refl) (first-applies (checkTests (s .node) (lentTo (s .node) xs ys)) (eqb-false (checkRefusal (s .node) (lentTo (s .node) xs ys)) 0 e))
+    at : (b : Bool) → eqb (checkRefusal (s .node) (lentTo s xs ys)) 0 ≡ b → Verdict s xs ys
+    at true e = Verdict.answered (isNormal (s .node .state) && rowEmpty xs (s .node .id)) (rw e refl) (none-applies (checkTests (s .node) (lentTo s xs ys)) (eqb-true (checkRefusal (s .node) (lentTo s xs ys)) 0 e))
+    at false e = Verdict.refused (checkRefusal (s .node) (lentTo s xs ys)) (rw e refl) (first-applies (checkTests (s .node) (lentTo s xs ys)) (eqb-false (checkRefusal (s .node) (lentTo s xs ys)) 0 e))
 
 -- an answer that says empty
 abbrev isEmpty : Checked → Bool
@@ -34,11 +34,11 @@ isEmpty (Checked.Empty empty) = empty
 
 said-empty : (s : StorageNode) (xs ys : List ℕ) → checked s xs ys .answer ≡ Checked.Empty true → (isNormal (s .node .state) && rowEmpty xs (s .node .id)) ≡ true
 unfolding mapCheck
-said-empty s xs ys a = at (eqb (checkRefusal (s .node) (lentTo (s .node) xs ys)) 0) refl
+said-empty s xs ys a = at (eqb (checkRefusal (s .node) (lentTo s xs ys)) 0) refl
   where
-    at : (b : Bool) → eqb (checkRefusal (s .node) (lentTo (s .node) xs ys)) 0 ≡ b → (isNormal (s .node .state) && rowEmpty xs (s .node .id)) ≡ true
+    at : (b : Bool) → eqb (checkRefusal (s .node) (lentTo s xs ys)) 0 ≡ b → (isNormal (s .node .state) && rowEmpty xs (s .node .id)) ≡ true
     at true e = let q : Checked.Empty (isNormal (s .node .state) && rowEmpty xs (s .node .id)) ≡ Checked.Empty true = rw e at a in ap isEmpty q
-    at false e = let q : Checked.Refused (checkRefusal (s .node) (lentTo (s .node) xs ys)) ≡ Checked.Empty true = rw e at a in clash (ap isEmpty q) refl
+    at false e = let q : Checked.Refused (checkRefusal (s .node) (lentTo s xs ys)) ≡ Checked.Empty true = rw e at a in clash (ap isEmpty q) refl
 
 pub one-would-do : OneWouldDo
 one-would-do m g =

@@ -16,8 +16,8 @@ use Rattle.mapchecks.specs.Checks.{Zeroes}
 
 -- Demand 1 of map check at a node: it is refused by the first that applies, or by none and then answered. That node and maps stay, its contract says.
 pub data Verdict (s : StorageNode) (xs ys : List ℕ) : Type 0 where
-  refused : (n : ℕ) → checked s xs ys .answer ≡ Checked.Refused n → First (checkTests (s .node) (lentTo (s .node) xs ys)) n → Verdict s xs ys
-  answered : (empty : Bool) → checked s xs ys .answer ≡ Checked.Empty empty → None (checkTests (s .node) (lentTo (s .node) xs ys)) → Verdict s xs ys
+  refused : (n : ℕ) → checked s xs ys .answer ≡ Checked.Refused n → First (checkTests (s .node) (lentTo s xs ys)) n → Verdict s xs ys
+  answered : (empty : Bool) → checked s xs ys .answer ≡ Checked.Empty empty → None (checkTests (s .node) (lentTo s xs ys)) → Verdict s xs ys
 
 abbrev pub Demand1 : Type 0
 Demand1 = (s : StorageNode) (xs ys : List ℕ) → Verdict s xs ys

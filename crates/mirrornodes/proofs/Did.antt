@@ -14,7 +14,7 @@ use Rattle.world.specs.Station.{Station, face, does}
 
 -- the number that a node's own maps refuse with
 abbrev pub lent : Station → ℕ
-lent s = lentTo (s .node) (s .map) (s .staging)
+lent s = lentTo (face s) (s .map) (s .staging)
 
 -- what the law of an event says that it does
 abbrev pub doneAt : Event → Station → Turn

@@ -20,9 +20,12 @@ use Rattle.nodefills.specs.Fill.{filled}
 use Rattle.nodeserve.specs.Serve.{readied}
 use Rattle.nodehand.specs.Hand.{partTaken, committed}
 use Rattle.node.specs.Events.{Event, kindOf}
-use Rattle.node.proofs.Theorems.{law, law-rules, stays-good}
+use Rattle.node.specs.declared.StorageNode.{StorageNode}
+use Rattle.node.specs.Face.{mapLeft, stagingLeft}
+use Rattle.node.proofs.Theorems.{Good, law, law-rules, stays-good}
 use Rattle.nodeevents.specs.Demand1.{isAccepted}
 use Rattle.world.specs.Station.{Station, face, does}
+use Rattle.world.proofs.Faces.{face-stays}
 use Rattle.mirrornodes.specs.Holds.{Sane}
 use Rattle.mirrornodes.proofs.Did.{lent, took, stays}
 
@@ -100,7 +103,7 @@ sane-keeps c j e s h = by-cases (isAccepted (does s e .answer)) yes (λ z. subst
         let k = law e (s .node) (lent s) .keeps (h .good .size) (t .none) in
         let q = ap (λ (x : Station). x .node) (t .is) in
         record {
-          good = unfold does in stays-good e (face s) (s .map) (s .staging) (h .good);
+          good = unfold does in subst (λ (n : StorageNode). Good n (mapLeft e (face s) (s .map) (s .staging)) (stagingLeft e (face s) (s .map) (s .staging))) (face-stays s e) (stays-good e (face s) (s .map) (s .staging) (h .good));
           itself = ap (λ (x : Node). x .id) q ∙ (k .same-id ∙ h .itself);
           count = ap (λ (x : Node). x .chunks) q ∙ (k .same-chunks ∙ h .count);
           new = λ m. ap (λ (x : Node). x .version) q ∙ mark-kept (s .node) (lent s) (law-rules e (s .node) (lent s) (t .none)) (h .new) e (k .lawful) (ap (λ (x : Node). x .create) (sym q) ∙ m);

@@ -185,6 +185,12 @@ ONCE = 59
 abbrev pub RECORD : ℕ
 RECORD = 60
 
+abbrev pub NEXT : ℕ
+NEXT = 61
+
+abbrev pub SUMMARY : ℕ
+SUMMARY = 62
+
 -- the code of what is no word
 abbrev pub UNKNOWN : ℕ
 UNKNOWN = 255
@@ -285,6 +291,9 @@ namesH w rest =
     (word w "record" RECORD
     rest))))))
 
+unfoldable pub namesI : List ℕ → ℕ → ℕ
+namesI w rest = word w "next" NEXT (word w "summary" SUMMARY rest)
+
 -- The code of a word, UNKNOWN for any other bytes.
 unfoldable pub nameOf : List ℕ → ℕ
-nameOf w = namesA w (namesB w (namesC w (namesD w (namesE w (namesF w (namesG w (namesH w UNKNOWN)))))))
+nameOf w = namesA w (namesB w (namesC w (namesD w (namesE w (namesF w (namesG w (namesH w (namesI w UNKNOWN))))))))

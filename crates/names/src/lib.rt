@@ -2,7 +2,7 @@
 ghost use mathlib.Core.Path.{_≡_};
 ghost use Rattle.laws.specs.Words.{pick};
 ghost use Rattle.text.specs.Bytes.{eqBytes};
-ghost use Rattle.names.specs.Names.{namesA, namesB, namesC, namesD, namesE, namesF, namesG, namesH, nameOf};
+ghost use Rattle.names.specs.Names.{namesA, namesB, namesC, namesD, namesE, namesF, namesG, namesH, namesI, nameOf};
 use text::same;
 
 pub const POOL: u64 = 1;
@@ -124,6 +124,10 @@ pub const DUE: u64 = 58;
 pub const ONCE: u64 = 59;
 
 pub const RECORD: u64 = 60;
+
+pub const NEXT: u64 = 61;
+
+pub const SUMMARY: u64 = 62;
 
 // The code of what is no word.
 pub const UNKNOWN: u64 = 255;
@@ -413,6 +417,12 @@ fn names_h(s: &[u8], rest: u64) -> u64
     )
 }
 
+fn names_i(s: &[u8], rest: u64) -> u64
+    ensures { λ r. ⌜ r ≡ namesI (now (s .entry)) rest ⌝ }
+{
+    word(s, b"next", NEXT, word(s, b"summary", SUMMARY, rest))
+}
+
 // The code of a word, UNKNOWN for any other bytes.
 pub fn name(s: &[u8]) -> u64
     ensures { λ r. ⌜ r ≡ nameOf (now (s .entry)) ⌝ }
@@ -423,7 +433,10 @@ pub fn name(s: &[u8]) -> u64
             s,
             names_c(
                 s,
-                names_d(s, names_e(s, names_f(s, names_g(s, names_h(s, UNKNOWN))))),
+                names_d(
+                    s,
+                    names_e(s, names_f(s, names_g(s, names_h(s, names_i(s, UNKNOWN))))),
+                ),
             ),
         ),
     )

@@ -1,3 +1,4 @@
+pub mod Lent
 pub mod Theorems
 pub mod Worked
 pub mod Cuts

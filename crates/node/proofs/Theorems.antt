@@ -14,6 +14,8 @@ use Rattle.refusals.specs.Refusals.{applies, refusal}
 use Rattle.order.proofs.Order.{none-applies}
 use Rattle.maps.specs.Map.{sound}
 use Rattle.maps.proofs.Sound.{Sound, sound-fact, sound-test}
+use Rattle.summaries.specs.Summary.{summariesOf, agree}
+use Rattle.summaries.proofs.Laws.{one-summary}
 use Rattle.state.specs.declared.Op.{Op}
 use Rattle.nodestate.specs.declared.OnStaging.{OnStaging}
 use Rattle.nodestate.specs.declared.Answer.{Answer}
@@ -43,8 +45,9 @@ use Rattle.nodeserve.proofs.Keeps as serve
 use Rattle.nodehand.proofs.Keeps as hand
 use Rattle.node.specs.declared.StorageNode.{StorageNode}
 use Rattle.node.specs.Events.{Event, Part, kindOf, partIn, testsAt, turnOf}
-use Rattle.node.specs.Face.{freshNode, lentTo, turnAt, mapBy, stagingWith, stagingBy, answers, mapLeft, stagingLeft}
+use Rattle.node.specs.Face.{freshNode, lentTo, turnAt, mapBy, stagingWith, stagingBy, wordsBy, answers, mapLeft, stagingLeft}
 use Rattle.node.specs.Held.{Held, next, after}
+use Rattle.node.proofs.Lent.{lent-clear}
 
 -- the answer is a refusal
 abbrev pub isRefused : Answer → Bool
@@ -67,6 +70,7 @@ pub record Law (e : Event) (n : Node) (lent : ℕ) : Type 0 where
   pub plain : isRefused (done .answer) ≡ false
   pub one : applies 1 (testsAt e n lent) ≡ not (valid n)
   pub two : applies 2 (testsAt e n lent) ≡ eqb lent 2
+  pub eighteen : applies 18 (testsAt e n lent) ≡ eqb lent 18
   pub keeps : length (n .kept) ≡ 16 → refusal (testsAt e n lent) ≡ 0 → Keeps (kindOf e) n (done .node)
   pub fit : refusal (testsAt e n lent) ≡ 0 → fits (done .effect .map) (done .node) ≡ true
   pub clean : refusal (testsAt e n lent) ≡ 0 → partFits (n .chunks) (partIn e) (done .effect .staging) ≡ true
@@ -87,42 +91,46 @@ fits-informs Op.RemoveDisassemble member n = refl
 
 unfoldable pub law : (e : Event) (n : Node) (lent : ℕ) → Law e n lent
 unfolding Register.registerCreate Register.registerAdd Register.unregister Join.joinCreate Join.assemble Join.leave Enable.enable1 Enable.enable0 Enable.fault Write.write Write.synced Info.poolInfo Serve.mapReady Serve.givePart Hand.takePart Hand.mapDone Hand.mapDisable Serve.mapGetVer Serve.lastIoToMap Fill.fill Register.registerCreateRefusal Register.registerAddRefusal Register.unregisterRefusal Join.joinCreateRefusal Join.assembleRefusal Join.leaveRefusal Enable.enable1Refusal Enable.stopRefusal Write.writeRefusal Write.syncedRefusal Info.poolInfoRefusal Serve.serveRefusal Serve.givePartRefusal Serve.lastIoRefusal Hand.handRefusal Hand.takePartRefusal Hand.mapDoneRefusal Write.written storedVersion keptChunk Fill.fillRefusal
-law Event.registerCreate n lent = record { done = _; same = refl; plain = refl; one = refl; two = refl; keeps = λ h e. register.registerCreate-keeps n lent h e; fit = λ e. refl; clean = λ e. refl }
-law (Event.registerAdd set version) n lent = record { done = _; same = refl; plain = refl; one = refl; two = refl; keeps = λ h e. register.registerAdd-keeps n lent set version e; fit = λ e. refl; clean = λ e. refl }
-law (Event.unregister delete) n lent = record { done = _; same = refl; plain = refl; one = refl; two = refl; keeps = λ h e. register.unregister-keeps n lent delete e; fit = λ e. fits-wipes delete _; clean = λ e. refl }
-law (Event.joinCreate set) n lent = record { done = _; same = refl; plain = refl; one = refl; two = refl; keeps = λ h e. joins.joinCreate-keeps n lent set e; fit = λ e. refl; clean = λ e. refl }
-law Event.assemble n lent = record { done = _; same = refl; plain = refl; one = refl; two = refl; keeps = λ h e. joins.assemble-keeps n lent e; fit = λ e. refl; clean = λ e. refl }
-law (Event.leave delete) n lent = record { done = _; same = refl; plain = refl; one = refl; two = refl; keeps = λ h e. joins.leave-keeps n lent e; fit = λ e. fits-leaves delete n _; clean = λ e. refl }
-law (Event.enable1 version set) n lent = record { done = _; same = refl; plain = refl; one = refl; two = refl; keeps = λ h e. enable.enable1-keeps n lent version set e; fit = λ e. refl; clean = λ e. refl }
-law Event.enable0 n lent = record { done = _; same = refl; plain = refl; one = refl; two = refl; keeps = λ h e. enable.enable0-keeps n lent e; fit = λ e. refl; clean = λ e. refl }
-law Event.fault n lent = record { done = _; same = refl; plain = refl; one = refl; two = refl; keeps = λ h e. enable.fault-keeps n lent e; fit = λ e. refl; clean = λ e. refl }
-law (Event.write chunk set version) n lent = record { done = _; same = refl; plain = refl; one = refl; two = refl; keeps = λ h e. writes.write-keeps n lent chunk set version h e; fit = λ e. writes.write-chunk n lent chunk set version e; clean = λ e. refl }
-law (Event.synced member chunk) n lent = record { done = _; same = refl; plain = refl; one = refl; two = refl; keeps = λ h e. writes.synced-keeps n lent member chunk e; fit = λ e. refl; clean = λ e. refl }
-law (Event.poolInfo op member) n lent = record { done = _; same = refl; plain = refl; one = refl; two = refl; keeps = λ h e. writes.poolInfo-keeps n lent op member e; fit = λ e. fits-informs op member _; clean = λ e. refl }
-law (Event.mapReady keep) n lent = record { done = _; same = refl; plain = refl; one = refl; two = refl; keeps = λ h e. serve.mapReady-keeps n lent e; fit = λ e. refl; clean = λ e. refl }
-law (Event.givePart offset size) n lent = record { done = _; same = refl; plain = refl; one = refl; two = refl; keeps = λ h e. serve.givePart-keeps n lent offset size e; fit = λ e. refl; clean = λ e. refl }
-law (Event.takePart offset part) n lent = record { done = _; same = refl; plain = refl; one = refl; two = refl; keeps = λ h e. hand.takePart-keeps n lent offset (length part) _ e; fit = λ e. refl; clean = λ e. hand.takePart-passed n lent offset (length part) _ e .1 .pure }
-law (Event.mapDone enabling version set) n lent = record { done = _; same = refl; plain = refl; one = refl; two = refl; keeps = λ h e. hand.mapDone-keeps n lent enabling version set e; fit = λ e. refl; clean = λ e. refl }
-law Event.mapDisable n lent = record { done = _; same = refl; plain = refl; one = refl; two = refl; keeps = λ h e. hand.mapDisable-keeps n lent e; fit = λ e. refl; clean = λ e. refl }
-law Event.mapGetVer n lent = record { done = _; same = refl; plain = refl; one = refl; two = refl; keeps = λ h e. serve.mapGetVer-keeps n lent e; fit = λ e. refl; clean = λ e. refl }
-law (Event.lastIoToMap chosen) n lent = record { done = _; same = refl; plain = refl; one = refl; two = refl; keeps = λ h e. serve.lastIo-keeps n lent chosen e; fit = λ e. serve.lastIo-passed n lent chosen e .rules .keeps; clean = λ e. refl }
-law (Event.fill member version) n lent = record { done = _; same = refl; plain = refl; one = refl; two = refl; keeps = λ h e. fills.fill-keeps n lent member version e; fit = λ e. refl; clean = λ e. refl }
+law Event.registerCreate n lent = record { done = _; same = refl; plain = refl; one = refl; two = refl; eighteen = refl; keeps = λ h e. register.registerCreate-keeps n lent h e; fit = λ e. refl; clean = λ e. refl }
+law (Event.registerAdd set version) n lent = record { done = _; same = refl; plain = refl; one = refl; two = refl; eighteen = refl; keeps = λ h e. register.registerAdd-keeps n lent set version e; fit = λ e. refl; clean = λ e. refl }
+law (Event.unregister delete) n lent = record { done = _; same = refl; plain = refl; one = refl; two = refl; eighteen = refl; keeps = λ h e. register.unregister-keeps n lent delete e; fit = λ e. fits-wipes delete _; clean = λ e. refl }
+law (Event.joinCreate set) n lent = record { done = _; same = refl; plain = refl; one = refl; two = refl; eighteen = refl; keeps = λ h e. joins.joinCreate-keeps n lent set e; fit = λ e. refl; clean = λ e. refl }
+law Event.assemble n lent = record { done = _; same = refl; plain = refl; one = refl; two = refl; eighteen = refl; keeps = λ h e. joins.assemble-keeps n lent e; fit = λ e. refl; clean = λ e. refl }
+law (Event.leave delete) n lent = record { done = _; same = refl; plain = refl; one = refl; two = refl; eighteen = refl; keeps = λ h e. joins.leave-keeps n lent e; fit = λ e. fits-leaves delete n _; clean = λ e. refl }
+law (Event.enable1 version set) n lent = record { done = _; same = refl; plain = refl; one = refl; two = refl; eighteen = refl; keeps = λ h e. enable.enable1-keeps n lent version set e; fit = λ e. refl; clean = λ e. refl }
+law Event.enable0 n lent = record { done = _; same = refl; plain = refl; one = refl; two = refl; eighteen = refl; keeps = λ h e. enable.enable0-keeps n lent e; fit = λ e. refl; clean = λ e. refl }
+law Event.fault n lent = record { done = _; same = refl; plain = refl; one = refl; two = refl; eighteen = refl; keeps = λ h e. enable.fault-keeps n lent e; fit = λ e. refl; clean = λ e. refl }
+law (Event.write chunk set version) n lent = record { done = _; same = refl; plain = refl; one = refl; two = refl; eighteen = refl; keeps = λ h e. writes.write-keeps n lent chunk set version h e; fit = λ e. writes.write-chunk n lent chunk set version e; clean = λ e. refl }
+law (Event.synced member chunk) n lent = record { done = _; same = refl; plain = refl; one = refl; two = refl; eighteen = refl; keeps = λ h e. writes.synced-keeps n lent member chunk e; fit = λ e. refl; clean = λ e. refl }
+law (Event.poolInfo op member) n lent = record { done = _; same = refl; plain = refl; one = refl; two = refl; eighteen = refl; keeps = λ h e. writes.poolInfo-keeps n lent op member e; fit = λ e. fits-informs op member _; clean = λ e. refl }
+law (Event.mapReady keep) n lent = record { done = _; same = refl; plain = refl; one = refl; two = refl; eighteen = refl; keeps = λ h e. serve.mapReady-keeps n lent e; fit = λ e. refl; clean = λ e. refl }
+law (Event.givePart offset size) n lent = record { done = _; same = refl; plain = refl; one = refl; two = refl; eighteen = refl; keeps = λ h e. serve.givePart-keeps n lent offset size e; fit = λ e. refl; clean = λ e. refl }
+law (Event.takePart offset part) n lent = record { done = _; same = refl; plain = refl; one = refl; two = refl; eighteen = refl; keeps = λ h e. hand.takePart-keeps n lent offset (length part) _ e; fit = λ e. refl; clean = λ e. hand.takePart-passed n lent offset (length part) _ e .1 .pure }
+law (Event.mapDone enabling version set) n lent = record { done = _; same = refl; plain = refl; one = refl; two = refl; eighteen = refl; keeps = λ h e. hand.mapDone-keeps n lent enabling version set e; fit = λ e. refl; clean = λ e. refl }
+law Event.mapDisable n lent = record { done = _; same = refl; plain = refl; one = refl; two = refl; eighteen = refl; keeps = λ h e. hand.mapDisable-keeps n lent e; fit = λ e. refl; clean = λ e. refl }
+law Event.mapGetVer n lent = record { done = _; same = refl; plain = refl; one = refl; two = refl; eighteen = refl; keeps = λ h e. serve.mapGetVer-keeps n lent e; fit = λ e. refl; clean = λ e. refl }
+law (Event.lastIoToMap chosen) n lent = record { done = _; same = refl; plain = refl; one = refl; two = refl; eighteen = refl; keeps = λ h e. serve.lastIo-keeps n lent chosen e; fit = λ e. serve.lastIo-passed n lent chosen e .rules .keeps; clean = λ e. refl }
+law (Event.fill member version) n lent = record { done = _; same = refl; plain = refl; one = refl; two = refl; eighteen = refl; keeps = λ h e. fills.fill-keeps n lent member version e; fit = λ e. refl; clean = λ e. refl }
 
 -- where none applies, the node keeps its rules and the lent maps do not refuse
 pub law-rules : (e : Event) (n : Node) (lent : ℕ) → refusal (testsAt e n lent) ≡ 0 → Valid n
 law-rules e n lent z = valid-facts n (not-false (valid n) (sym (law e n lent .one) ∙ none-applies (testsAt e n lent) z 1 refl))
 
-pub law-sure : (e : Event) (n : Node) (lent : ℕ) → refusal (testsAt e n lent) ≡ 0 → eqb lent 2 ≡ false
-law-sure e n lent z = sym (law e n lent .two) ∙ none-applies (testsAt e n lent) z 2 refl
+-- lent maps that do not refuse are sound, and the summaries agree
+pub lent-good : (b a : Bool) → eqb (pick {A = ℕ} (not b) 2 (pick (not a) 18 0)) 2 ≡ false → eqb (pick {A = ℕ} (not b) 2 (pick (not a) 18 0)) 18 ≡ false → (b ≡ true) × (a ≡ true)
+lent-good true true e f = (refl, refl)
+lent-good true false e f = clash refl f
+lent-good false a e f = clash refl e
 
--- lent maps that do not refuse are sound
-pub lent-sound : (b : Bool) → eqb (pick (not b) 2 0) 2 ≡ false → b ≡ true
-lent-sound true e = refl
-lent-sound false e = clash refl e
+pub law-sure : (e : Event) (s : StorageNode) (xs ys : List ℕ) → refusal (testsAt e (s .node) (lentTo s xs ys)) ≡ 0 → ((sound (s .node .chunks) xs && sound (s .node .chunks) ys) ≡ true) × (agree (s .summaries) xs ≡ true)
+law-sure e s xs ys z =
+    let h = law e (s .node) (lentTo s xs ys) in
+    let ts = testsAt e (s .node) (lentTo s xs ys) in
+    lent-good (sound (s .node .chunks) xs && sound (s .node .chunks) ys) (agree (s .summaries) xs) (sym (h .two) ∙ none-applies ts z 2 refl) (sym (h .eighteen) ∙ none-applies ts z 18 refl)
 
 -- the refusal of an event at a node with its maps, 0 for none
 abbrev whyNot : Event → StorageNode → List ℕ → List ℕ → ℕ
-whyNot e s xs ys = refusal (testsAt e (s .node) (lentTo (s .node) xs ys))
+whyNot e s xs ys = refusal (testsAt e (s .node) (lentTo s xs ys))
 
 -- ---- a turn is refused, or done
 
@@ -165,45 +173,56 @@ unfolding takenIn
 keeps-part Part.none ys = refl
 keeps-part (Part.some part) ys = refl
 
+-- so do summaries that agree, or that the maps were refused with
+pub words-stay : (s : StorageNode) (xs ys : List ℕ) → pick (eqb (lentTo s xs ys) 0) (summariesOf xs) (s .summaries) ≡ s .summaries
+words-stay s xs ys =
+    by-cases (eqb (lentTo s xs ys) 0)
+    (λ e. rw e (sym (one-summary .own (s .summaries) xs (lent-clear (s .node .chunks) (s .summaries) xs ys (lentTo s xs ys) refl (eqb-true (lentTo s xs ys) 0 e) .agrees))))
+    (λ e. rw e)
+
 unchanged : (e : Event) (s : StorageNode) (xs ys : List ℕ) (why : ℕ) → turnAt e s xs ys ≡ refused why (s .node) → Unchanged e s xs ys
-unfolding mapBy stagingBy mapAfter stagingAfter
+unfolding mapBy stagingBy wordsBy mapAfter stagingAfter
 unchanged e s xs ys why q =
     record {
-      state = ap (λ (t : Turn). the-node t) q;
+      state = ap (λ (t : Turn). the-node t) q ∙ ap (λ (ws : List ℕ). with-words ws) (words-stay s xs ys);
       map = ap (λ (t : Turn). mapBy t xs ys) q;
       staging = ap (λ (t : Turn). stagingWith (partIn e) (t .effect .staging) (stagingBy t xs ys)) q ∙ keeps-part (partIn e) ys;
     }
   where
     the-node : Turn → StorageNode
-    the-node t = record { node = t .node }
+    the-node t = record { node = t .node; summaries = wordsBy (lentTo s xs ys) t (s .summaries) xs ys }
+
+    with-words : List ℕ → StorageNode
+    with-words ws = record { node = s .node; summaries = ws }
 
 pub refusal-changes-nothing : (e : Event) (s : StorageNode) (xs ys : List ℕ) (why : ℕ) → answers e s xs ys .answer ≡ Answer.Refused why → Unchanged e s xs ys
 refusal-changes-nothing e s xs ys why r =
-    let h = law e (s .node) (lentTo (s .node) xs ys) in
+    let h = law e (s .node) (lentTo s xs ys) in
     unchanged e s xs ys why
     (h .same ∙ refused-by (whyNot e s xs ys) why (s .node) (h .done) (h .plain) (ap (λ (t : Turn). t .answer) (sym (h .same)) ∙ r) .0)
 
 -- ---- an accepted event
 
 -- where no refusal applies it is accepted
-pub accepted-by : (e : Event) (s : StorageNode) (xs ys : List ℕ) → refusal (testsAt e (s .node) (lentTo (s .node) xs ys)) ≡ 0 → isRefused (answers e s xs ys .answer) ≡ false
+pub accepted-by : (e : Event) (s : StorageNode) (xs ys : List ℕ) → refusal (testsAt e (s .node) (lentTo s xs ys)) ≡ 0 → isRefused (answers e s xs ys .answer) ≡ false
 accepted-by e s xs ys z =
-    let h = law e (s .node) (lentTo (s .node) xs ys) in
+    let h = law e (s .node) (lentTo s xs ys) in
     ap (λ (t : Turn). isRefused (t .answer)) (h .same ∙ settled-done (whyNot e s xs ys) (s .node) (h .done) (eq-eqb (whyNot e s xs ys) 0 z)) ∙ h .plain
 
--- it is done; the node keeps its rules, and the lent maps are sound
+-- it is done; the node keeps its rules, the lent maps are sound, and the summaries agree
 pub record Accepted (e : Event) (s : StorageNode) (xs ys : List ℕ) : Type 0 where
-  pub none : refusal (testsAt e (s .node) (lentTo (s .node) xs ys)) ≡ 0
-  pub turn : turnAt e s xs ys ≡ law e (s .node) (lentTo (s .node) xs ys) .done
+  pub none : refusal (testsAt e (s .node) (lentTo s xs ys)) ≡ 0
+  pub turn : turnAt e s xs ys ≡ law e (s .node) (lentTo s xs ys) .done
   pub rules : Valid (s .node)
   pub sure : (sound (s .node .chunks) xs && sound (s .node .chunks) ys) ≡ true
+  pub agrees : agree (s .summaries) xs ≡ true
 
 pub accepted-done : (e : Event) (s : StorageNode) (xs ys : List ℕ) → isRefused (answers e s xs ys .answer) ≡ false → Accepted e s xs ys
 accepted-done e s xs ys a =
-    let h = law e (s .node) (lentTo (s .node) xs ys) in
+    let h = law e (s .node) (lentTo s xs ys) in
     let b = accepted (whyNot e s xs ys) (s .node) (h .done) (ap (λ (t : Turn). isRefused (t .answer)) (sym (h .same)) ∙ a) in
     let z = eqb-true (whyNot e s xs ys) 0 b in
-    record { none = z; turn = h .same ∙ settled-done (whyNot e s xs ys) (s .node) (h .done) b; rules = law-rules e (s .node) _ z; sure = lent-sound _ (law-sure e (s .node) _ z) }
+    record { none = z; turn = h .same ∙ settled-done (whyNot e s xs ys) (s .node) (h .done) b; rules = law-rules e (s .node) _ z; sure = law-sure e s xs ys z .0; agrees = law-sure e s xs ys z .1 }
 
 -- the state changes only along the table, and the rules are kept (the sixteen kept places are an array's)
 pub accepted-keeps : (e : Event) (s : StorageNode) (xs ys : List ℕ)
@@ -212,43 +231,64 @@ pub accepted-keeps : (e : Event) (s : StorageNode) (xs ys : List ℕ)
     → Keeps (kindOf e) (s .node) (answers e s xs ys .node .node)
 accepted-keeps e s xs ys l a =
     let d = accepted-done e s xs ys a in
-    subst (λ (t : Turn). Keeps (kindOf e) (s .node) (t .node)) (sym (d .turn)) (law e (s .node) (lentTo (s .node) xs ys) .keeps l (d .none))
+    subst (λ (t : Turn). Keeps (kindOf e) (s .node) (t .node)) (sym (d .turn)) (law e (s .node) (lentTo s xs ys) .keeps l (d .none))
 
 -- ---- rules and sound maps, from fresh on
 
--- a node that keeps its rules, with sound maps
+-- a node that keeps its rules, with sound maps and summaries that agree
 pub record Good (s : StorageNode) (xs ys : List ℕ) : Type 0 where
   pub rules : valid (s .node) ≡ true
   pub size : length (s .node .kept) ≡ 16
   pub map : sound (s .node .chunks) xs ≡ true
   pub staging : sound (s .node .chunks) ys ≡ true
+  pub agrees : agree (s .summaries) xs ≡ true
 
-pub fresh-good : (id chunks : ℕ) (xs ys : List ℕ) → 1 ≤ chunks → chunks ≤ 4096 → sound chunks xs ≡ true → sound chunks ys ≡ true → Good (freshNode id chunks) xs ys
+pub fresh-good : (id chunks : ℕ) (xs ys : List ℕ) → 1 ≤ chunks → chunks ≤ 4096 → sound chunks xs ≡ true → sound chunks ys ≡ true → agree (freshNode id chunks .summaries) xs ≡ true → Good (freshNode id chunks) xs ys
 unfolding fresh keptOk
-fresh-good id chunks xs ys a b m r =
+fresh-good id chunks xs ys a b m r w =
     record {
       rules = valid-of (fresh id chunks) (record { some = a; few = b; stand = refl; ids = omega arith; top = omega arith; keeps = refl; part = omega arith });
       size = refl;
       map = m;
       staging = r;
+      agrees = w;
     }
 
 sound-with : (c : ℕ) (z : Part) (e : OnStaging) (ys : List ℕ) → partFits c z e ≡ true → Sound c ys → Sound c (stagingWith z e ys)
 sound-with c Part.none e ys t r = r
 sound-with c (Part.some part) e ys t r = sound-taken c e part ys t r
 
+-- sound maps and summaries that agree do not refuse
+pub lent-zero : (s : StorageNode) (xs ys : List ℕ) → (sound (s .node .chunks) xs && sound (s .node .chunks) ys) ≡ true → agree (s .summaries) xs ≡ true → lentTo s xs ys ≡ 0
+lent-zero s xs ys b a = rw (b, a)
+
+-- and then the summaries that an event leaves are those of the map that it leaves
+pub words-left : (e : Event) (s : StorageNode) (xs ys : List ℕ) → lentTo s xs ys ≡ 0 → answers e s xs ys .node .summaries ≡ summariesOf (mapLeft e s xs ys)
+unfolding wordsBy
+words-left e s xs ys z = rw (eq-eqb (lentTo s xs ys) 0 z)
+
+-- accepted or refused: summaries that agree become those of the map that is left
+pub stays-true : (e : Event) (s : StorageNode) (xs ys : List ℕ) → agree (s .summaries) xs ≡ true → answers e s xs ys .node .summaries ≡ summariesOf (mapLeft e s xs ys)
+stays-true e s xs ys h =
+    let l = law e (s .node) (lentTo s xs ys) in
+    by-cases (eqb (whyNot e s xs ys) 0)
+    (λ b. let g = law-sure e s xs ys (eqb-true (whyNot e s xs ys) 0 b) in words-left e s xs ys (lent-zero s xs ys (g .0) (g .1)))
+    (λ b.
+    let u = unchanged e s xs ys (whyNot e s xs ys) (l .same ∙ settled-refused (whyNot e s xs ys) (s .node) (l .done) b) in
+    ap (λ (r : StorageNode). r .summaries) (u .state) ∙ (one-summary .own (s .summaries) xs h ∙ ap summariesOf (sym (u .map))))
+
 good-same : {s s′ : StorageNode} {xs xs′ ys ys′ : List ℕ} → s′ ≡ s → xs′ ≡ xs → ys′ ≡ ys → Good s xs ys → Good s′ xs′ ys′
 good-same a b c g = rw (a, b, c) g
 
 pub stays-good : (e : Event) (s : StorageNode) (xs ys : List ℕ) → Good s xs ys → Good (answers e s xs ys .node) (mapLeft e s xs ys) (stagingLeft e s xs ys)
-unfolding mapBy stagingBy
+unfolding mapBy stagingBy wordsBy
 stays-good e s xs ys g = by-cases (eqb (whyNot e s xs ys) 0) yes no
   where
     n : Node
     n = s .node
 
-    h : Law e n (lentTo n xs ys)
-    h = law e n (lentTo n xs ys)
+    h : Law e n (lentTo s xs ys)
+    h = law e n (lentTo s xs ys)
 
     no : eqb (whyNot e s xs ys) 0 ≡ false → Good (answers e s xs ys .node) (mapLeft e s xs ys) (stagingLeft e s xs ys)
     no b = let u = unchanged e s xs ys (whyNot e s xs ys) (h .same ∙ settled-refused (whyNot e s xs ys) n (h .done) b) in good-same (u .state) (u .map) (u .staging) g
@@ -270,6 +310,7 @@ stays-good e s xs ys g = by-cases (eqb (whyNot e s xs ys) 0) yes no
           size = k .size ∙ g .size;
           map = sound-test c (mapLeft e s xs ys) m;
           staging = sound-test c (stagingLeft e s xs ys) (sound-with c (partIn e) (t .effect .staging) _ sz (sound-staging c (t .effect .staging) (mapLeft e s xs ys) ys m sy));
+          agrees = ap (λ (ws : List ℕ). agree ws (mapLeft e s xs ys)) (words-left e s xs ys (lent-zero s xs ys (law-sure e s xs ys z .0) (law-sure e s xs ys z .1))) ∙ one-summary .agrees (mapLeft e s xs ys);
         }
 
 pub always-good : (es : List Event) (w : Held) → Good (w .at) (w .map) (w .staging) → Good (after es w .at) (after es w .map) (after es w .staging)

@@ -5,16 +5,20 @@ ghost use mathlib.Core.Bool.{_&&_};
 ghost use Rattle.refusals.specs.Limits.{numbers};
 ghost use Rattle.maps.specs.Map.{sound};
 ghost use Rattle.node.specs.Events.{Event};
-ghost use Rattle.node.specs.Face.{freshNode, lentNumber, handed, mapBy, stagingBy, answers, mapLeft, stagingLeft, checked};
+ghost use Rattle.node.specs.Face.{freshNode, lentNumber, Lent, handed, mapBy, stagingBy, wordsBy, answers, mapLeft, stagingLeft, checked, nextAt};
 use nodechecks::Checked;
+use nodenext::Next;
 use nodestate::Answer;
 use nodestate::Node;
 use nodestate::Turn;
 use refusals::Numbers;
 use state::Op;
+use summaries::Summaries;
 
+// The state of the rules, and the summaries of the map.
 pub struct StorageNode {
     pub node: Node,
+    pub summaries: Summaries,
 }
 
 pub struct Out {
@@ -25,6 +29,12 @@ pub struct Out {
 // What a node hands back that is asked whether its row is empty: it stays as it is.
 pub struct Asked {
     pub answer: Checked,
+    pub node: StorageNode,
+}
+
+// What a node hands back that is asked for the next dirty chunk: it stays as it is.
+pub struct Searched {
+    pub answer: Next,
     pub node: StorageNode,
 }
 
@@ -54,7 +64,10 @@ impl StorageNode {
         ensures { λ r. ⌜ r ≡ freshNode id chunks ⌝ }
     {
         let n = nodestate::change::fresh(id, chunks);
-        StorageNode { node: n }
+        StorageNode {
+            node: n,
+            summaries: [0; 96],
+        }
     }
 
     // Register create: EMPTY to REGISTERED, all that was known gone.
@@ -64,9 +77,10 @@ impl StorageNode {
         ensures { λ _. ⌜ now (staging .exit) ≡ stagingLeft Event.registerCreate self (now (map .entry)) (now (staging .entry)) ⌝ }
     {
         let n = self.node;
-        let lent = lent_number(n.chunks, map, staging);
+        let w = self.summaries;
+        let lent = lent_number(n.chunks, w, map, staging);
         let t = noderegister::register_create(n, lent);
-        finish(t, map, staging)
+        finish(t, lent, w, map, staging)
     }
 
     // Register add: a store that brings its member set and version.
@@ -76,9 +90,10 @@ impl StorageNode {
         ensures { λ _. ⌜ now (staging .exit) ≡ stagingLeft (Event.registerAdd set version) self (now (map .entry)) (now (staging .entry)) ⌝ }
     {
         let n = self.node;
-        let lent = lent_number(n.chunks, map, staging);
+        let w = self.summaries;
+        let lent = lent_number(n.chunks, w, map, staging);
         let t = noderegister::register_add(n, lent, set, version);
-        finish(t, map, staging)
+        finish(t, lent, w, map, staging)
     }
 
     // Unregister: the store goes.
@@ -88,9 +103,10 @@ impl StorageNode {
         ensures { λ _. ⌜ now (staging .exit) ≡ stagingLeft (Event.unregister delete) self (now (map .entry)) (now (staging .entry)) ⌝ }
     {
         let n = self.node;
-        let lent = lent_number(n.chunks, map, staging);
+        let w = self.summaries;
+        let lent = lent_number(n.chunks, w, map, staging);
         let t = noderegister::unregister(n, lent, delete);
-        finish(t, map, staging)
+        finish(t, lent, w, map, staging)
     }
 
     // Join in create mode, with the members so far.
@@ -100,9 +116,10 @@ impl StorageNode {
         ensures { λ _. ⌜ now (staging .exit) ≡ stagingLeft (Event.joinCreate set) self (now (map .entry)) (now (staging .entry)) ⌝ }
     {
         let n = self.node;
-        let lent = lent_number(n.chunks, map, staging);
+        let w = self.summaries;
+        let lent = lent_number(n.chunks, w, map, staging);
         let t = nodejoins::join_create(n, lent, set);
-        finish(t, map, staging)
+        finish(t, lent, w, map, staging)
     }
 
     // Assemble or rejoin.
@@ -112,9 +129,10 @@ impl StorageNode {
         ensures { λ _. ⌜ now (staging .exit) ≡ stagingLeft Event.assemble self (now (map .entry)) (now (staging .entry)) ⌝ }
     {
         let n = self.node;
-        let lent = lent_number(n.chunks, map, staging);
+        let w = self.summaries;
+        let lent = lent_number(n.chunks, w, map, staging);
         let t = nodejoins::assemble(n, lent);
-        finish(t, map, staging)
+        finish(t, lent, w, map, staging)
     }
 
     // The session leaves the pool.
@@ -124,9 +142,10 @@ impl StorageNode {
         ensures { λ _. ⌜ now (staging .exit) ≡ stagingLeft (Event.leave delete) self (now (map .entry)) (now (staging .entry)) ⌝ }
     {
         let n = self.node;
-        let lent = lent_number(n.chunks, map, staging);
+        let w = self.summaries;
+        let lent = lent_number(n.chunks, w, map, staging);
         let t = nodejoins::leave(n, lent, delete);
-        finish(t, map, staging)
+        finish(t, lent, w, map, staging)
     }
 
     // Enable 1: IOs are allowed.
@@ -136,9 +155,10 @@ impl StorageNode {
         ensures { λ _. ⌜ now (staging .exit) ≡ stagingLeft (Event.enable1 version set) self (now (map .entry)) (now (staging .entry)) ⌝ }
     {
         let n = self.node;
-        let lent = lent_number(n.chunks, map, staging);
+        let w = self.summaries;
+        let lent = lent_number(n.chunks, w, map, staging);
         let t = nodeenables::enable1(n, lent, version, set);
-        finish(t, map, staging)
+        finish(t, lent, w, map, staging)
     }
 
     // Enable 0: maintenance.
@@ -148,9 +168,10 @@ impl StorageNode {
         ensures { λ _. ⌜ now (staging .exit) ≡ stagingLeft Event.enable0 self (now (map .entry)) (now (staging .entry)) ⌝ }
     {
         let n = self.node;
-        let lent = lent_number(n.chunks, map, staging);
+        let w = self.summaries;
+        let lent = lent_number(n.chunks, w, map, staging);
         let t = nodeenables::enable0(n, lent);
-        finish(t, map, staging)
+        finish(t, lent, w, map, staging)
     }
 
     // An error of IO or network.
@@ -160,9 +181,10 @@ impl StorageNode {
         ensures { λ _. ⌜ now (staging .exit) ≡ stagingLeft Event.fault self (now (map .entry)) (now (staging .entry)) ⌝ }
     {
         let n = self.node;
-        let lent = lent_number(n.chunks, map, staging);
+        let w = self.summaries;
+        let lent = lent_number(n.chunks, w, map, staging);
         let t = nodeenables::fault(n, lent);
-        finish(t, map, staging)
+        finish(t, lent, w, map, staging)
     }
 
     // A write that reached this node and not the members of the set.
@@ -179,9 +201,10 @@ impl StorageNode {
         ensures { λ _. ⌜ now (staging .exit) ≡ stagingLeft (Event.write chunk set version) self (now (map .entry)) (now (staging .entry)) ⌝ }
     {
         let n = self.node;
-        let lent = lent_number(n.chunks, map, staging);
+        let w = self.summaries;
+        let lent = lent_number(n.chunks, w, map, staging);
         let t = nodewrites::write::write(n, lent, chunk, set, version);
-        finish(t, map, staging)
+        finish(t, lent, w, map, staging)
     }
 
     // A chunk was synced for a member.
@@ -191,9 +214,10 @@ impl StorageNode {
         ensures { λ _. ⌜ now (staging .exit) ≡ stagingLeft (Event.synced member chunk) self (now (map .entry)) (now (staging .entry)) ⌝ }
     {
         let n = self.node;
-        let lent = lent_number(n.chunks, map, staging);
+        let w = self.summaries;
+        let lent = lent_number(n.chunks, w, map, staging);
         let t = nodewrites::write::synced(n, lent, member, chunk);
-        finish(t, map, staging)
+        finish(t, lent, w, map, staging)
     }
 
     // POOL_INFO: another member came or went.
@@ -203,9 +227,10 @@ impl StorageNode {
         ensures { λ _. ⌜ now (staging .exit) ≡ stagingLeft (Event.poolInfo op member) self (now (map .entry)) (now (staging .entry)) ⌝ }
     {
         let n = self.node;
-        let lent = lent_number(n.chunks, map, staging);
+        let w = self.summaries;
+        let lent = lent_number(n.chunks, w, map, staging);
         let t = nodewrites::info::pool_info(n, lent, op, member);
-        finish(t, map, staging)
+        finish(t, lent, w, map, staging)
     }
 
     // MAP_READY: a transfer begins, from what the map holds or from nothing.
@@ -215,9 +240,10 @@ impl StorageNode {
         ensures { λ _. ⌜ now (staging .exit) ≡ stagingLeft (Event.mapReady keep) self (now (map .entry)) (now (staging .entry)) ⌝ }
     {
         let n = self.node;
-        let lent = lent_number(n.chunks, map, staging);
+        let w = self.summaries;
+        let lent = lent_number(n.chunks, w, map, staging);
         let t = nodeserve::map_ready(n, lent, keep);
-        finish(t, map, staging)
+        finish(t, lent, w, map, staging)
     }
 
     // A part of the map goes out, the map's bytes from the offset on: where it goes is the caller's.
@@ -227,9 +253,10 @@ impl StorageNode {
         ensures { λ _. ⌜ now (staging .exit) ≡ stagingLeft (Event.givePart offset length) self (now (map .entry)) (now (staging .entry)) ⌝ }
     {
         let n = self.node;
-        let lent = lent_number(n.chunks, map, staging);
+        let w = self.summaries;
+        let lent = lent_number(n.chunks, w, map, staging);
         let t = nodeserve::give_part(n, lent, offset, length);
-        finish(t, map, staging)
+        finish(t, lent, w, map, staging)
     }
 
     // A part of a map is taken: ORed into staging at its offset.
@@ -239,13 +266,14 @@ impl StorageNode {
         ensures { λ _. ⌜ now (staging .exit) ≡ stagingLeft (Event.takePart offset (now (part .entry))) self (now (map .entry)) (now (staging .entry)) ⌝ }
     {
         let n = self.node;
-        let lent = lent_number(n.chunks, map, staging);
+        let w = self.summaries;
+        let lent = lent_number(n.chunks, w, map, staging);
         let clean = parts::is_clean(part, n.chunks, offset);
         let length = part.len() as u64;
         let t = nodehand::take_part(n, lent, offset, length, clean);
         let e = t.effect;
         let s = e.staging;
-        let out = finish(t, map, staging);
+        let out = finish(t, lent, w, map, staging);
         nodemaps::take_in(s, part, staging);
         out
     }
@@ -264,9 +292,10 @@ impl StorageNode {
         ensures { λ _. ⌜ now (staging .exit) ≡ stagingLeft (Event.mapDone enabling version set) self (now (map .entry)) (now (staging .entry)) ⌝ }
     {
         let n = self.node;
-        let lent = lent_number(n.chunks, map, staging);
+        let w = self.summaries;
+        let lent = lent_number(n.chunks, w, map, staging);
         let t = nodehand::map_done(n, lent, enabling, version, set);
-        finish(t, map, staging)
+        finish(t, lent, w, map, staging)
     }
 
     // MAP_DISABLE: the transfer is given up.
@@ -276,9 +305,10 @@ impl StorageNode {
         ensures { λ _. ⌜ now (staging .exit) ≡ stagingLeft Event.mapDisable self (now (map .entry)) (now (staging .entry)) ⌝ }
     {
         let n = self.node;
-        let lent = lent_number(n.chunks, map, staging);
+        let w = self.summaries;
+        let lent = lent_number(n.chunks, w, map, staging);
         let t = nodehand::map_disable(n, lent);
-        finish(t, map, staging)
+        finish(t, lent, w, map, staging)
     }
 
     // MAP_GET_VER: the answer carries the version.
@@ -288,9 +318,10 @@ impl StorageNode {
         ensures { λ _. ⌜ now (staging .exit) ≡ stagingLeft Event.mapGetVer self (now (map .entry)) (now (staging .entry)) ⌝ }
     {
         let n = self.node;
-        let lent = lent_number(n.chunks, map, staging);
+        let w = self.summaries;
+        let lent = lent_number(n.chunks, w, map, staging);
         let t = nodeserve::map_get_ver(n, lent);
-        finish(t, map, staging)
+        finish(t, lent, w, map, staging)
     }
 
     // LAST_IO_TO_MAP: the kept chunks go into the map.
@@ -300,9 +331,10 @@ impl StorageNode {
         ensures { λ _. ⌜ now (staging .exit) ≡ stagingLeft (Event.lastIoToMap chosen) self (now (map .entry)) (now (staging .entry)) ⌝ }
     {
         let n = self.node;
-        let lent = lent_number(n.chunks, map, staging);
+        let w = self.summaries;
+        let lent = lent_number(n.chunks, w, map, staging);
         let t = nodeserve::last_io_to_map(n, lent, chosen);
-        finish(t, map, staging)
+        finish(t, lent, w, map, staging)
     }
 
     // A leg was added to the pool in service: every chunk is dirty for it.
@@ -312,9 +344,10 @@ impl StorageNode {
         ensures { λ _. ⌜ now (staging .exit) ≡ stagingLeft (Event.fill member version) self (now (map .entry)) (now (staging .entry)) ⌝ }
     {
         let n = self.node;
-        let lent = lent_number(n.chunks, map, staging);
+        let w = self.summaries;
+        let lent = lent_number(n.chunks, w, map, staging);
         let t = nodefills::fill(n, lent, member, version);
-        finish(t, map, staging)
+        finish(t, lent, w, map, staging)
     }
 
     // Map check: whether the node is NORMAL and its own row is empty. The maps are only read.
@@ -322,7 +355,8 @@ impl StorageNode {
         ensures { λ r. ⌜ r ≡ checked self (now (map .entry)) (now (staging .entry)) ⌝ }
     {
         let n = self.node;
-        let lent = lent_number(n.chunks, map, staging);
+        let w = self.summaries;
+        let lent = lent_number(n.chunks, w, map, staging);
         let clean = emptyrows::is_empty(map, n.id);
         let answer = nodechecks::map_check(n, lent, clean);
         Asked {
@@ -330,14 +364,31 @@ impl StorageNode {
             node: self,
         }
     }
+
+    // The first dirty chunk of a member's row at or after the start, found by the summaries. The maps are only read.
+    pub fn next(self, map: &[u8], staging: &[u8], member: u64, start: u64) -> Searched
+        ensures { λ r. ⌜ r ≡ nextAt self (now (map .entry)) (now (staging .entry)) member start ⌝ }
+    {
+        let n = self.node;
+        let w = self.summaries;
+        let lent = lent_number(n.chunks, w, map, staging);
+        let s = searching::search_row(&w, map, member, start);
+        let found = s.found;
+        let answer = nodenext::next_dirty(n, lent, member, start, found);
+        Searched {
+            answer: answer,
+            node: self,
+        }
+    }
 }
 
 // The number that the lent maps refuse with, 0 where they do not.
-fn lent_number(chunks: u64, map: &[u8], staging: &[u8]) -> u64
-    ensures { λ r. ⌜ r ≡ lentNumber chunks (now (map .entry)) (now (staging .entry)) ⌝ }
+fn lent_number(chunks: u64, words: Summaries, map: &[u8], staging: &[u8]) -> u64
+    ensures { λ r. ⌜ r ≡ lentNumber chunks words (now (map .entry)) (now (staging .entry)) ⌝ }
 {
     let both = both_sound(chunks, map, staging);
-    refusals::first(!both, 2, 0)
+    let agreed = summaries::agree(words, map);
+    refusals::first(!both, 2, refusals::first(!agreed, 18, 0))
 }
 
 fn both_sound(chunks: u64, map: &[u8], staging: &[u8]) -> bool
@@ -346,18 +397,24 @@ fn both_sound(chunks: u64, map: &[u8], staging: &[u8]) -> bool
     maps::is_sound(map, chunks) & maps::is_sound(staging, chunks)
 }
 
-// Carries out what is due to the maps, and hands the answer back with the state.
-fn finish(t: Turn, map: &mut [u8], staging: &mut [u8]) -> Out
-    ensures { λ r. ⌜ r ≡ handed t ⌝ }
+// Carries out what is due to the maps, has the summaries follow, and hands the answer back with the state.
+fn finish(t: Turn, lent: u64, words: Summaries, map: &mut [u8], staging: &mut [u8]) -> Out
+    requires { ⌜ (lent ≡ 0 → Lent words (now map)) ⌝ }
+    ensures { λ r. ⌜ r ≡ handed t (wordsBy lent t words (now (map .entry)) (now (staging .entry))) ⌝ }
     ensures { λ _. ⌜ now (map .exit) ≡ mapBy t (now (map .entry)) (now (staging .entry)) ⌝ }
     ensures { λ _. ⌜ now (staging .exit) ≡ stagingBy t (now (map .entry)) (now (staging .entry)) ⌝ }
 {
     let e = t.effect;
     let a = t.answer;
     let n = t.node;
+    let m = e.map;
     nodemaps::carry(e, n, map, staging);
+    let w = nodesummaries::after(lent, m, words, map);
     Out {
         answer: a,
-        node: StorageNode { node: n },
+        node: StorageNode {
+            node: n,
+            summaries: w,
+        },
     }
 }

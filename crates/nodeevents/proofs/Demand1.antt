@@ -28,8 +28,8 @@ demand-1 e s xs ys = at (eqb why 0) refl
     why : ℕ
     why = refusal (testsOf e s xs ys)
 
-    h : Law e (s .node) (lentTo (s .node) xs ys)
-    h = law e (s .node) (lentTo (s .node) xs ys)
+    h : Law e (s .node) (lentTo s xs ys)
+    h = law e (s .node) (lentTo s xs ys)
 
     turn : (b : Bool) → eqb why 0 ≡ b → turnAt e s xs ys ≡ pick b (h .done) (refused why (s .node))
     turn b z = h .same ∙ ap (λ (x : Bool). pick x (h .done) (refused why (s .node))) z

@@ -4,25 +4,24 @@ use mathlib.Core.Bool.{Bool, true, false, not}
 use mathlib.Core.List.{List}
 use Prim.Native.Nat.{ℕ}
 use lib.Dec.{eqb}
-use Rattle.laws.specs.Words.{pick}
 use Rattle.laws.specs.Tests.{clash, and-both}
 use Rattle.refusals.specs.Refusals.{applies}
 use Rattle.nodestate.specs.declared.Answer.{Answer}
 use Rattle.node.specs.declared.StorageNode.{StorageNode}
 use Rattle.node.specs.Events.{Event}
 use Rattle.node.specs.Face.{lentTo, answers}
-use Rattle.node.proofs.Theorems.{isRefused, law, Good, fresh-good, stays-good, accepted-keeps}
+use Rattle.node.proofs.Theorems.{isRefused, law, lent-zero, Good, fresh-good, stays-good, accepted-keeps}
 use Rattle.nodeevents.specs.Tests.{testsOf}
 use Rattle.nodeevents.specs.Demand1.{isAccepted, Verdict}
-use Rattle.nodeevents.specs.Demand2.{Reached, RulesKept, NeverOne, NeverTwo, ByTheTable}
+use Rattle.nodeevents.specs.Demand2.{Reached, RulesKept, NeverOne, NeverTwo, NeverEighteen, ByTheTable}
 use Rattle.nodeevents.proofs.Demand1.{demand-1}
 
 pub reached-good : (s : StorageNode) (xs ys : List ℕ) → Reached s xs ys → Good s xs ys
-reached-good _ _ _ (Reached.start id chunks xs ys a b m r) = fresh-good id chunks xs ys a b m r
+reached-good _ _ _ (Reached.start id chunks xs ys a b m r w) = fresh-good id chunks xs ys a b m r w
 reached-good _ _ _ (Reached.then s xs ys e r) = stays-good e s xs ys (reached-good s xs ys r)
 
 pub rules-kept : RulesKept
-rules-kept s xs ys r = let g = reached-good s xs ys r in (g .rules, g .map, g .staging)
+rules-kept s xs ys r = let g = reached-good s xs ys r in (g .rules, g .map, g .staging, g .agrees)
 
 -- a refusal that was given applies
 given : (e : Event) (s : StorageNode) (xs ys : List ℕ) (n : ℕ) → answers e s xs ys .answer ≡ Answer.Refused n → applies n (testsOf e s xs ys) ≡ true
@@ -35,13 +34,19 @@ given e s xs ys n q = at (demand-1 e s xs ys)
 pub never-one : NeverOne
 never-one s xs ys r e n q z =
     clash (ap (λ (k : ℕ). applies k (testsOf e s xs ys)) (sym z) ∙ given e s xs ys n q)
-    (law e (s .node) (lentTo (s .node) xs ys) .one ∙ ap not (reached-good s xs ys r .rules))
+    (law e (s .node) (lentTo s xs ys) .one ∙ ap not (reached-good s xs ys r .rules))
 
 pub never-two : NeverTwo
 never-two s xs ys r e n q z =
     let g = reached-good s xs ys r in
     clash (ap (λ (k : ℕ). applies k (testsOf e s xs ys)) (sym z) ∙ given e s xs ys n q)
-    (law e (s .node) (lentTo (s .node) xs ys) .two ∙ ap (λ (b : Bool). eqb (pick (not b) 2 0) 2) (and-both (g .map) (g .staging)))
+    (law e (s .node) (lentTo s xs ys) .two ∙ ap (λ (k : ℕ). eqb k 2) (lent-zero s xs ys (and-both (g .map) (g .staging)) (g .agrees)))
+
+pub never-eighteen : NeverEighteen
+never-eighteen s xs ys r e n q z =
+    let g = reached-good s xs ys r in
+    clash (ap (λ (k : ℕ). applies k (testsOf e s xs ys)) (sym z) ∙ given e s xs ys n q)
+    (law e (s .node) (lentTo s xs ys) .eighteen ∙ ap (λ (k : ℕ). eqb k 18) (lent-zero s xs ys (and-both (g .map) (g .staging)) (g .agrees)))
 
 pub taken-plain : (a : Answer) → isAccepted a ≡ true → isRefused a ≡ false
 taken-plain (Answer.Refused n) e = clash e refl

@@ -4,3 +4,4 @@ pub mod Unique
 pub mod Said
 pub mod Received
 pub mod Parts
+pub mod Summaries

@@ -36,7 +36,7 @@ pub only-parts : OnlyParts
 unfolding takePartRefusal
 only-parts offset part w a =
     let n = w .at .node in
-    let p = takePart-passed n (lentTo n (w .map) (w .staging)) offset (length part) (cleanFrom (n .chunks) offset part) (known (Event.takePart offset part) w a .none) in
+    let p = takePart-passed n (lentTo (w .at) (w .map) (w .staging)) offset (length part) (cleanFrom (n .chunks) offset part) (known (Event.takePart offset part) w a .none) in
     record {
       some = p .1 .part .some;
       few = p .1 .part .few;
@@ -49,7 +49,7 @@ pub only-given : OnlyGiven
 unfolding givePartRefusal
 only-given offset size w a =
     let n = w .at .node in
-    let p = givePart-passed n (lentTo n (w .map) (w .staging)) offset size (known (Event.givePart offset size) w a .none) .1 in
+    let p = givePart-passed n (lentTo (w .at) (w .map) (w .staging)) offset size (known (Event.givePart offset size) w a .none) .1 in
     (p .some, p .few, p .within)
 
 pub refused-part : RefusedPart

@@ -39,11 +39,11 @@ use Rattle.nodeserve.specs.Serve.{serveRefusal, givePartRefusal, readied}
 use Rattle.nodehand.specs.Hand.{takePartRefusal, partTaken, mapDoneRefusal}
 use Rattle.nodehand.proofs.Keeps.{mapDone-passed}
 use Rattle.node.specs.Events.{Event, partIn, testsAt}
-use Rattle.node.specs.Face.{lentTo, mapBy, stagingBy, stagingWith, answers}
+use Rattle.node.specs.Face.{lentTo, mapBy, stagingBy, stagingWith, wordsBy, answers}
 use Rattle.node.specs.Held.{Held, next, after}
 use Rattle.node.specs.Cuts.{sized, total, Cuts, takes}
 use Rattle.node.proofs.Cuts.{next-part, later-parts}
-use Rattle.node.proofs.Theorems.{law, accepted-by, Good, stays-good}
+use Rattle.node.proofs.Theorems.{law, words-stay, accepted-by, lent-zero, Good, stays-good}
 use Rattle.nodeevents.proofs.Demand1.{not-refused}
 use Rattle.nodeevents.specs.Said.{Accepts, Rows, Ored, In, ready, took, AllAccepted, Able, Came, GivesParts, PartsTaken, PartsAsWhole, AnyCuts, Receives, OldMarksGone, OldMarksKept, NotBefore}
 use Rattle.nodeevents.proofs.Said.{known, ors, each-bit, staging-as-said, transfer-as-said, map-as-said}
@@ -51,16 +51,16 @@ use Rattle.nodeevents.proofs.Said.{known, ors, each-bit, staging-as-sai
 -- ---- the bytes below a have come
 
 abbrev partly : List ℕ → ℕ → Held → Held
-partly zs a w = record { at = record { node = transferred (w .at .node) (Transfer.InHand a) }; map = w .map; staging = orFrom 0 a (w .staging) zs }
+partly zs a w = record { at = record { node = transferred (w .at .node) (Transfer.InHand a); summaries = w .at .summaries }; map = w .map; staging = orFrom 0 a (w .staging) zs }
 
 -- the next part comes
 took-part : (zs : List ℕ) (a l : ℕ) (w : Held) → a + l ≤ length zs → Accepts (Event.takePart a (partOf a l zs)) (partly zs a w) → next (Event.takePart a (partOf a l zs)) (partly zs a w) ≡ partly zs (a + l) w
-unfolding law partTaken transferred mapBy stagingBy mapAfter stagingAfter takenIn
+unfolding law partTaken transferred mapBy stagingBy wordsBy mapAfter stagingAfter takenIn
 took-part zs a l w h acc =
-    ap (λ (t : Turn). leaves t) (known (Event.takePart a (partOf a l zs)) (partly zs a w) acc .turn) ∙ rw (length-partOf a l zs h, parts-more a l (w .staging) zs h) refl
+    ap (λ (t : Turn). leaves t) (known (Event.takePart a (partOf a l zs)) (partly zs a w) acc .turn) ∙ rw (length-partOf a l zs h, parts-more a l (w .staging) zs h, words-stay (partly zs a w .at) (w .map) (orFrom 0 a (w .staging) zs)) refl
   where
     leaves : Turn → Held
-    leaves t = record { at = record { node = t .node }; map = mapBy t (w .map) (orFrom 0 a (w .staging) zs); staging = stagingWith (partIn (Event.takePart a (partOf a l zs))) (t .effect .staging) (stagingBy t (w .map) (orFrom 0 a (w .staging) zs)) }
+    leaves t = record { at = record { node = t .node; summaries = wordsBy (lentTo (partly zs a w .at) (w .map) (orFrom 0 a (w .staging) zs)) t (w .at .summaries) (w .map) (orFrom 0 a (w .staging) zs) }; map = mapBy t (w .map) (orFrom 0 a (w .staging) zs); staging = stagingWith (partIn (Event.takePart a (partOf a l zs))) (t .effect .staging) (stagingBy t (w .map) (orFrom 0 a (w .staging) zs)) }
 
 -- all parts of a list come
 all-took : (zs ls : List ℕ) (a : ℕ) (w : Held) → a + total ls ≤ length zs → AllAccepted (takes zs a ls) (partly zs a w) → after (takes zs a ls) (partly zs a w) ≡ partly zs (a + total ls) w
@@ -79,46 +79,46 @@ both w g = and-both (g .map) (g .staging)
 
 -- what its maps refuse with
 abbrev lentAt : Held → ℕ
-lentAt w = lentTo (w .at .node) (w .map) (w .staging)
+lentAt w = lentTo (w .at) (w .map) (w .staging)
 
--- sound maps do not refuse
-not-lent : {b : Bool} → b ≡ true → eqb (pick (not b) 2 0) 2 ≡ false
-not-lent e = rw e refl
+-- sound maps and true summaries do not refuse
+not-lent : (w : Held) → GoodAt w → lentAt w ≡ 0
+not-lent w g = lent-zero (w .at) (w .map) (w .staging) (both w g) (g .agrees)
 
 taken-by : (e : Event) (w : Held) → refusal (testsAt e (w .at .node) (lentAt w)) ≡ 0 → Accepts e w
 taken-by e w z = not-refused (answers e (w .at) (w .map) (w .staging) .answer) (accepted-by e (w .at) (w .map) (w .staging) z)
 
-serve-none : (n : Node) (lent : ℕ) → valid n ≡ true → eqb lent 2 ≡ false → n .id < 16 → isServing n ≡ true → serveRefusal n lent ≡ 0
+serve-none : (n : Node) (lent : ℕ) → valid n ≡ true → lent ≡ 0 → n .id < 16 → isServing n ≡ true → serveRefusal n lent ≡ 0
 unfolding serveRefusal
 serve-none n lent v l i s = rw (v, l, le-ltb 15 (n .id) (omega arith), s)
 
-give-none : (n : Node) (lent offset size : ℕ) → valid n ≡ true → eqb lent 2 ≡ false → n .id < 16 → isServing n ≡ true → isPart offset size ≡ true → givePartRefusal n lent offset size ≡ 0
+give-none : (n : Node) (lent offset size : ℕ) → valid n ≡ true → lent ≡ 0 → n .id < 16 → isServing n ≡ true → isPart offset size ≡ true → givePartRefusal n lent offset size ≡ 0
 unfolding givePartRefusal
 give-none n lent offset size v l i s p = rw (v, l, le-ltb 15 (n .id) (omega arith), s, p)
 
-part-none : (n : Node) (lent offset length : ℕ) (clean : Bool) → valid n ≡ true → eqb lent 2 ≡ false → n .id < 16 → inHand (n .transfer) ≡ true → isPart offset length ≡ true → offset ≡ taken (n .transfer) → clean ≡ true → takePartRefusal n lent offset length clean ≡ 0
+part-none : (n : Node) (lent offset length : ℕ) (clean : Bool) → valid n ≡ true → lent ≡ 0 → n .id < 16 → inHand (n .transfer) ≡ true → isPart offset length ≡ true → offset ≡ taken (n .transfer) → clean ≡ true → takePartRefusal n lent offset length clean ≡ 0
 unfolding takePartRefusal
 part-none n lent offset length clean v l i s p o c = rw (v, l, le-ltb 15 (n .id) (omega arith), s, p, eq-eqb offset (taken (n .transfer)) o, c)
 
-done-none : (n : Node) (lent : ℕ) (version set : ℕ) → valid n ≡ true → eqb lent 2 ≡ false → n .id < 16 → set ≤ 65535 → has set (n .id) ≡ true → version ≤ versionLimit → isWhole (n .transfer) ≡ true → mapDoneRefusal n lent version set ≡ 0
+done-none : (n : Node) (lent : ℕ) (version set : ℕ) → valid n ≡ true → lent ≡ 0 → n .id < 16 → set ≤ 65535 → has set (n .id) ≡ true → version ≤ versionLimit → isWhole (n .transfer) ≡ true → mapDoneRefusal n lent version set ≡ 0
 unfolding mapDoneRefusal
 done-none n lent version set v l i b h o s = rw (v, l, le-ltb 15 (n .id) (omega arith), le-ltb 65535 set b, h, le-ltb versionLimit version o, s)
 
 readies : (keep : Bool) (w : Held) → GoodAt w → w .at .node .id < 16 → isServing (w .at .node) ≡ true → Accepts (Event.mapReady keep) w
 unfolding serveRefusal
-readies keep w g i s = taken-by (Event.mapReady keep) w (serve-none (w .at .node) (lentAt w) (g .rules) (not-lent (both w g)) i s)
+readies keep w g i s = taken-by (Event.mapReady keep) w (serve-none (w .at .node) (lentAt w) (g .rules) (not-lent w g) i s)
 
 takes-part : (zs : List ℕ) (a l : ℕ) (w : Held) → GoodAt (partly zs a w) → w .at .node .id < 16 → Sound (w .at .node .chunks) zs → isPart a l ≡ true → a + l ≤ 8192 → Accepts (Event.takePart a (partOf a l zs)) (partly zs a w)
 unfolding takePartRefusal transferred
 takes-part zs a l w g i z p h =
     let e : length (partOf a l zs) ≡ l = length-partOf a l zs (omega (arith, z .len)) in
     taken-by (Event.takePart a (partOf a l zs)) (partly zs a w)
-    (part-none (partly zs a w .at .node) (lentAt (partly zs a w)) a (length (partOf a l zs)) _ (g .rules) (not-lent (both (partly zs a w) g)) i refl (rw e p) refl (clean-part (w .at .node .chunks) a l zs z h))
+    (part-none (partly zs a w .at .node) (lentAt (partly zs a w)) a (length (partOf a l zs)) _ (g .rules) (not-lent (partly zs a w) g) i refl (rw e p) refl (clean-part (w .at .node .chunks) a l zs z h))
 
 commits : (enabling : Bool) (version set : ℕ) (w : Held) → GoodAt w → set ≤ 65535 → has set (w .at .node .id) ≡ true → version ≤ versionLimit → isWhole (w .at .node .transfer) ≡ true → Accepts (Event.mapDone enabling version set) w
 unfolding mapDoneRefusal
 commits enabling version set w g b h o t =
-    taken-by (Event.mapDone enabling version set) w (done-none (w .at .node) (lentAt w) version set (g .rules) (not-lent (both w g)) (has-below set (w .at .node .id) h) b h o t)
+    taken-by (Event.mapDone enabling version set) w (done-none (w .at .node) (lentAt w) version set (g .rules) (not-lent w g) (has-below set (w .at .node .id) h) b h o t)
 
 -- all parts of a list are accepted, and leave a good node
 all-accepted : (zs ls : List ℕ) (a : ℕ) (w : Held) → sized ls ≡ true → a + total ls ≤ 8192 → GoodAt (partly zs a w) → w .at .node .id < 16 → Sound (w .at .node .chunks) zs → AllAccepted (takes zs a ls) (partly zs a w)
@@ -150,7 +150,7 @@ at-start zs v e = rw (parts-none (v .staging) zs, ← e) refl
 
 module _ (w : Held) (b : Able w) where
   good : GoodAt w
-  good = record { rules = b .rules; size = b .size; map = b .map; staging = b .staging }
+  good = record { rules = b .rules; size = b .size; map = b .map; staging = b .staging; agrees = b .agrees }
 
   own : w .at .node .id < 16
   own =
@@ -161,7 +161,7 @@ pub gives-parts : GivesParts
 unfolding givePartRefusal
 gives-parts offset size w b s f h =
     taken-by (Event.givePart offset size) w
-    (give-none (w .at .node) (lentAt w) offset size (b .rules) (not-lent (both w (good w b))) (own w b) (b .serves) (and-both (and-both (le-leb 1 size s) (le-leb size 1024 f)) (le-leb (offset + size) 8192 h)))
+    (give-none (w .at .node) (lentAt w) offset size (b .rules) (not-lent w (good w b)) (own w b) (b .serves) (and-both (and-both (le-leb 1 size s) (le-leb size 1024 f)) (le-leb (offset + size) 8192 h)))
 
 module _ (keep : Bool) (zs : List ℕ) (w : Held) (b : Able w) (z : sound (w .at .node .chunks) zs ≡ true) where
   starts : Accepts (Event.mapReady keep) w

@@ -61,7 +61,7 @@ use Rattle.nodeevents.proofs.Demand2.{taken-plain}
 
 -- the turn that it does
 abbrev doneAt : Event → Held → Turn
-doneAt e w = law e (w .at .node) (lentTo (w .at .node) (w .map) (w .staging)) .done
+doneAt e w = law e (w .at .node) (lentTo (w .at) (w .map) (w .staging)) .done
 
 abbrev pub Known : Event → Held → Type 0
 Known e w = Accepted e (w .at) (w .map) (w .staging)
@@ -397,7 +397,7 @@ done (Event.write chunk set version) w d =
     record {
       staging = refl;
       transfer = refl;
-      map = marks (w .at .node .chunks) (w .map) (map-sound (Event.write chunk set version) w d) set chunk (ltb-true _ _ (write-chunk (w .at .node) (lentTo (w .at .node) (w .map) (w .staging)) chunk set version (d .none))) (d .rules .few);
+      map = marks (w .at .node .chunks) (w .map) (map-sound (Event.write chunk set version) w d) set chunk (ltb-true _ _ (write-chunk (w .at .node) (lentTo (w .at) (w .map) (w .staging)) chunk set version (d .none))) (d .rules .few);
       kept = λ h. one-more (w .at .node .kept) (w .at .node .held) chunk h (few-held (w .at .node) (d .rules));
     }
 done (Event.synced member chunk) w d =
@@ -460,7 +460,7 @@ done (Event.takePart offset part) w d =
     record {
       staging =
           let e : Event = Event.takePart offset part in
-          let p = takePart-passed (w .at .node) (lentTo (w .at .node) (w .map) (w .staging)) offset (length part) _ (d .none) .1 in
+          let p = takePart-passed (w .at .node) (lentTo (w .at) (w .map) (w .staging)) offset (length part) _ (d .none) .1 in
           part-ors (w .at .node .chunks) (w .staging) (staging-sound e w d) offset part (p .pure) (p .part .within);
       transfer = refl;
       map = refl;
@@ -503,7 +503,7 @@ done (Event.fill member version) w d =
     record {
       staging = refl;
       transfer = refl;
-      map = fills (w .at .node .chunks) (w .map) (map-sound (Event.fill member version) w d) member (fill-member (w .at .node) (lentTo (w .at .node) (w .map) (w .staging)) member version (d .none)) (d .rules .few);
+      map = fills (w .at .node .chunks) (w .map) (map-sound (Event.fill member version) w d) member (fill-member (w .at .node) (lentTo (w .at) (w .map) (w .staging)) member version (d .none)) (d .rules .few);
       kept = λ h. refl;
     }
 

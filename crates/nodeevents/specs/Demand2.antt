@@ -6,6 +6,7 @@ use mathlib.Core.List.{List}
 use Prim.Native.Nat.{ℕ, _≤_}
 use Rattle.refusals.specs.Limits.{chunkLimit}
 use Rattle.maps.specs.Map.{sound}
+use Rattle.summaries.specs.Summary.{agree}
 use Rattle.nodestate.specs.declared.Answer.{Answer}
 use Rattle.nodestate.specs.StateRules.{valid}
 use Rattle.nodestate.specs.Table.{legal}
@@ -14,17 +15,18 @@ use Rattle.node.specs.Events.{Event, kindOf}
 use Rattle.node.specs.Face.{freshNode, answers, mapLeft, stagingLeft}
 use Rattle.nodeevents.specs.Demand1.{isAccepted}
 
--- A node with its map and staging is reached if it is a fresh one of any id, with 1 to 4,096 chunks and two sound maps, or what an event left of a reached one:
--- any event, with any data, accepted or refused.
+-- A node with its map and staging is reached if it is a fresh one of any id, with 1 to 4,096 chunks and two sound maps, its summaries agreeing with the map (in which nothing is dirty
+-- then), or what an event left of a reached one: any event, with any data, accepted or refused.
 pub data Reached : StorageNode → List ℕ → List ℕ → Type 0 where
   start : (id chunks : ℕ) (xs ys : List ℕ) → 1 ≤ chunks → chunks ≤ chunkLimit → sound chunks xs ≡ true → sound chunks ys ≡ true
+      → agree (freshNode id chunks .summaries) xs ≡ true
       → Reached (freshNode id chunks) xs ys
   then : (s : StorageNode) (xs ys : List ℕ) (e : Event) → Reached s xs ys → Reached (answers e s xs ys .node) (mapLeft e s xs ys) (stagingLeft e s xs ys)
 
--- Every reached node keeps the state rules, and its two maps are sound.
+-- Every reached node keeps the state rules, its two maps are sound, and its summaries agree with its map.
 abbrev pub RulesKept : Type 0
 RulesKept = (s : StorageNode) (xs ys : List ℕ) → Reached s xs ys
-    → (valid (s .node) ≡ true) × (sound (s .node .chunks) xs ≡ true) × (sound (s .node .chunks) ys ≡ true)
+    → (valid (s .node) ≡ true) × (sound (s .node .chunks) xs ≡ true) × (sound (s .node .chunks) ys ≡ true) × (agree (s .summaries) xs ≡ true)
 
 -- So refusal 1 is never given there.
 abbrev pub NeverOne : Type 0
@@ -33,6 +35,10 @@ NeverOne = (s : StorageNode) (xs ys : List ℕ) → Reached s xs ys → (e : Eve
 -- Nor is refusal 2.
 abbrev pub NeverTwo : Type 0
 NeverTwo = (s : StorageNode) (xs ys : List ℕ) → Reached s xs ys → (e : Event) (n : ℕ) → answers e s xs ys .answer ≡ Answer.Refused n → n ≢ 2
+
+-- Nor is 18.
+abbrev pub NeverEighteen : Type 0
+NeverEighteen = (s : StorageNode) (xs ys : List ℕ) → Reached s xs ys → (e : Event) (n : ℕ) → answers e s xs ys .answer ≡ Answer.Refused n → n ≢ 18
 
 -- Every accepted event at a reached node changes its state only along source document 003's table.
 abbrev pub ByTheTable : Type 0

@@ -3,3 +3,4 @@ pub mod Demand1
 pub mod Demand2
 pub mod Unique
 pub mod Said
+pub mod Summaries

@@ -12,6 +12,7 @@ use Rattle.refusals.specs.Limits.{mapBytes, versionLimit}
 use Rattle.sets.specs.Sets.{has}
 use Rattle.chunks.specs.Chunk.{dirty}
 use Rattle.maps.specs.Map.{sound}
+use Rattle.summaries.specs.Summary.{agree}
 use Rattle.state.specs.declared.Op.{Op}
 use Rattle.nodestate.specs.declared.State.{State}
 use Rattle.nodestate.specs.declared.Transfer.{Transfer}
@@ -233,12 +234,13 @@ abbrev pub AllAccepted : List Event → Held → Type 0
 AllAccepted [] w = Unit {0}
 AllAccepted (e ∷ es) w = Accepts e w × AllAccepted es (next e w)
 
--- a node that can receive: it keeps its state rules, has two sound maps and serves (and its array has its sixteen places)
+-- a node that can receive: it keeps its state rules, has two sound maps and true summaries, and serves (and its array has its sixteen places)
 pub record Able (w : Held) : Type 0 where
   pub size : length (w .at .node .kept) ≡ 16
   pub rules : valid (w .at .node) ≡ true
   pub map : sound (w .at .node .chunks) (w .map) ≡ true
   pub staging : sound (w .at .node .chunks) (w .staging) ≡ true
+  pub agrees : agree (w .at .summaries) (w .map) ≡ true
   pub serves : isServing (w .at .node) ≡ true
 
 -- It gives any part of its map.

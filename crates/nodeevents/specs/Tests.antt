@@ -7,4 +7,4 @@ use Rattle.node.specs.Events.{Event, testsAt}
 use Rattle.node.specs.Face.{lentTo}
 
 abbrev pub testsOf : Event → StorageNode → List ℕ → List ℕ → List Test
-testsOf e s xs ys = testsAt e (s .node) (lentTo (s .node) xs ys)
+testsOf e s xs ys = testsAt e (s .node) (lentTo s xs ys)

@@ -13,9 +13,9 @@ use Rattle.nodestate.specs.declared.Node.{Node}
 use Rattle.nodestate.specs.declared.Turn.{Turn}
 use Rattle.nodestate.specs.StateRules.{valid}
 
--- What every event of a node tests before its own tests: the state rules, and what the lent maps refuse with, 0 where they do not. The one place where both are named.
+-- What every event of a node tests before its own tests: the state rules, and what the lent maps refuse with: 2 or 18, and 0 where they do not. The one place where all are named.
 abbrev pub commonTests : Node → ℕ → List Test → List Test
-commonTests n lent own = test 1 (not (valid n)) ∷ test 2 (eqb lent 2) ∷ own
+commonTests n lent own = test 1 (not (valid n)) ∷ test 2 (eqb lent 2) ∷ test 18 (eqb lent 18) ∷ own
 
 -- what is done to map and staging
 abbrev pub does : OnMap → OnStaging → Effect

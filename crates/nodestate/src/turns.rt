@@ -16,10 +16,11 @@ use refusals::first;
 
 // What every event tests before its own tests: the state rules, and the number that the lent maps refuse with.
 pub fn common(n: Node, lent: u64, own: u64) -> u64
-    ensures { λ r. ⌜ r ≡ pick (not (valid n)) 1 (pick (eqb lent 2) 2 own) ⌝ }
+    ensures { λ r. ⌜ r ≡ pick (not (valid n)) 1 (pick (eqb lent 2) 2 (pick (eqb lent 18) 18 own)) ⌝ }
 {
     let ok = state_rules::valid(n);
-    first(!ok, 1, first(lent == 2, 2, own))
+    let maps = first(lent == 2, 2, first(lent == 18, 18, own));
+    first(!ok, 1, maps)
 }
 
 // What is done to map and staging.

@@ -1,4 +1,4 @@
--- How long the line of a node that was asked can be.
+-- How long the lines of a node that was asked can be.
 use Prim.Native.Nat.{_≤_}
 use mathlib.Core.Path.{_≡_}
 use mathlib.Core.Bool.{Bool}
@@ -13,7 +13,8 @@ use Rattle.say.specs.Say.{paired}
 use Rattle.nodestate.specs.declared.Node.{Node}
 use Rattle.saynode.specs.NodeLine.{nodeText}
 use Rattle.saynode.proofs.Fits.{node-length}
-use Rattle.saylab.specs.Lines.{askedText}
+use Rattle.searching.specs.declared.Found.{Found}
+use Rattle.saylab.specs.Lines.{askedText, foundText, nextText}
 
 -- It is at most 727 bytes.
 pub asked-length : (n : Node) (empty : Bool) → length (n .kept) ≡ 16 → length (askedText n empty) ≤ 727
@@ -21,3 +22,13 @@ unfolding askedText
 asked-length n empty e =
     rw (joined-length (nodeText n ∷ paired (bytes " empty=") (one empty) ∷ []), joined-length (bytes " empty=" ∷ decimal (one empty) ∷ []))
     (omega (arith, node-length n e, decimal-length (one empty)))
+
+-- With the next dirty chunk 726.
+found-length : (f : Found) → length (foundText f) ≤ 26
+unfolding foundText
+found-length (Found.At c) = rw (joined-length (bytes " next=" ∷ decimal c ∷ [])) (omega (arith, decimal-length c))
+found-length Found.Nothing = omega arith
+
+pub next-length : (n : Node) (f : Found) → length (n .kept) ≡ 16 → length (nextText n f) ≤ 726
+unfolding nextText
+next-length n f e = rw (joined-length (nodeText n ∷ foundText f ∷ [])) (omega (arith, node-length n e, found-length f))

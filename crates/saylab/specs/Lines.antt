@@ -16,6 +16,7 @@ use Rattle.sayclient.specs.Client.{clientText, lookText as Client·lookText}
 use Rattle.saynode.specs.NodeLine.{nodeText, lookText}
 use Rattle.sayrow.specs.Row.{rowText}
 use Rattle.sayrecord.specs.Text.{lastText}
+use Rattle.searching.specs.declared.Found.{Found}
 use Rattle.saylab.specs.declared.Said.{Said}
 
 -- a text and its newline
@@ -25,6 +26,14 @@ ended k s = emit (emits k s) 10
 -- what a node answers to map check: its line, and whether its own row is empty
 unfoldable pub askedText : Node → Bool → List ℕ
 askedText n empty = joined (nodeText n ∷ paired (bytes " empty=") (one empty) ∷ [])
+
+-- what a node answers that is asked for the next dirty chunk: its line, and the chunk, or that there is none
+unfoldable pub foundText : Found → List ℕ
+foundText (Found.At c) = paired (bytes " next=") c
+foundText Found.Nothing = bytes " next=none"
+
+unfoldable pub nextText : Node → Found → List ℕ
+nextText n f = joined (nodeText n ∷ foundText f ∷ [])
 
 -- what is said, p and check being the client's state and n the node's; a row is written apart
 abbrev pub lineIn : Ink → Said → Pool → Check → Node → Ink
@@ -36,6 +45,7 @@ lineIn k (Said.Refused why) p check n = ended k (paired (bytes "refused ") why)
 lineIn k (Said.Client sent) p check n = ended k (clientText p sent)
 lineIn k (Said.Node id) p check n = ended k (nodeText n)
 lineIn k (Said.Asked id empty) p check n = ended k (askedText n empty)
+lineIn k (Said.Next id found) p check n = ended k (nextText n found)
 lineIn k (Said.Row w m) p check n = k
 lineIn k Said.Look p check n = ended k (Client·lookText p check)
 lineIn k (Said.LookNode id) p check n = ended k (lookText n)

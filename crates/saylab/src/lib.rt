@@ -6,16 +6,18 @@ ghost use Rattle.say.specs.Say.{paired};
 ghost use Rattle.sayclient.specs.Client.{clientText, lookText as Client·lookText};
 ghost use Rattle.saynode.specs.NodeLine.{nodeText, lookText};
 ghost use Rattle.sayrecord.specs.Text.{lastText};
-ghost use Rattle.saylab.specs.Lines.{ended, askedText, lineIn, rowOf, rowIn};
+ghost use Rattle.saylab.specs.Lines.{ended, askedText, foundText, nextText, lineIn, rowOf, rowIn};
 use checks::Check;
 use forms::Which;
 use journal::Last;
 use nodestate::Node;
+use searching::Found;
 use state::Pool;
 use state::Sent;
 
 // Nothing: of a line that is passed over. Done: of one that sets the lab up. Client: an accepted event of the client. Node: one of this node. Asked: this node
-// was asked whether its own row is empty. Row: a member's row of a map. Look, LookNode: the further fields of the client, of this node. Record: that of the client's last event.
+// was asked whether its own row is empty. Next: it was asked for the next dirty chunk. Row: a member's row of a map. Look, LookNode: the further fields of the client, of this node. Record: that
+// of the client's last event.
 pub enum Said {
     Nothing,
     Unreadable,
@@ -25,6 +27,7 @@ pub enum Said {
     Client(Sent),
     Node(u64),
     Asked(u64, bool),
+    Next(u64, Found),
     Row(Which, u64),
     Look,
     LookNode(u64),
@@ -44,6 +47,7 @@ pub fn put_line(out: &mut [u8], at: usize, s: Said, p: Pool, k: Check, n: Node) 
         Said::Client(sent) => client_line(out, at, p, sent),
         Said::Node(id) => node_line(out, at, n),
         Said::Asked(id, empty) => asked_line(out, at, n, empty),
+        Said::Next(id, found) => next_line(out, at, n, found),
         Said::Row(w, m) => at,
         Said::Look => pool_line(out, at, p, k),
         Said::LookNode(id) => look_line(out, at, n),
@@ -97,6 +101,29 @@ fn asked_line(out: &mut [u8], at: usize, n: Node, empty: bool) -> usize
     ensures { λ r. ⌜ ink (now (out .exit)) r ≡ ended (ink (now (out .entry)) at) (askedText n empty) ⌝ }
 {
     let to = put_asked(out, at, n, empty);
+    text::put(out, to, 10)
+}
+
+fn put_found(out: &mut [u8], at: usize, f: Found) -> usize
+    ensures { λ r. ⌜ ink (now (out .exit)) r ≡ emits (ink (now (out .entry)) at) (foundText f) ⌝ }
+{
+    match f {
+        Found::At(c) => say::put_pair(out, at, b" next=", c),
+        Found::Nothing => text::put_bytes(out, at, b" next=none"),
+    }
+}
+
+fn put_next(out: &mut [u8], at: usize, n: Node, f: Found) -> usize
+    ensures { λ r. ⌜ ink (now (out .exit)) r ≡ emits (ink (now (out .entry)) at) (nextText n f) ⌝ }
+{
+    let to = saynode::put_node(out, at, n);
+    put_found(out, to, f)
+}
+
+fn next_line(out: &mut [u8], at: usize, n: Node, f: Found) -> usize
+    ensures { λ r. ⌜ ink (now (out .exit)) r ≡ ended (ink (now (out .entry)) at) (nextText n f) ⌝ }
+{
+    let to = put_next(out, at, n, f);
     text::put(out, to, 10)
 }
 

@@ -14,7 +14,7 @@ use Rattle.laws.specs.Tests.{and-left, and-right, and-both}
 use Rattle.laws.specs.Bits.{bit-none}
 use Rattle.chunks.specs.Chunk.{there, byteOf, dirty}
 use Rattle.summaries.specs.Summary.{some, isDirty, under, word, wordAt, summariesOf, every, agree, base, size, isSet, isPlace, lit}
-use Rattle.summaries.specs.Laws.{OneSummary, Meaning, OthersZero, OfNothing}
+use Rattle.summaries.specs.Laws.{OneSummary, Meaning, OthersZero, OfZeros}
 use Rattle.summaries.proofs.Some.{some-no}
 use Rattle.summaries.proofs.Bits.{bits-none}
 use Rattle.summaries.proofs.Words.{at-groups, at-over, at-root, which-word, every-at, every-all, length-summaries, summaries-at, all-words}
@@ -75,9 +75,20 @@ nothing-in : (xs : List ℕ) → ((k : ℕ) → getD xs k 0 ≡ 0) → (m l a n 
 unfolding word
 nothing-in xs h m l a n = bits-none (λ k. under xs m l (a + k)) n (λ k. nothing-under xs h m l (a + k))
 
-pub of-nothing : OfNothing
+of-nothing : (xs : List ℕ) → ((k : ℕ) → getD xs k 0 ≡ 0) → summariesOf xs ≡ replicate 96 0
 of-nothing xs h =
     sym (all-words (replicate 96 0) xs (length-replicate {A = ℕ} 96 0) (λ j b. getD-replicate 96 j 0 0 b ∙ sym (which-word j
     (λ l. at-groups xs j l ∙ nothing-in xs h (j / 6) 1 (64 * (j % 6)) 64)
     (λ e. at-over xs j e ∙ nothing-in xs h (j / 6) 2 0 16)
     (λ e. at-root xs j e ∙ nothing-in xs h (j / 6) 3 0 1))))
+
+zeros-read : (n k : ℕ) → getD {A = ℕ} (replicate n 0) k 0 ≡ 0
+zeros-read zero k = refl
+zeros-read (suc n) zero = refl
+zeros-read (suc n) (suc k) = zeros-read n k
+
+pub of-zeros : OfZeros
+of-zeros n = of-nothing (replicate n 0) (zeros-read n)
+
+pub zeros-agree : (n : ℕ) → agree (replicate 96 0) (replicate n 0) ≡ true
+zeros-agree n = ap (λ (ws : List ℕ). agree ws (replicate n 0)) (sym (of-zeros n)) ∙ one-summary .agrees (replicate n 0)

@@ -3,7 +3,7 @@ use mathlib.Core.Path.{_≡_}
 use mathlib.Core.Bool.{true, false}
 use mathlib.Core.List.{List}
 use Prim.Native.Nat.{ℕ, _+_, _*_, _≤_, _<_}
-use lib.ListN.{getD, replicate}
+use lib.ListN.{replicate}
 use Rattle.summaries.specs.Summary.{under, summariesOf, agree, base, size, isSet, isPlace, lit}
 
 -- The summaries that agree with a map are one list of words.
@@ -26,6 +26,6 @@ OthersZero =
     → ((l : ℕ) → (l ≡ 0 → ⊥) → base l ≤ r → r < base l + size l → ⊥)
     → isSet words (384 * m + r) ≡ false
 
--- A map with no byte but zeros has summaries with no word but zeros.
-abbrev pub OfNothing : Type 0
-OfNothing = (xs : List ℕ) → ((k : ℕ) → getD xs k 0 ≡ 0) → summariesOf xs ≡ replicate 96 0
+-- A map of zeros has summaries of zeros.
+abbrev pub OfZeros : Type 0
+OfZeros = (n : ℕ) → summariesOf (replicate n 0) ≡ replicate 96 0

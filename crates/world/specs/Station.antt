@@ -1,15 +1,17 @@
 -- A storage node with its bytes, and an event at it: what the node's own methods answer, and what they leave.
+use mathlib.Core.Path.{_≡_}
 use mathlib.Core.Bool.{Bool, _&&_}
 use mathlib.Core.List.{List}
 use Prim.Native.Nat.{ℕ}
 use Rattle.maps.specs.Map.{sound}
+use Rattle.summaries.specs.Summary.{summariesOf}
 use Rattle.nodestate.specs.declared.Answer.{Answer}
 use Rattle.nodestate.specs.declared.Node.{Node}
 use Rattle.node.specs.declared.StorageNode.{StorageNode}
 use Rattle.node.specs.Events.{Event}
 use Rattle.node.specs.Face.{answers, mapLeft, stagingLeft}
 
--- a node: its state, its map and its staging map
+-- a node: its state, its map and its staging map. Its summaries are those of its map, as at every node that began so (`FaceStays`)
 pub record Station : Type 0 where
   pub node : Node
   pub map : List ℕ
@@ -26,7 +28,7 @@ pub record Did : Type 0 where
 
 -- the value whose methods the events are
 abbrev pub face : Station → StorageNode
-face s = record { node = s .node }
+face s = record { node = s .node; summaries = summariesOf (s .map) }
 
 -- an event at a node, by the definitions that the contracts of its methods cite
 unfoldable pub does : Station → Event → Did
@@ -39,3 +41,7 @@ does s e =
       };
       answer = answers e (face s) (s .map) (s .staging) .answer;
     }
+
+-- What an event leaves is such a node again: the value that it hands back is that of the node left.
+abbrev pub FaceStays : Type 0
+FaceStays = (s : Station) (e : Event) → answers e (face s) (s .map) (s .staging) .node ≡ face (does s e .station)

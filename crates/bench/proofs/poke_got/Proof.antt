@@ -21,8 +21,8 @@ element-copy-out-was c = search needs
 with-got-requires : tie.Need-with-got-requires
 with-got-requires c κs = search needs
 
-mul-t10 : tie.Need-mul-t10
-mul-t10 c = search needs
+mul-t11 : tie.Need-mul-t11
+mul-t11 c = search needs
 
 element-set-from-l : tie.Need-element-set-from-l
 element-set-from-l c = search needs
@@ -34,4 +34,4 @@ returns-2 c = rw (c .with-got .ensures) refl
 pub poke-got-spec : {M : Type 1} → statement M
 poke-got-spec =
     tie.close
-    (tie.spec returns mul-was element-copy-out-was with-got-requires mul-t10 element-set-from-l returns-2)
+    (tie.spec returns mul-was element-copy-out-was with-got-requires mul-t11 element-set-from-l returns-2)

@@ -24,8 +24,8 @@ state-of-requires c κs = search needs
 transfer-of-requires : tie.Need-transfer-of-requires
 transfer-of-requires c κs = search needs
 
-mul-t16 : tie.Need-mul-t16
-mul-t16 c = search needs
+mul-t17 : tie.Need-mul-t17
+mul-t17 c = search needs
 
 element-set-from-l : tie.Need-element-set-from-l
 element-set-from-l c = search needs
@@ -43,6 +43,6 @@ poke-node-spec =
     element-copy-out-was
     state-of-requires
     transfer-of-requires
-    mul-t16
+    mul-t17
     element-set-from-l
     returns-2)

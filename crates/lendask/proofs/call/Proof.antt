@@ -1,21 +1,37 @@
-use mathlib.Core.Path.{_≡_, refl}
-use Rattle.forms.specs.declared.Question.{Question}
+use native.Mathlib.Omega.{arith}
+use mathlib.Core.Path.{_≡_, refl, sym, ap, _∙_}
 use borrow.Author.Needs.{needs}
 use Rattle.lendask.proofs.call.Statement.{statement}
 use Rattle.lendask.proofs.call.Tie as tie
+use Rattle.lendask.proofs.call.Reads as reads
+use Rattle.lendask.proofs.call.Lts as lts
+use Rattle.lendask.proofs.check.Reads as check-reads
+use Rattle.lendask.proofs.next.Reads as next-reads
 
--- there is one question
-only : (q : Question) → q ≡ Question.MapCheck
-only Question.MapCheck = refl
+-- src/lib.rt:57:31
+enum-told : tie.Need-enum-told
+enum-told c = search needs
 
-map-check-requires : tie.Need-map-check-requires
-map-check-requires c κs = search needs
+-- src/lib.rt:57:31
+check-requires : tie.Need-check-requires
+check-requires c κs = search needs
 
-of-check-requires : tie.Need-of-check-requires
-of-check-requires c κs = search needs
+-- src/lib.rt:58:24
+enum-known-q : tie.Need-enum-known-q
+enum-known-q c = search needs
 
+-- src/lib.rt:58:42
+next-requires : tie.Need-next-requires
+next-requires c κs = search needs
+
+-- src/lib.rt:53:1
 returns : tie.Need-returns
-returns c = rw (c .of-check .ensures, c .before .map-check .ensures, only (c .before .before .before .before .args .q)) refl
+returns c = rw (c .before .enum-told .given .1) (c .check .ensures)
+
+-- src/lib.rt:53:1
+returns-2 : tie.Need-returns-2
+returns-2 c = rw (c .before .before .q .given .1) (c .next .ensures)
 
 pub call-spec : {M : Type 1} → statement M
-call-spec = tie.close (tie.spec map-check-requires of-check-requires returns)
+call-spec =
+    tie.close (tie.spec enum-told check-requires enum-known-q next-requires returns returns-2)

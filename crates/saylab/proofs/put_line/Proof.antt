@@ -60,20 +60,26 @@ asked-line-requires c κs = search needs
 enum-known-s-5 : tie.Need-enum-known-s-5
 enum-known-s-5 c = search needs
 
+next-line-requires : tie.Need-next-line-requires
+next-line-requires c κs = search needs
+
+enum-known-s-6 : tie.Need-enum-known-s-6
+enum-known-s-6 c = search needs
+
 enum-told-5 : tie.Need-enum-told-5
 enum-told-5 c = search needs
 
 pool-line-requires : tie.Need-pool-line-requires
 pool-line-requires c κs = search needs
 
-enum-known-s-6 : tie.Need-enum-known-s-6
-enum-known-s-6 c = search needs
+enum-known-s-7 : tie.Need-enum-known-s-7
+enum-known-s-7 c = search needs
 
 look-line-requires : tie.Need-look-line-requires
 look-line-requires c κs = search needs
 
-enum-known-s-7 : tie.Need-enum-known-s-7
-enum-known-s-7 c = search needs
+enum-known-s-8 : tie.Need-enum-known-s-8
+enum-known-s-8 c = search needs
 
 record-line-requires : tie.Need-record-line-requires
 record-line-requires c κs = search needs
@@ -123,26 +129,32 @@ same-length-7 c = search needs
 returns-8 : tie.Need-returns-8
 returns-8 c = rw (c .before .before .before .before .before .s4 .given .1) (c .before .before .asked-line .ensures)
 
-returns-9 : tie.Need-returns-9
-returns-9 c = rw (c .before .s5 .given .1) refl
-
 same-length-8 : tie.Need-same-length-8
 same-length-8 c = search needs
 
+returns-9 : tie.Need-returns-9
+returns-9 c = rw (c .before .before .before .before .before .s5 .given .1) (c .before .before .next-line .ensures)
+
 returns-10 : tie.Need-returns-10
-returns-10 c = rw (c .before .before .before .before .enum-told5 .given .1) (c .before .before .pool-line .ensures)
+returns-10 c = rw (c .before .s6 .given .1) refl
 
 same-length-9 : tie.Need-same-length-9
 same-length-9 c = search needs
 
 returns-11 : tie.Need-returns-11
-returns-11 c = rw (c .before .before .before .before .before .s6 .given .1) (c .before .before .look-line .ensures)
+returns-11 c = rw (c .before .before .before .before .enum-told5 .given .1) (c .before .before .pool-line .ensures)
 
 same-length-10 : tie.Need-same-length-10
 same-length-10 c = search needs
 
 returns-12 : tie.Need-returns-12
-returns-12 c = rw (c .before .before .before .before .before .s7 .given .1) (c .before .before .record-line .ensures)
+returns-12 c = rw (c .before .before .before .before .before .s7 .given .1) (c .before .before .look-line .ensures)
+
+same-length-11 : tie.Need-same-length-11
+same-length-11 c = search needs
+
+returns-13 : tie.Need-returns-13
+returns-13 c = rw (c .before .before .before .before .before .s8 .given .1) (c .before .before .record-line .ensures)
 
 pub put-line-spec : {M : Type 1} → statement M
 put-line-spec =
@@ -167,11 +179,13 @@ put-line-spec =
     enum-known-s-4
     asked-line-requires
     enum-known-s-5
+    next-line-requires
+    enum-known-s-6
     enum-told-5
     pool-line-requires
-    enum-known-s-6
-    look-line-requires
     enum-known-s-7
+    look-line-requires
+    enum-known-s-8
     record-line-requires
     returns
     same-length
@@ -188,10 +202,12 @@ put-line-spec =
     returns-7
     same-length-7
     returns-8
-    returns-9
     same-length-8
+    returns-9
     returns-10
     same-length-9
     returns-11
     same-length-10
-    returns-12)
+    returns-12
+    same-length-11
+    returns-13)

@@ -1,3 +1,6 @@
+use Rattle.node.proofs.Lent.{lent-clear}
+use native.Mathlib.Omega.{arith}
+use mathlib.Core.Path.{_≡_, refl, sym, ap, _∙_}
 use borrow.Author.Needs.{needs}
 use Rattle.node.proofs.StorageNode.take_part.Statement.{statement}
 use Rattle.node.proofs.StorageNode.take_part.Tie as tie
@@ -12,7 +15,7 @@ take-part-requires : tie.Need-take-part-requires
 take-part-requires c κs = search needs
 
 finish-requires : tie.Need-finish-requires
-finish-requires c κs = search needs
+finish-requires c κs = lent-clear _ _ _ _ _ (c .before .before .before .before .before .lent-number .ensures)
 
 take-in-requires : tie.Need-take-in-requires
 take-in-requires c κs = search needs

@@ -11,8 +11,11 @@ first-requires c κs = search needs
 first-requires-2 : tie.Need-first-requires-2
 first-requires-2 c κs = search needs
 
+first-requires-3 : tie.Need-first-requires-3
+first-requires-3 c κs = search needs
+
 returns : tie.Need-returns
 returns c = cc
 
 pub common-spec : {M : Type 1} → statement M
-common-spec = tie.close (tie.spec valid-requires first-requires first-requires-2 returns)
+common-spec = tie.close (tie.spec valid-requires first-requires first-requires-2 first-requires-3 returns)
