@@ -8,6 +8,8 @@ under which an answer is awaited. In brackets, where they change: the letters of
 """
 import sys
 
+from labhistory import fields, messages
+
 LEFT = 34   # room for the command
 WIDE = 14   # between two columns
 
@@ -25,18 +27,6 @@ def pairs(history, answers):
         elif line:
             yield line, said[at] if at < len(said) else ""
             at += 1
-
-
-def messages(answer):
-    """The messages of a client's line: (words, number or None)."""
-    for part in answer.split(" | ")[1:]:
-        words = part.split()
-        number = words.pop()[1:] if words[-1].startswith("#") else None
-        yield words, number
-
-
-def fields(answer):
-    return dict(w.split("=", 1) for w in answer.split(" | ")[0].split() if "=" in w)
 
 
 def nodes_of(rows):
