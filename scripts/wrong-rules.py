@@ -3,7 +3,8 @@
 
 A must-fail edit reaches one crate. A misreading of a rule can stand in definition and code alike; then the crate itself is proved, and only a law or a theorem that says what
 must hold in other words can refuse it. Each file of scripts/wrong-rules/ is such a misreading: blocks of `file:`, `old:`, `new:` over any crates, the rule in words (`rule:`), and
-what refused it when it was tried (`falls:`, a crate and a name). A line that begins with `|` goes on with the text above it.
+what refused it when it was tried (`falls:`, a crate and a name). A line that begins with `|` goes on with the text above it. One that names the crates of a theorem's proof (`proof:`) is tried
+against that theorem alone: only those crates and what they rest on are checked. It has the edits of another (`as:`), and its own make the laws below fit the wrong rule, so that none of them stands in the way.
 
   scripts/wrong-rules.py            tries all, some minutes each
   scripts/wrong-rules.py NAME ..    tries these
@@ -25,8 +26,8 @@ THEOREMS = ("events", "creation", "nodeevents", "commuting", "table", "demand3",
 
 
 def read(path):
-    """A wrong rule: its words, what refused it, and its edits. A line that begins with `|` goes on with the text above it."""
-    rule, falls, edits, last = "", "", [], None
+    """A wrong rule: its words, what refused it, the crates of the proof that it is tried against if it names some, and its edits. A line that begins with `|` goes on with the text above it."""
+    rule, falls, proof, edits, last = "", "", [], [], None
     with open(path, encoding="utf-8") as f:
         for line in f:
             line = line.rstrip("\n")
@@ -37,12 +38,16 @@ def read(path):
                 rule = rest
             elif word == "falls":
                 falls = rest
+            elif word == "as":
+                edits = read(os.path.join(FOLDER, rest + ".edit"))[3]
+            elif word == "proof":
+                proof = rest.split()
             elif word == "file":
                 edits.append([rest, "", ""])
             elif word.rstrip(":") in ("old", "new"):
                 last = 1 if word.startswith("old") else 2
                 edits[-1][last] = rest
-    return rule, falls, edits
+    return rule, falls, proof, edits
 
 
 def graph():
@@ -56,8 +61,8 @@ def graph():
     return found
 
 
-def above(crates, touched):
-    """The crates that the edits touch and those that rest on them, lowest first, the lab after the theorems, programs last."""
+def above(crates, touched, proof):
+    """The crates that the edits touch and those that rest on them, lowest first, the lab after the theorems, programs last; for a proof only what it rests on."""
     reached = set(touched)
     while True:
         more = {c for c, deps in crates.items() if c not in reached and reached & set(deps)}
@@ -71,6 +76,8 @@ def above(crates, touched):
     def under(c):
         return {c}.union(*[under(d) for d in crates[c] if d in crates])
 
+    if proof:
+        return sorted(reached & set().union(*[under(c) for c in proof]), key=depth), []
     first = set().union(*[under(c) for c in THEOREMS])
     program = {c for c in reached if os.path.exists(os.path.join(ROOT, "crates", c, "src", "main.rt"))}
     needed = {c for c in reached if c not in program}
@@ -101,7 +108,7 @@ def refused_at(output):
 
 
 def attempt(name, crates):
-    rule, falls, edits = read(os.path.join(FOLDER, name + ".edit"))
+    rule, falls, proof, edits = read(os.path.join(FOLDER, name + ".edit"))
     print("%s: %s" % (name, rule), flush=True)
     tree = tempfile.mkdtemp()
     try:
@@ -112,7 +119,7 @@ def attempt(name, crates):
             elif os.path.exists(source):
                 shutil.copy(source, to)
         apply(tree, edits)
-        libraries, programs = above(crates, {path.split("/")[1] for path, _, _ in edits})
+        libraries, programs = above(crates, {path.split("/")[1] for path, _, _ in edits}, proof)
         for i, crate in enumerate(libraries + programs):
             print("  %d of %d: %s" % (i + 1, len(libraries) + len(programs), crate), flush=True)
             done = subprocess.run(["rt", "check", crate], cwd=tree, capture_output=True, text=True, env=dict(os.environ, RT_CUT="0"))

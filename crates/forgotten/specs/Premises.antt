@@ -38,7 +38,7 @@ pub record Keeps {w : World} (h : History w) (x : Happening) : Type 0 where
   -- "a hand enable reaches only a node whose session is CREATED and would be accepted, and the client's enable is its next event" (added: it brings the pool's own version and set, and the node accepts it)
   pub by-hand : (j : ℕ) → x ≡ Happening.handEnable j → (isCreated (stateIn w j) ≡ true) × (accepts w (Event.enable j) ≡ true) × (takes (w .nodes j) (enabling w) ≡ true)
   pub not-else : (j got : ℕ) → x ≡ Happening.client (Event.enable j) got → accepts w (Event.enable j) ≡ true → isCreated (stateIn w j) ≡ false
-  -- "no message arrives after its answer was taken or its link reported down" (added: nor after its run ended, by another session's link): nothing but the client's events and the awaited message, once, while its
+  -- "no message arrives after its answer was taken or its link reported down" (added: nor after its run ended, by another session's link; and, only convenient, no second copy of it): nothing but the client's events and the awaited message, once, while its
   -- job is in hand, brings a message to a node. A MAP_SEND that is answered comes whole, in any parts of 1 to 1,024 bytes.
   pub own : (j : ℕ) (e : storage.Event) → x ≡ Happening.node j e → isMessage (originOf e) ≡ false
   pub once : (lengths : List ℕ) → x ≡ Happening.arrives lengths → (isIdle (w .pool .job) ≡ false) × (w .fate ≡ Fate.underWay) × Cuts lengths
