@@ -1,6 +1,6 @@
-# What the scripts ./lab, ./compare and ./status share: a program is built by proving it, once, and run. To be sourced, with root set to the repository's folder.
+# What the scripts ./lab, ./compare, ./status and ./library share: a program is built by proving it, once, and run. To be sourced, with root set to the repository's folder.
 
-# crates_of NAME: the crates of the repository that a program is made of, itself with them, in the order of crates.txt: by level, in each the slowest check first.
+# crates_of NAMES: the crates of the repository that a program, or some crates, are made of, they themselves with them, in the order of crates.txt: by level, in each the slowest check first.
 crates_of() {
 	awk -F: -v name="$1" '
 		/^[a-z]/ { uses[$1] = $2; listed[++lines] = $1 }
@@ -16,15 +16,20 @@ crates_of() {
 		}' "$root/crates.txt"
 }
 
-# build NAME: some minutes the first time, and it says how far it is. Checks that are started together are waited for together, so four are started at a time even on two
+# prove WHAT CRATES: proves crates and all they rest on, and says how far it is. Checks that are started together are waited for together, so four are started at a time even on two
 # processors: none is idle while one check is slow.
+prove() {
+	mkdir -p "$root/target"
+	# shellcheck disable=SC2046
+	(cd "$root" && RT_JOBS=${RT_JOBS:-4} rt check $(crates_of "$2") 2>&1 || echo 'rt: failed') | tee "$root/target/$1.log" |
+		awk -v name="$1" -v n="$(crates_of "$2" | wc -l)" '/^rt: [a-z]+ proved/ { printf "%s: crate %d of %d: %s\n", name, ++k, n, $2; fflush() }' >&2
+}
+
+# build NAME: some minutes the first time.
 build() {
 	[ ! -x "$root/target/bin/$1" ] || return 0
-	mkdir -p "$root/target"
 	echo "$1: proving and building the program, once" >&2
-	# shellcheck disable=SC2046
-	(cd "$root" && RT_JOBS=${RT_JOBS:-4} rt check $(crates_of "$1") 2>&1 || echo 'rt: failed') | tee "$root/target/$1.log" |
-		awk -v name="$1" -v n="$(crates_of "$1" | wc -l)" '/^rt: [a-z]+ proved/ { printf "%s: crate %d of %d: %s\n", name, ++k, n, $2; fflush() }' >&2
+	prove "$1" "$1"
 	if [ ! -x "$root/target/bin/$1" ]; then
 		tail -n 20 "$root/target/$1.log" >&2
 		exit 1

@@ -23,10 +23,11 @@ LAYERS = {
     "lab": "text names lines forms eventlines commands say sayclient saynode sayrow journal sayrecord saylab post lending anyclient anynode lendclient lendnode lendask bench truing delivery fetching reading arranging lab",
     "backup": "descriptors statuswriter statusreader statuslaws statustool status statusread statusrefused",
     "compare": "dumps differences saydifferences comparing compare comparesame comparelong",
+    "library": "words nodewords poolwords clientwords answerwords clientlib nodelib",
     "audit": "records replay auditing auditor batches logs ownlogs auditlines auditrun audit auditwrong auditword",
 }
 LAWS = "laws keeps missed mirror mirrorlinks mirrorruns mirrorremoval mirrorpool mirrornodes mirrorworld"  # crates of laws: what they say is proved of the others; only the definitions named in the table change what a contract or statement means
-THEOREMS = set((LAYERS["theorems"] + " versions statuslaws dumps differences saydifferences batches logs ownlogs summaries mending searching").split())  # crates with statements in specs/
+THEOREMS = set((LAYERS["theorems"] + " versions statuslaws dumps differences saydifferences batches logs ownlogs summaries mending searching nodewords clientwords").split())  # crates with statements in specs/
 
 HEAD = re.compile(r"^(?:(?:abbrev|unfoldable) )?(?:pub )?(?:(?:record|data) ([^\s(){}:;]+)|([^\s(){}:;]+)(?: \{[^}]*\})? :)")
 USE = re.compile(r"^(?:ghost )?use Rattle·(\w+?)(?:·specs\.specs|\.specs)\.([\w.]+?)(?:\.\{([^}]*)\}| as (\w[\w-]*));?$")

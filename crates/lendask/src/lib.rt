@@ -50,7 +50,8 @@ fn next(n: StorageNode, map: &[u8], staging: &[u8], member: u64, start: u64) -> 
     of_next(c)
 }
 
-fn call(n: StorageNode, q: Question, map: &[u8], staging: &[u8]) -> Finding
+// The question, on the node's own maps.
+pub fn call(n: StorageNode, q: Question, map: &[u8], staging: &[u8]) -> Finding
     ensures { λ r. ⌜ r ≡ findingOf q n (now (map .entry)) (now (staging .entry)) ⌝ }
 {
     match q {

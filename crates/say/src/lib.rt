@@ -63,7 +63,7 @@ pub fn put_pair(out: &mut [u8], at: usize, s: &[u8], n: u64) -> usize
     text::put_number(out, to, n)
 }
 
-fn op_number(op: Op) -> u64
+pub fn op_number(op: Op) -> u64
     ensures { λ r. ⌜ r ≡ opNumber op ⌝ }
 {
     match op {
@@ -74,7 +74,7 @@ fn op_number(op: Op) -> u64
     }
 }
 
-fn mode_number(mode: Mode) -> u64
+pub fn mode_number(mode: Mode) -> u64
     ensures { λ r. ⌜ r ≡ modeNumber mode ⌝ }
 {
     match mode {
