@@ -4,25 +4,19 @@ use mathlib.Core.Logic.{_≢_}
 use mathlib.Core.Bool.{Bool, true, false}
 use mathlib.Core.List.{List}
 use Prim.Native.Nat.{ℕ, zero, suc, _+_, _-_, _*_, _/_, _%_, _^_, _≤_, _<_}
-use native.Mathlib.Nat.{add-zero, add-assoc, mul-assoc, mul-add-div, div-eq-of-lt, pow-suc}
+use native.Mathlib.Nat.{add-zero, add-assoc, mul-add-div, div-eq-of-lt}
 use native.Mathlib.Decide.{ℕ-discrete, decLt}
 use native.Mathlib.Omega.{arith}
 use lib.ListN.{length, getD}
 use Rattle.laws.specs.Tests.{by-cases}
 use Rattle.summaries.specs.Summary.{some, isDirty, under, base, size, bitOf, isSet, isPlace, lit}
-use Rattle.summaries.proofs.Some.{some-same, some-parts}
+use Rattle.summaries.proofs.Some.{some-same, under-up}
 use Rattle.summaries.proofs.Places.{place-yes, base-low, lit-chunk, lit-place}
 use Rattle.summaries.proofs.Meaning.{meant, meant-group, meant-over, meant-root, meant-none, RowTrue}
 use Rattle.mending.specs.Mend.{put, renewed}
 use Rattle.mending.proofs.Puts.{put-length, put-same, put-other, put-small}
 
 -- ---- what a place's mark says, by the places below and by the chunks
-under-up : (xs : List ℕ) (m l i : ℕ) → under xs m (suc l) i ≡ some (under xs m l) (16 * i) 16
-unfolding under
-under-up xs m l i =
-    let p : 16 ^ suc l * i ≡ 16 ^ l * (16 * i) = rw (pow-suc 16 l, mul-assoc (16 ^ l) 16 i) in
-    rw (p, pow-suc 16 l) (sym (some-parts (under xs m l) (isDirty xs m) (16 ^ l) (16 * i) 16 (λ k b. unfold under in refl)))
-
 -- two maps that agree in the chunks under a place
 under-same : (xs ys : List ℕ) (m l i : ℕ) → ((k : ℕ) → k < 16 ^ l → isDirty xs m (16 ^ l * i + k) ≡ isDirty ys m (16 ^ l * i + k)) → under xs m l i ≡ under ys m l i
 unfolding under

@@ -1,19 +1,21 @@
 -- What each bit of a row's words stands for, at the words that are a map's and at any words. Assumes nothing.
 use mathlib.Core.Path.{_≡_, refl, sym, ap, _∙_}
-use mathlib.Core.Bool.{Bool, true, false, _&&_}
+use mathlib.Core.Bool.{Bool, true, false, not, _&&_}
 use mathlib.Core.List.{List}
 use Prim.Native.Nat.{ℕ, zero, suc, _+_, _-_, _*_, _/_, _%_, _^_, _≤_, _<_}
-use native.Mathlib.Nat.{zero-add, add-zero, pow-le-pow-right}
+use native.Mathlib.Nat.{zero-add, add-assoc, pow-le-pow-right}
 use native.Mathlib.Decide.{ℕ-discrete, decLt}
 use native.Mathlib.Omega.{arith}
 use borrow.Author.Tests.{eqb-true, eqb-false, eq-eqb, ne-eqb, lt-ltb, le-ltb}
+use lib.Bits.{bitOr}
 use lib.Dec.{eqb, ltb}
 use lib.ListN.{length, getD}
 use Rattle.laws.specs.Words.{pick, one, bit}
 use Rattle.laws.specs.Bits.{bit-lt, bits-same}
 use Rattle.laws.specs.Tests.{by-cases}
-use Rattle.summaries.specs.Summary.{under, bits, word, wordAt, summariesOf, base, size, isSet, isPlace, lit}
-use Rattle.summaries.proofs.Bits.{bits-lt, bit-bits, bits-past}
+use Rattle.summaries.specs.Summary.{some, under, bits, word, wordAt, summariesOf, base, size, isSet, isPlace, lit}
+use Rattle.summaries.proofs.Some.{some-same, under-up}
+use Rattle.summaries.proofs.Bits.{bits-lt, bit-bits, bits-past, bits-like, bits-some}
 use Rattle.summaries.proofs.Words.{at-groups, at-over, at-root, which-word, length-summaries, summaries-at, all-words}
 
 -- what bit r of member m's 384 says: a group, a group of groups, the root, or nothing
@@ -91,14 +93,18 @@ bit-is x false h e = let d = eqb-false x 1 e in elim (ℕ-discrete x 0) [ yes p 
 abbrev pub RowTrue : List ℕ → List ℕ → ℕ → Type 0
 RowTrue ws xs m = (r : ℕ) → r < 384 → isSet ws (384 * m + r) ≡ meant xs m r
 
-pub row-true : (xs : List ℕ) (m : ℕ) → m < 16 → RowTrue (summariesOf xs) xs m
+-- bit r of member m's 384, where its word is the map's
+set-true : (ws xs : List ℕ) (m r : ℕ) → r < 384 → getD ws ((384 * m + r) / 64) 0 ≡ wordAt xs ((384 * m + r) / 64) → isSet ws (384 * m + r) ≡ meant xs m r
 unfolding isSet
-row-true xs m h r b =
+set-true ws xs m r b e =
     let j : (384 * m + r) / 64 ≡ 6 * m + r / 64 = omega arith in
     let k : (384 * m + r) % 64 ≡ r % 64 = omega arith in
     let p : (6 * m + r / 64) / 6 ≡ m = omega arith in
     let q : 64 * ((6 * m + r / 64) % 6) + r % 64 ≡ r = omega arith in
-    rw (j, k, summaries-at xs (6 * m + r / 64) (omega arith), at-bit xs (6 * m + r / 64) (r % 64) (omega arith), p, q) (one-is (meant xs m r))
+    rw (e, j, k, at-bit xs (6 * m + r / 64) (r % 64) (omega arith), p, q) (one-is (meant xs m r))
+
+pub row-true : (xs : List ℕ) (m : ℕ) → m < 16 → RowTrue (summariesOf xs) xs m
+row-true xs m h r b = set-true (summariesOf xs) xs m r b (summaries-at xs ((384 * m + r) / 64) (omega arith))
 
 pub summaries-small : (xs : List ℕ) (j : ℕ) → j < 96 → getD (summariesOf xs) j 0 < 2 ^ 64
 summaries-small xs j h = rw (summaries-at xs j h) (at-lt xs j)
@@ -111,3 +117,38 @@ rows-true ws xs l s h =
     let q : (64 * j + k) / 64 ≡ j = omega arith in
     let r : (64 * j + k) % 64 ≡ k = omega arith in
     bit-is (bit (getD ws j 0) k) (meant xs (j / 6) (64 * (j % 6) + k)) (bit-lt (getD ws j 0) k) (rw (p, q, r) at (h (j / 6) (omega arith) (64 * (j % 6) + k) (omega arith))) ∙ sym (at-bit xs j k g)))
+
+-- ---- a word by those of the level below: word j, where the words before it are the map's
+module _ (ws xs : List ℕ) (j : ℕ) (before : (k : ℕ) → k < j → getD ws k 0 ≡ wordAt xs k) where
+  group-set : (r : ℕ) → r < 256 → j % 6 ≡ 4 → isSet ws (384 * (j / 6) + r) ≡ under xs (j / 6) 1 r
+  group-set r h e = set-true ws xs (j / 6) r (omega arith) (before ((384 * (j / 6) + r) / 64) (omega arith)) ∙ meant-group xs (j / 6) r h
+
+  pub over-is : j % 6 ≡ 4 → bits (λ i. some (isSet ws) (384 * (j / 6) + 16 * i) 16) 16 ≡ wordAt xs j
+  unfolding word
+  over-is e =
+      let m : ℕ = j / 6 in
+      rw (at-over xs j e) (bits-like (λ i. some (isSet ws) (384 * m + 16 * i) 16) (λ i. under xs m 2 (0 + i)) 16 (λ i h.
+      rw (zero-add i, under-up xs m 1 i) (some-same (isSet ws) (under xs m 1) (384 * m + 16 * i) (16 * i) 16 (λ k l.
+      rw (add-assoc (384 * m) (16 * i) k) (group-set (16 * i + k) (omega arith) e)))))
+
+  root-some : j % 6 ≡ 5 → not (eqb (getD ws (6 * (j / 6) + 4) 0) 0) ≡ under xs (j / 6) 3 0
+  unfolding word
+  root-some e =
+      let m : ℕ = j / 6 in
+      let q : (6 * m + 4) / 6 ≡ m = omega arith in
+      rw (before (6 * m + 4) (omega arith), at-over xs (6 * m + 4) (omega arith), q, bits-some (λ i. under xs m 2 (0 + i)) 16, under-up xs m 2 0)
+      (some-same (λ i. under xs m 2 (0 + i)) (under xs m 2) 0 0 16 (λ k l. rw (zero-add (0 + k))))
+
+  root-word : (b : Bool) → under xs (j / 6) 3 0 ≡ b → j % 6 ≡ 5 → wordAt xs j ≡ one b
+  unfolding word bits
+  root-word b u e = rw (at-root xs j e, u) (go b)
+    where
+      go : (b : Bool) → bitOr 0 (pick b (2 ^ 0) 0) ≡ one b
+      go true = refl
+      go false = refl
+
+  pub root-clear : j % 6 ≡ 5 → getD ws (6 * (j / 6) + 4) 0 ≡ 0 → wordAt xs j ≡ 0
+  root-clear e z = root-word false (sym (root-some e) ∙ ap not (eq-eqb (getD ws (6 * (j / 6) + 4) 0) 0 z)) e
+
+  pub root-set : j % 6 ≡ 5 → (getD ws (6 * (j / 6) + 4) 0 ≡ 0 → ⊥) → wordAt xs j ≡ 1
+  root-set e d = root-word true (sym (root-some e) ∙ ap not (ne-eqb (getD ws (6 * (j / 6) + 4) 0) 0 d)) e

@@ -1,17 +1,19 @@
 -- Laws of the places: where their bits are. Assumes nothing.
 use mathlib.Core.Path.{_≡_, refl, sym, ap, _∙_}
-use mathlib.Core.Bool.{Bool, true, false, _&&_}
+use mathlib.Core.Bool.{Bool, true, false, not, _&&_}
 use mathlib.Core.List.{List}
 use Prim.Native.Nat.{ℕ, zero, suc, _+_, _*_, _/_, _%_, _^_, _≤_, _<_}
-use native.Mathlib.Nat.{mul-suc, mul-assoc, mul-le-mul-left}
 use native.Mathlib.Omega.{arith}
 use borrow.Author.Tests.{ltb-true, lt-ltb, eq-eqb, ne-eqb}
 use lib.Dec.{eqb, ltb}
-use Rattle.laws.specs.Words.{pick}
+use lib.ListN.{getD}
+use Rattle.laws.specs.Words.{pick, bit}
 use Rattle.laws.specs.Tests.{and-left, and-right}
 use Rattle.chunks.specs.Chunk.{dirty}
 use Rattle.chunks.proofs.Laws.{there-no-member, there-no-chunk}
-use Rattle.summaries.specs.Summary.{base, size, bitOf, isSet, isPlace, lit, isDirty}
+use Rattle.summaries.specs.Summary.{some, base, size, bitOf, isSet, isPlace, lit, isDirty}
+use Rattle.summaries.proofs.Some.{some-same}
+use Rattle.summaries.proofs.Bits.{field-some}
 
 pub is-member : (m l i : ℕ) → isPlace m l i ≡ true → m < 16
 unfolding isPlace
@@ -86,12 +88,11 @@ pub no-chunk : (xs : List ℕ) (m c : ℕ) → 4096 ≤ c → isDirty xs m c ≡
 unfolding isDirty dirty
 no-chunk xs m c h = rw (there-no-chunk m c h)
 
--- ---- the bytes under the places of a word
-pub part-fits : (a b k n : ℕ) → k < n → b * (a + n) ≤ 512 → b * (a + k) + b ≤ 512
-part-fits a b k n h l =
-    let q : b * suc (a + k) ≡ b * (a + k) + b = mul-suc b (a + k) in
-    let p : b * suc (a + k) ≤ b * (a + n) = mul-le-mul-left b (omega arith) in
-    omega arith
-
-pub eight-times : (b i : ℕ) → 8 * (b * i) ≡ 8 * b * i
-eight-times b i = sym (mul-assoc 8 b i)
+-- ---- place i of the groups of groups has sixteen bits of one word below it
+pub sixteen-set : (words : List ℕ) (m i : ℕ) → not (eqb (getD words (6 * m + i / 4) 0 / 2 ^ (16 * (i % 4)) % 65536) 0) ≡ some (isSet words) (384 * m + 16 * i) 16
+unfolding isSet
+sixteen-set words m i =
+    field-some (getD words (6 * m + i / 4) 0) (16 * (i % 4)) 16 ∙ some-same (λ k. eqb (bit (getD words (6 * m + i / 4) 0) k) 1) (isSet words) (16 * (i % 4)) (384 * m + 16 * i) 16 (λ k h.
+    let p : (384 * m + 16 * i + k) / 64 ≡ 6 * m + i / 4 = omega arith in
+    let q : (384 * m + 16 * i + k) % 64 ≡ 16 * (i % 4) + k = omega arith in
+    rw (p, q))

@@ -1,9 +1,9 @@
--- Laws of "one of them passes the test": of a range, of two ranges joined, of the eight chunks of a byte. Assumes nothing.
+-- Laws of "one of them passes the test": of a range, of two ranges joined, of the places below a place, of the chunks of a byte and of a group. Assumes nothing.
 use mathlib.Core.Path.{_≡_, refl, sym, ap, _∙_}
 use mathlib.Core.Bool.{Bool, true, false, not, _&&_, _||_}
 use mathlib.Core.List.{List}
 use Prim.Native.Nat.{ℕ, zero, suc, _+_, _*_, _/_, _%_, _^_, _≤_, _<_}
-use native.Mathlib.Nat.{not-suc-le-zero, zero-add, add-zero, add-suc, mul-suc, mul-add}
+use native.Mathlib.Nat.{not-suc-le-zero, zero-add, add-zero, add-suc, mul-suc, mul-add, mul-assoc, pow-suc}
 use native.Mathlib.Numerals.{add-one}
 use native.Mathlib.Decide.{ℕ-discrete}
 use native.Mathlib.Omega.{arith}
@@ -16,7 +16,7 @@ use Rattle.laws.specs.Tests.{by-cases, clash}
 use Rattle.laws.specs.Bits.{table2}
 use Rattle.chunks.specs.Chunk.{byteOf, dirty}
 use Rattle.chunks.proofs.Laws.{dirty-there}
-use Rattle.summaries.specs.Summary.{some, isDirty}
+use Rattle.summaries.specs.Summary.{some, isDirty, under}
 
 -- ---- one more, none at all, the same tests
 pub some-start : (t : ℕ → Bool) (a : ℕ) → some t a 0 ≡ false
@@ -35,7 +35,7 @@ or-assoc : (p q r : Bool) → (p || (q || r)) ≡ ((p || q) || r)
 or-assoc true q r = refl
 or-assoc false q r = refl
 
-or-none : (p : Bool) → (p || false) ≡ p
+pub or-none : (p : Bool) → (p || false) ≡ p
 or-none true = refl
 or-none false = refl
 
@@ -88,8 +88,15 @@ some-parts f t w a (suc n) h =
     let r : w * (a + n) ≡ w * a + w * n = mul-add w a n in
     rw (some-parts f t w a n (λ k l. h k (omega arith)), h n (omega arith), q, some-joint t (w * a) (w * n) w, r)
 
+-- a place by the sixteen below it
+pub under-up : (xs : List ℕ) (m l i : ℕ) → under xs m (suc l) i ≡ some (under xs m l) (16 * i) 16
+unfolding under
+under-up xs m l i =
+    let p : 16 ^ suc l * i ≡ 16 ^ l * (16 * i) = rw (pow-suc 16 l, mul-assoc (16 ^ l) 16 i) in
+    rw (p, pow-suc 16 l) (sym (some-parts (under xs m l) (isDirty xs m) (16 ^ l) (16 * i) 16 (λ k b. unfold under in refl)))
+
 -- ---- a byte's eight chunks
-or-nothing : (a b : ℕ) → not (eqb (bitOr a b) 0) ≡ (not (eqb a 0) || not (eqb b 0))
+pub or-nothing : (a b : ℕ) → not (eqb (bitOr a b) 0) ≡ (not (eqb a 0) || not (eqb b 0))
 or-nothing a b = elim (ℕ-discrete a 0) [
   | yes p ↦ rw (p, or-zero-l b)
   | no d ↦ rw (ne-eqb a 0 d, ne-eqb (bitOr a b) 0 (λ e. d (let z = or-add-and a b in let y = and-le-r a b in omega arith)))
@@ -114,12 +121,22 @@ byte-chunk xs m i k hm hi hk =
     let r : (8 * i + k) % 8 ≡ k = omega arith in
     rw (zero-add k, dirty-there xs m (8 * i + k) hm (omega arith), q, r)
 
--- a byte more: got is the OR of the bytes so far, x the next one
-pub byte-more : (xs : List ℕ) (m a k got x : ℕ) → m < 16 → a + k < 512 → x ≡ getD xs (512 * m + a + k) 0 → x < 256 → not (eqb got 0) ≡ some (isDirty xs m) (8 * a) (8 * k) → not (eqb (bitOr got x) 0) ≡ some (isDirty xs m) (8 * a) (8 * (k + 1))
-byte-more xs m a k got x hm h e hx s =
-    let q : 8 * (k + 1) ≡ 8 * k + 8 = omega arith in
-    let r : 8 * a + 8 * k ≡ 8 * (a + k) = omega arith in
-    let p : 512 * m + a + k ≡ 512 * m + (a + k) = omega arith in
-    let y = byte-some (getD xs (512 * m + (a + k)) 0) (rw (← p, ← e) hx) in
-    let z = some-same (isDirty xs m) (λ j. eqb (bit (getD xs (512 * m + (a + k)) 0) j) 1) (8 * (a + k)) 0 8 (λ j l. byte-chunk xs m (a + k) j hm h l) in
-    rw (q, some-joint (isDirty xs m) (8 * a) (8 * k) 8, r, z, y, ← s, e, p) (or-nothing got (getD xs (512 * m + (a + k)) 0))
+byte-dirty : (xs : List ℕ) (m i : ℕ) → m < 16 → i < 512 → getD xs (512 * m + i) 0 < 256 → some (isDirty xs m) (8 * i) 8 ≡ not (eqb (getD xs (512 * m + i) 0) 0)
+byte-dirty xs m i hm hi hx = some-same (isDirty xs m) (λ j. eqb (bit (getD xs (512 * m + i) 0) j) 1) (8 * i) 0 8 (λ j l. byte-chunk xs m i j hm hi l) ∙ byte-some (getD xs (512 * m + i) 0) hx
+
+-- ---- a group's two bytes, of which x is the OR
+pub group-dirty : (xs : List ℕ) (m k i x : ℕ) → m < 16 → k < 4 → i < 64 → x < 256 → x ≡ bitOr (getD xs (512 * m + 128 * k + 2 * i) 0) (getD xs (512 * m + 128 * k + 2 * i + 1) 0) → not (eqb x 0) ≡ under xs m 1 (64 * k + i)
+unfolding under
+group-dirty xs m k i x hm hk hi hx e =
+    let a : ℕ = 128 * k + 2 * i in
+    let u : ℕ = getD xs (512 * m + a) 0 in
+    let v : ℕ = getD xs (512 * m + (a + 1)) 0 in
+    let p : 512 * m + 128 * k + 2 * i ≡ 512 * m + a = omega arith in
+    let q : 512 * m + a + 1 ≡ 512 * m + (a + 1) = omega arith in
+    let r : 16 * (64 * k + i) ≡ 8 * a = omega arith in
+    let o : 8 * a + 8 ≡ 8 * (a + 1) = omega arith in
+    let z : x ≡ bitOr u v = rw (p, q) at e in
+    let y = or-add-and u v in
+    let l = and-le-l u v in
+    let n = and-le-r u v in
+    rw (z, r, some-joint (isDirty xs m) (8 * a) 8 8, o, byte-dirty xs m a hm (omega arith) (omega arith), byte-dirty xs m (a + 1) hm (omega arith) (omega arith)) (or-nothing u v)

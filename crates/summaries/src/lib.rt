@@ -1,72 +1,79 @@
 // The summaries of a map: by them the next dirty chunk of a row is found without reading the row. Every public function takes a map of any length and any number, and gives
 // what the definition of specs/Summary.antt says.
 ghost use mathlib.Core.Path.{_≡_};
-ghost use Prim.Native.Nat.{_+_, _*_, _<_, _≤_};
-ghost use lib.ListN.{getD};
-ghost use Rattle.summaries.specs.Summary.{some, isDirty, bits, wordAt, summariesOf, agree, base, size, isSet, isPlace, lit};
+ghost use mathlib.Core.Bool.{true};
+ghost use Prim.Native.Nat.{ℕ, _+_, _*_, _<_};
+ghost use lib.Bits.{bitOr};
+ghost use lib.ListN.{length, getD};
+ghost use Rattle.summaries.specs.Summary.{some, bits, word, wordAt, summariesOf, agree, base, size, isSet, isPlace, lit};
 
 // Six words of 64 bits for each of the sixteen rows.
 pub type Summaries = [u64; 96];
 
 // ---- the words that are true of a map
-// Whether a chunk of the n bytes from byte a of member m's row on is dirty.
-fn some_dirty(map: &[u8], m: u64, a: u64, n: u64) -> bool
-    requires { ⌜ (m < 16) × (a + n ≤ 512) ⌝ }
-    ensures { λ r. ⌜ r ≡ some (isDirty (now (map .entry)) m) (8 * a) (8 * n) ⌝ }
+// The OR of the two bytes from byte a on: not zero where one of their sixteen chunks is dirty. Whoever knows that both lie within the map says so: a loop finds that out once, and not at
+// each byte.
+fn pair(map: &[u8], within: bool, a: usize) -> u8
+    requires { ⌜ (a < 8192) × (within ≡ true → a + 1 < length (now map)) ⌝ }
+    ensures { λ r. ⌜ r ≡ bitOr (getD (now (map .entry)) a 0) (getD (now (map .entry)) (a + 1) 0) ⌝ }
 {
-    let from = 512 * m + a;
-    let mut got: u8 = 0;
-    let mut k: u64 = 0;
-    while k < n {
-        got = got | chunks::get(map, (from + k) as usize);
-        k += 1;
+    if within {
+        return map[a] | map[a + 1];
     }
-    got != 0
+    chunks::get(map, a) | chunks::get(map, a + 1)
 }
 
-// The word of n places from place a on, of the level that has b bytes of the row under each place.
-fn word(map: &[u8], m: u64, b: u64, a: u64, n: u64) -> u64
-    requires { ⌜ (m < 16) × ((n ≤ 64) × ((a + n ≤ 256) × (b * (a + n) ≤ 512))) ⌝ }
-    ensures { λ r. ⌜ r ≡ bits (λ k. some (isDirty (now (map .entry)) m) (8 * b * (a + k)) (8 * b)) n ⌝ }
+// Word k of member m's groups: 64 of them, two bytes of the row each. This alone reads the map.
+fn groups(map: &[u8], m: u64, k: u64) -> u64
+    requires { ⌜ (m < 16) × (k < 4) ⌝ }
+    ensures { λ r. ⌜ r ≡ word (now (map .entry)) m 1 (64 * k) 64 ⌝ }
 {
+    let from = (512 * m + 128 * k) as usize;
+    let within = from + 128 <= map.len();
     let mut got: u64 = 0;
-    let mut k: u64 = 0;
-    while k < n {
-        if some_dirty(map, m, b * (a + k), b) {
-            got = got | (1u64 << k);
+    let mut digit: u64 = 1;
+    let mut i: usize = 0;
+    while i < 64 {
+        if pair(map, within, from + 2 * i) != 0 {
+            got = got | digit;
         }
-        k += 1;
+        digit = digit << 1;
+        i += 1;
     }
     got
 }
 
-// Word j of the map's summaries.
-fn word_at(map: &[u8], j: u64) -> u64
-    requires { ⌜ j < 96 ⌝ }
+// The word of member m's groups of groups, by the four words of its groups: sixteen bits for each place.
+fn over(words: &Summaries, m: u64) -> u64
+    requires { ⌜ m < 16 ⌝ }
+    ensures { λ r. ⌜ r ≡ bits (λ i. some (isSet (now (words .entry))) (384 * m + 16 * i) 16) 16 ⌝ }
+{
+    let mut got: u64 = 0;
+    let mut i: u64 = 0;
+    while i < 16 {
+        if (words[(6 * m + i / 4) as usize] >> (16 * (i % 4))) % 65536 != 0 {
+            got = got | (1u64 << i);
+        }
+        i += 1;
+    }
+    got
+}
+
+// Word j of the map's summaries, where the words before it are the map's: a word of groups by the map, any other by the level below, so that the map is read once and not at each level.
+fn word_at(words: &Summaries, map: &[u8], j: u64) -> u64
+    requires { ⌜ (j < 96) × ((k : ℕ) → k < j → getD (now words) k 0 ≡ wordAt (now map) k) ⌝ }
     ensures { λ r. ⌜ r ≡ wordAt (now (map .entry)) j ⌝ }
 {
     let m = j / 6;
     let k = j % 6;
     if k < 4 {
-        return word(map, m, 2, 64 * k, 64);
+        return groups(map, m, k);
     }
     if k == 4 {
-        return word(map, m, 32, 0, 16);
+        return over(words, m);
     }
-    word(map, m, 512, 0, 1)
-}
-
-// Whether the summaries agree with the map, in every row and every bit. It reads the whole map.
-pub fn agree(words: Summaries, map: &[u8]) -> bool
-    ensures { λ r. ⌜ r ≡ agree words (now (map .entry)) ⌝ }
-{
-    let mut same = true;
-    let mut j: usize = 0;
-    while j < 96 {
-        same = same & (words[j] == word_at(map, j as u64));
-        j += 1;
-    }
-    same
+    let below = words[(6 * m + 4) as usize];
+    if below == 0 { 0 } else { 1 }
 }
 
 // The summaries of the map.
@@ -76,10 +83,24 @@ pub fn of_map(map: &[u8]) -> Summaries
     let mut words = [0u64; 96];
     let mut j: usize = 0;
     while j < 96 {
-        words[j] = word_at(map, j as u64);
+        words[j] = word_at(&words, map, j as u64);
         j += 1;
     }
     words
+}
+
+// Whether the summaries agree with the map, in every row and every bit. It reads the whole map.
+pub fn agree(words: Summaries, map: &[u8]) -> bool
+    ensures { λ r. ⌜ r ≡ agree words (now (map .entry)) ⌝ }
+{
+    let own = of_map(map);
+    let mut same = true;
+    let mut j: usize = 0;
+    while j < 96 {
+        same = same & (words[j] == own[j]);
+        j += 1;
+    }
+    same
 }
 
 // ---- where a place's bit is

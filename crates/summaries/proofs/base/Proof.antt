@@ -8,11 +8,11 @@ use Rattle.summaries.proofs.base.Reads as reads
 use Rattle.summaries.proofs.base.Lts as lts
 use Rattle.summaries.proofs.entry.Reads as entry-reads
 
--- src/lib.rt:98:5
+-- src/lib.rt:119:5
 entry-requires : tie.Need-entry-requires
 entry-requires c κs = search needs
 
--- src/lib.rt:95:1
+-- src/lib.rt:116:1
 returns : tie.Need-returns
 unfolding base
 returns c = c .entry .ensures

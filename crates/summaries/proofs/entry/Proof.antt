@@ -8,19 +8,19 @@ use Rattle.summaries.proofs.entry.Tie as tie
 use Rattle.summaries.proofs.entry.Reads as reads
 use Rattle.summaries.proofs.entry.Lts as lts
 
--- src/lib.rt:91:20
+-- src/lib.rt:112:20
 mul-result : tie.Need-mul-result
 mul-result c = search needs
 
--- src/lib.rt:91:20
+-- src/lib.rt:112:20
 array-read-result : tie.Need-array-read-result
 array-read-result c = search needs
 
--- src/lib.rt:88:1
+-- src/lib.rt:109:1
 returns : tie.Need-returns
 returns c = search needs
 
--- src/lib.rt:88:1
+-- src/lib.rt:109:1
 returns-2 : tie.Need-returns-2
 returns-2 c = let h : length (c .before .args .t1) ≡ 4 = search needs in let q : length (c .before .args .t1) ≤ c .before .args .level = omega arith in sym (List·getD-eq-default (c .before .args .t1) 0 q)
 

@@ -8,11 +8,11 @@ use Rattle.summaries.proofs.is_place.Reads as reads
 use Rattle.summaries.proofs.is_place.Lts as lts
 use Rattle.summaries.proofs.size.Reads as size-reads
 
--- src/lib.rt:112:21
+-- src/lib.rt:133:21
 size-requires : tie.Need-size-requires
 size-requires c κs = search needs
 
--- src/lib.rt:109:1
+-- src/lib.rt:130:1
 returns : tie.Need-returns
 unfolding isPlace
 returns c = rw (c .size .ensures)

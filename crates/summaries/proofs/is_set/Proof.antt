@@ -8,19 +8,19 @@ use Rattle.summaries.proofs.is_set.Tie as tie
 use Rattle.summaries.proofs.is_set.Reads as reads
 use Rattle.summaries.proofs.is_set.Lts as lts
 
--- src/lib.rt:120:6
+-- src/lib.rt:141:6
 mul-result : tie.Need-mul-result
 mul-result c = search needs
 
--- src/lib.rt:120:6
+-- src/lib.rt:141:6
 element-copy-out-result : tie.Need-element-copy-out-result
 element-copy-out-result c = search needs
 
--- src/lib.rt:120:6
+-- src/lib.rt:141:6
 shr-result : tie.Need-shr-result
 shr-result c = search needs
 
--- src/lib.rt:116:1
+-- src/lib.rt:137:1
 returns : tie.Need-returns
 unfolding isSet bit
 returns c = refl

@@ -8,11 +8,11 @@ use Rattle.summaries.proofs.size.Reads as reads
 use Rattle.summaries.proofs.size.Lts as lts
 use Rattle.summaries.proofs.entry.Reads as entry-reads
 
--- src/lib.rt:105:5
+-- src/lib.rt:126:5
 entry-requires : tie.Need-entry-requires
 entry-requires c κs = search needs
 
--- src/lib.rt:102:1
+-- src/lib.rt:123:1
 returns : tie.Need-returns
 unfolding size
 returns c = c .entry .ensures
