@@ -19,7 +19,7 @@ LAYERS = {
     "ground": "numbers refusals sets chunks maps parts fills emptyrows rows summaries mending searching versions",
     "client": "state roster changes run recovery rules exits joins extending enables links writes removal answers breaking checks client",
     "node": "nodestate noderegister nodejoins nodeenables nodewrites nodefills nodeserve nodehand nodemaps nodesummaries nodenext nodechecks node",
-    "theorems": "order events creation bounds table clientevents mapchecks nodeevents commuting world honest demand3 added histories forgotten followed",
+    "theorems": "order events creation bounds table clientevents mapchecks nodeevents commuting world honest demand3 added histories forgotten followed stillempty",
     "lab": "text names lines forms eventlines commands say sayclient saynode sayrow journal sayrecord saylab post lending anyclient anynode lendclient lendnode lendask bench truing delivery fetching reading arranging lab",
     "backup": "descriptors statuswriter statusreader statuslaws statustool status statusread statusrefused",
     "compare": "dumps differences saydifferences comparing compare comparesame comparelong",

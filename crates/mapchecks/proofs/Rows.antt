@@ -202,7 +202,7 @@ done c xs number m a = at (answer-judged c xs number m true)
     at (Judged.does f q) = record { below = let h = ltb-false 15 m (f 3 refl) in omega (arith, h); is = q }
 
 -- after a first answer that zeroed nothing one stands
-first-once : (m : ℕ) (c : Client) → First m c → has (c .check .once) m ≡ true
+pub first-once : (m : ℕ) (c : Client) → First m c → has (c .check .once) m ≡ true
 first-once m c f = along m (next (Event.checkAnswer (f .xs) (f .number) m true) (f .at)) c (f .quiet) start
   where
     d : Done (f .at) (f .xs) (f .number) m

@@ -1,0 +1,182 @@
+-- What an event of the client tells nodes that acknowledges no write and changes no session: no marks, no fill.
+use mathlib.Core.Path.{_≡_, refl, sym, ap, _∙_}
+use mathlib.Core.Bool.{Bool, true, false, _&&_, not}
+use mathlib.Core.List.{List}
+use Prim.Native.Nat.{ℕ}
+use lib.Dec.{eqb}
+use Rattle.laws.specs.Words.{pick}
+use Rattle.laws.specs.Tests.{clash, by-cases, either, and-left}
+use Rattle.sets.specs.Sets.{has}
+use Rattle.state.specs.declared.Op.{Op}
+use Rattle.state.specs.declared.Run.{Run}
+use Rattle.state.specs.declared.Job.{Job}
+use Rattle.state.specs.declared.Message.{Message}
+use Rattle.state.specs.declared.Mode.{Mode}
+use Rattle.state.specs.declared.Told.{Told}
+use Rattle.state.specs.declared.Reply.{Reply}
+use Rattle.state.specs.declared.Answer.{Answer}
+use Rattle.state.specs.declared.Roster.{Roster}
+use Rattle.state.specs.declared.Session.{Session}
+use Rattle.state.specs.declared.State.{State}
+use Rattle.state.specs.declared.Pool.{Pool}
+use Rattle.state.specs.declared.Turn.{Turn}
+use Rattle.state.specs.Session.{isFree, isCreated, isDelete}
+use Rattle.roster.specs.Roster.{sessionAt}
+use Rattle.run.specs.declared.Who.{Who}
+use Rattle.run.specs.Run.{receiver, takes}
+use Rattle.recovery.specs.Recovery.{disabling, disablingBut}
+use Rattle.exits.specs.Exit.{refused}
+use Rattle.joins.specs.Joins.{joinTold, createRefusal, createDone, joinCreate, assembleRefusal, assembleDone, joinAssemble}
+use Rattle.links.specs.Links.{downRefusal, downAt, downDone, linkDown, checkRefusal, checkDone, storeCheck, rejoinRefusal, rejoin, tryRefusal, tryRun}
+use Rattle.enables.specs.Enables.{enableRefusal, enableDone, enable, maintenanceRefusal, maintenanceDone, maintenance}
+use Rattle.writes.specs.Writes.{marks, writeRefusal, writeDone, writeEnded, syncRefusal, syncDone, synced}
+use Rattle.removal.specs.Remove.{removeRefusal, remove}
+use Rattle.answers.specs.Answers.{answerRefusal, answered, answer}
+use Rattle.client.specs.Client.{soundFor, cleanTo, removeTurn, writeTurn, answerTurn, syncedTurn}
+use Rattle.breaking.specs.Breaking.{isAccepted, acknowledges}
+use Rattle.events.specs.Events.{Event, turnOf}
+use Rattle.node.specs.Events as storage
+use Rattle.world.specs.Station.{Station, does}
+use Rattle.histories.specs.World.{whenTo, dueTo, afterAll, toldIn}
+use Rattle.stillempty.proofs.Rows.{Empty, brings, row-kept}
+
+abbrev pub still : Told → Bool
+still Told.Nothing = true
+still (Told.Marks to chunk list version) = false
+still (Told.Clears to member chunk) = true
+still (Told.Infos to op member) = true
+still (Told.Disable to) = true
+still (Told.Off to) = true
+still (Told.Extended others normals member version) = false
+still (Told.Checks to tick) = true
+
+abbrev pub Still : Turn → Type 0
+Still t = still (toldIn (t .answer)) ≡ true
+
+still-if : (p : Pool) (why : ℕ) (done : Turn) → Still done → Still (pick (eqb why 0) done (refused p why))
+still-if p why done q = either Still (eqb why 0) done (refused p why) q refl
+
+join-still : (ro : Roster) (op : Op) (id : ℕ) → still (joinTold ro op id) ≡ true
+unfolding joinTold
+join-still ro op id = either (λ (t : Told). still t ≡ true) (ro .sync) Told.Nothing _ refl refl
+
+create-still : (p : Pool) (id : ℕ) → Still (joinCreate p id)
+unfolding joinCreate createDone
+create-still p id = still-if p (createRefusal p id) (createDone p id) (join-still (p .roster) Op.AddCreate id)
+
+assemble-still : (p : Pool) (id set version : ℕ) → Still (joinAssemble p id set version)
+unfolding joinAssemble assembleDone
+assemble-still p id set version = still-if p (assembleRefusal p id set version) (assembleDone p id set version) (join-still (p .roster) Op.AddAssemble id)
+
+enable-still : (p : Pool) (id : ℕ) → Still (enable p id)
+unfolding enable enableDone
+enable-still p id = still-if p (enableRefusal p id) (enableDone p id) (either Still (isCreated (sessionAt (p .roster) id .state)) _ _ refl refl)
+
+maintenance-still : (p : Pool) (id : ℕ) → Still (maintenance p id)
+unfolding maintenance maintenanceDone
+maintenance-still p id = still-if p (maintenanceRefusal p id) (maintenanceDone p id) refl
+
+but-still : (id : ℕ) (x : Who) → still (disablingBut id x) ≡ true
+but-still id Who.Nobody = refl
+but-still id (Who.One i) = either (λ (u : Told). still u ≡ true) (eqb i id) Told.Nothing (Told.Disable i) refl refl
+
+who-still : (x : Who) → still (disabling x) ≡ true
+who-still Who.Nobody = refl
+who-still (Who.One i) = refl
+
+down-still : (p : Pool) (id : ℕ) → Still (linkDown p id)
+unfolding linkDown downDone
+down-still p id = still-if p (downRefusal p id) (downDone p id) (at (p .job))
+  where
+    at : (j : Job) → Still (downAt j p id)
+    at Job.Idle = refl
+    at (Job.Running r) = but-still id (receiver r)
+    at (Job.Removing d) = refl
+
+check-still : (p : Pool) (id : ℕ) → Still (storeCheck p id)
+unfolding storeCheck checkDone
+check-still p id = still-if p (checkRefusal p id) (checkDone p id) (either Still (p .roster .sync) _ _ refl refl)
+
+rejoin-still : (p : Pool) (id : ℕ) → Still (rejoin p id)
+unfolding rejoin checkDone
+rejoin-still p id = still-if p (rejoinRefusal p id) (checkDone p id) (either Still (p .roster .sync) _ _ refl refl)
+
+try-still : (p : Pool) → Still (tryRun p)
+unfolding tryRun
+try-still p = still-if p (tryRefusal p) _ refl
+
+remove-still : (p : Pool) (sound : Bool) (id : ℕ) (mode : Mode) → Still (remove p sound id mode)
+unfolding remove
+remove-still p sound id mode = still-if p (removeRefusal p sound id mode) _ refl
+
+sync-still : (p : Pool) (sound : Bool) (member chunk clean : ℕ) → Still (synced p sound member chunk clean)
+unfolding synced syncDone
+sync-still p sound member chunk clean = still-if p (syncRefusal p sound member chunk clean) (syncDone p member chunk) refl
+
+answer-still : (p : Pool) (sound : Bool) (number : ℕ) (a : Reply) → Still (answer p sound number a)
+unfolding answer
+answer-still p sound number a = still-if p (answerRefusal p sound number) (answered (p .job) p a) (at (p .job))
+  where
+    at : (j : Job) → Still (answered j p a)
+    at Job.Idle = refl
+    at (Job.Running r) = who-still (takes (p .roster .members) (p .roster .version) r a .disable)
+    at (Job.Removing d) = refl
+
+-- a write that is not acknowledged
+abbrev Unwritten : Turn → Type 0
+Unwritten t = acknowledges (t .answer) ≡ false → Still t
+
+write-still : (p : Pool) (sound : Bool) (chunk reached : ℕ) → Unwritten (writeEnded p sound chunk reached)
+unfolding writeEnded writeDone marks
+write-still p sound chunk reached =
+    either Unwritten (eqb (writeRefusal p sound chunk reached) 0) (writeDone p chunk reached) (refused p (writeRefusal p sound chunk reached))
+    (either Unwritten (eqb reached 0) _ _ (λ u. refl) (λ u. clash refl u))
+    (λ u. refl)
+
+-- every event but extend
+abbrev pub isExtend : Event → Bool
+isExtend (Event.joinCreate id) = false
+isExtend (Event.joinAssemble id set version) = false
+isExtend (Event.enable id) = false
+isExtend (Event.maintenance id) = false
+isExtend (Event.linkDown id) = false
+isExtend (Event.storeCheck id) = false
+isExtend (Event.rejoin id) = false
+isExtend Event.tryRun = false
+isExtend (Event.remove xs id mode) = false
+isExtend (Event.write xs chunk reached) = false
+isExtend (Event.synced xs member chunk) = false
+isExtend (Event.answer xs number reply) = false
+isExtend (Event.extend xs) = true
+
+pub calm : (e : Event) (p : Pool) → isExtend e ≡ false → acknowledges (turnOf e p .answer) ≡ false → Still (turnOf e p)
+unfolding removeTurn writeTurn answerTurn syncedTurn
+calm (Event.joinCreate id) p x u = create-still p id
+calm (Event.joinAssemble id set version) p x u = assemble-still p id set version
+calm (Event.enable id) p x u = enable-still p id
+calm (Event.maintenance id) p x u = maintenance-still p id
+calm (Event.linkDown id) p x u = down-still p id
+calm (Event.storeCheck id) p x u = check-still p id
+calm (Event.rejoin id) p x u = rejoin-still p id
+calm Event.tryRun p x u = try-still p
+calm (Event.remove xs id mode) p x u = remove-still p (soundFor p xs) id mode
+calm (Event.write xs chunk reached) p x u = write-still p (soundFor p xs) chunk reached u
+calm (Event.synced xs member chunk) p x u = sync-still p (soundFor p xs) member chunk (cleanTo xs chunk 16)
+calm (Event.answer xs number reply) p x u = answer-still p (soundFor p xs) number reply
+calm (Event.extend xs) p x u = clash refl x
+
+-- ---- at a node
+module _ (m : ℕ) where
+  when : (b : Bool) (e : storage.Event) (s : Station) → brings e ≡ false → s .node .id ≡ m → Empty m (s .map) → Empty m (afterAll (whenTo b e) s .map)
+  when true e s n i k = row-kept m e s n i k
+  when false e s n i k = k
+
+  pub told-kept : (t : Told) (s : Station) → still t ≡ true → s .node .id ≡ m → Empty m (s .map) → Empty m (afterAll (dueTo t m) s .map)
+  told-kept Told.Nothing s q i k = k
+  told-kept (Told.Marks to chunk list version) s q i k = clash q refl
+  told-kept (Told.Clears to member chunk) s q i k = when (has to m) (storage.Event.synced member chunk) s refl i k
+  told-kept (Told.Infos to op member) s q i k = when (has to m) (storage.Event.poolInfo op member) s refl i k
+  told-kept (Told.Disable to) s q i k = when (eqb to m) storage.Event.mapDisable s refl i k
+  told-kept (Told.Off to) s q i k = when (eqb to m) storage.Event.enable0 s refl i k
+  told-kept (Told.Extended others normals member version) s q i k = clash q refl
+  told-kept (Told.Checks to tick) s q i k = k

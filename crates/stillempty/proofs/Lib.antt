@@ -1,0 +1,4 @@
+pub mod Rows
+pub mod Calm
+pub mod Arrivals
+pub mod StillEmpty
