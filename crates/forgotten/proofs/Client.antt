@@ -13,15 +13,10 @@ use Rattle.state.specs.declared.Reply.{Reply}
 use Rattle.state.specs.declared.Answer.{Answer}
 use Rattle.state.specs.declared.Pool.{Pool}
 use Rattle.state.specs.declared.Turn.{Turn}
-use Rattle.state.specs.Session.{isCreated}
-use Rattle.roster.specs.Roster.{sessionAt}
-use Rattle.run.specs.declared.Who.{Who}
-use Rattle.run.specs.Run.{receiver, takes}
-use Rattle.recovery.specs.Recovery.{disabling, disablingBut}
 use Rattle.exits.specs.Exit.{refused}
 use Rattle.rules.specs.Jobs.{isIdle, isRunning}
-use Rattle.links.specs.Links.{downRefusal, downAt, downDone, linkDown, checkRefusal, checkDone, storeCheck, rejoinRefusal, rejoin, tryRefusal, tryRun}
-use Rattle.enables.specs.Enables.{enableRefusal, enableDone, enable, maintenanceRefusal, maintenanceDone, maintenance}
+use Rattle.links.specs.Links.{linkDown, storeCheck, rejoin, tryRun}
+use Rattle.enables.specs.Enables.{enable, maintenance}
 use Rattle.answers.specs.Answers.{answerRefusal, answered, answer}
 use Rattle.client.specs.Client.{soundFor, answerTurn}
 use Rattle.keeps.specs.Pools.{Valid}
@@ -39,6 +34,7 @@ use Rattle.mirrorremoval.proofs.Onward.{removal-answer}
 use Rattle.mirrorworld.specs.Reflects.{Reflects}
 use Rattle.mirrorworld.proofs.Told.{quiet}
 use Rattle.mirrorworld.proofs.Acts.{acts}
+use Rattle.mirrorworld.proofs.Tellings.{check-told, rejoin-told, try-told, enable-told, maintenance-told, down-told, answer-told}
 use Rattle.histories.specs.World.{World, Happening, accepts, acknowledges, toldIn, acted, byClient, after}
 use Rattle.histories.specs.History.{History, then, takesIn, writes, joinedBy, joined, waitsBy, waits, ackedBy, acked}
 use Rattle.forgotten.specs.Premises.{Keeps}
@@ -141,71 +137,29 @@ module _ (w : World) (h : History w) (t : Tells h) (e : Event) (got : ℕ) where
 abbrev Quiet : Turn → Type 0
 Quiet t = quiet (toldIn (t .answer)) ≡ true
 
-quiet-if : (p : Pool) (why : ℕ) (done : Turn) → Quiet done → Quiet (pick (eqb why 0) done (refused p why))
-quiet-if p why done q = either Quiet (eqb why 0) done (refused p why) q refl
-
-but-quiet : (id : ℕ) (x : Who) → quiet (disablingBut id x) ≡ true
-but-quiet id Who.Nobody = refl
-but-quiet id (Who.One i) = either (λ (u : Told). quiet u ≡ true) (eqb i id) Told.Nothing (Told.Disable i) refl refl
-
-who-quiet : (x : Who) → quiet (disabling x) ≡ true
-who-quiet Who.Nobody = refl
-who-quiet (Who.One i) = refl
-
-down-quiet : (p : Pool) (id : ℕ) → Quiet (linkDown p id)
-unfolding linkDown downDone
-down-quiet p id = quiet-if p (downRefusal p id) (downDone p id) (at (p .job))
-  where
-    at : (j : Job) → Quiet (downAt j p id)
-    at Job.Idle = refl
-    at (Job.Running r) = but-quiet id (receiver r)
-    at (Job.Removing d) = refl
-
-check-quiet : (p : Pool) (id : ℕ) → Quiet (storeCheck p id)
-unfolding storeCheck checkDone
-check-quiet p id = quiet-if p (checkRefusal p id) (checkDone p id) (either Quiet (p .roster .sync) _ _ refl refl)
-
-rejoin-quiet : (p : Pool) (id : ℕ) → Quiet (rejoin p id)
-unfolding rejoin checkDone
-rejoin-quiet p id = quiet-if p (rejoinRefusal p id) (checkDone p id) (either Quiet (p .roster .sync) _ _ refl refl)
-
-try-quiet : (p : Pool) → Quiet (tryRun p)
-unfolding tryRun
-try-quiet p = quiet-if p (tryRefusal p) _ refl
-
-maintenance-quiet : (p : Pool) (id : ℕ) → Quiet (maintenance p id)
-unfolding maintenance maintenanceDone
-maintenance-quiet p id = quiet-if p (maintenanceRefusal p id) (maintenanceDone p id) refl
+-- of a message that is not told, of MAP_DISABLE, of ENABLE 0
+abbrev Silent : Told → Type 0
+Silent t = quiet t ≡ true
 
 pub enable-quiet : (p : Pool) (id : ℕ) → Quiet (enable p id)
-unfolding enable enableDone
-enable-quiet p id = quiet-if p (enableRefusal p id) (enableDone p id) (either Quiet (isCreated (sessionAt (p .roster) id .state)) _ _ refl refl)
-
-answer-quiet : (p : Pool) (sound : Bool) (number : ℕ) (a : Reply) → Quiet (answer p sound number a)
-unfolding answer
-answer-quiet p sound number a = quiet-if p (answerRefusal p sound number) (answered (p .job) p a) (at (p .job))
-  where
-    at : (j : Job) → Quiet (answered j p a)
-    at Job.Idle = refl
-    at (Job.Running r) = who-quiet (takes (p .roster .members) (p .roster .version) r a .disable)
-    at (Job.Removing d) = refl
+enable-quiet p id = enable-told Silent refl p id
 
 -- ---- each of them
 module _ (w : World) (h : History w) (t : Tells h) (got : ℕ) where
   pub downs : (id : ℕ) → Tells (then w (Happening.client (Event.linkDown id) got) h)
-  downs id = moved-tells w h t (Event.linkDown id) got (λ j. refl) (link-down (w .pool) id (t .a) (t .reflects .valid) (t .reflects .plain) (t .reflects .shows)) (down-quiet (w .pool) id) (λ c. refl) refl
+  downs id = moved-tells w h t (Event.linkDown id) got (λ j. refl) (link-down (w .pool) id (t .a) (t .reflects .valid) (t .reflects .plain) (t .reflects .shows)) (down-told Silent refl (λ i. refl) (w .pool) id) (λ c. refl) refl
 
   pub checks : (id : ℕ) → Tells (then w (Happening.client (Event.storeCheck id) got) h)
-  checks id = moved-tells w h t (Event.storeCheck id) got (λ j. refl) (store-check (w .pool) id (t .a) (t .reflects .valid) (t .reflects .plain) (t .reflects .shows)) (check-quiet (w .pool) id) (λ c. refl) refl
+  checks id = moved-tells w h t (Event.storeCheck id) got (λ j. refl) (store-check (w .pool) id (t .a) (t .reflects .valid) (t .reflects .plain) (t .reflects .shows)) (check-told Silent refl (w .pool) id) (λ c. refl) refl
 
   pub rejoined : (id : ℕ) → Tells (then w (Happening.client (Event.rejoin id) got) h)
-  rejoined id = moved-tells w h t (Event.rejoin id) got (λ j. refl) (rejoins (w .pool) id (t .a) (t .reflects .valid) (t .reflects .plain) (t .reflects .shows)) (rejoin-quiet (w .pool) id) (λ c. refl) refl
+  rejoined id = moved-tells w h t (Event.rejoin id) got (λ j. refl) (rejoins (w .pool) id (t .a) (t .reflects .valid) (t .reflects .plain) (t .reflects .shows)) (rejoin-told Silent refl (w .pool) id) (λ c. refl) refl
 
   pub tried : Tells (then w (Happening.client Event.tryRun got) h)
-  tried = moved-tells w h t Event.tryRun got (λ j. refl) (try-run (w .pool) (t .a) (t .reflects .valid) (t .reflects .plain) (t .reflects .shows)) (try-quiet (w .pool)) (λ c. refl) refl
+  tried = moved-tells w h t Event.tryRun got (λ j. refl) (try-run (w .pool) (t .a) (t .reflects .valid) (t .reflects .plain) (t .reflects .shows)) (try-told Silent refl (w .pool)) (λ c. refl) refl
 
   pub maintains : (id : ℕ) → Tells (then w (Happening.client (Event.maintenance id) got) h)
-  maintains id = moved-tells w h t (Event.maintenance id) got (λ j. refl) (maintained (w .pool) id (t .a) (t .reflects .valid) (t .reflects .plain) (t .reflects .shows)) (maintenance-quiet (w .pool) id) (λ c. refl) refl
+  maintains id = moved-tells w h t (Event.maintenance id) got (λ j. refl) (maintained (w .pool) id (t .a) (t .reflects .valid) (t .reflects .plain) (t .reflects .shows)) (maintenance-told Silent refl (λ i. refl) (w .pool) id) (λ c. refl) refl
 
   -- enable is given only to a session that is not CREATED, or refused
   pub enables : (id : ℕ) → Keeps h (Happening.client (Event.enable id) got) → Tells (then w (Happening.client (Event.enable id) got) h)
@@ -217,7 +171,7 @@ module _ (w : World) (h : History w) (t : Tells h) (got : ℕ) where
 
   pub answers : (xs : List ℕ) (number : ℕ) (a : Reply) → Keeps h (Happening.client (Event.answer xs number a) got) → Tells (then w (Happening.client (Event.answer xs number a) got) h)
   unfolding answerTurn
-  answers xs number a k = moved-tells w h t (Event.answer xs number a) got (λ j. refl) (go (w .pool .job) refl) (answer-quiet (w .pool) (soundFor (w .pool) xs) number a) (λ c. refl) refl
+  answers xs number a k = moved-tells w h t (Event.answer xs number a) got (λ j. refl) (go (w .pool .job) refl) (answer-told Silent refl (λ i. refl) (w .pool) (soundFor (w .pool) xs) number a) (λ c. refl) refl
     where
       hears : (a : Reply) (r : Run) → w .pool .job ≡ Job.Running r → Keeps h (Happening.client (Event.answer xs number a) got) → isAccepted (answer (w .pool) (soundFor (w .pool) xs) number a .answer) ≡ true → Hears a (t .a .hand)
       hears Reply.Failed r e k z = tt

@@ -3,3 +3,4 @@ pub mod Every
 pub mod Arrives
 pub mod Told
 pub mod Acts
+pub mod Tellings

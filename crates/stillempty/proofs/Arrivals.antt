@@ -1,10 +1,8 @@
 -- The nodes after what comes to them while no run is in hand: a node's own row stays empty.
-use mathlib.Core.Path.{_≡_, refl, sym, ap, _∙_, subst}
+use mathlib.Core.Path.{_≡_, refl, sym, subst}
 use mathlib.Core.Bool.{Bool, true, false}
 use mathlib.Core.List.{List}
-use mathlib.Core.Logic.{_≢_}
 use Prim.Native.Nat.{ℕ}
-use Rattle.laws.specs.Words.{pick}
 use Rattle.laws.specs.Tests.{clash, either}
 use Rattle.sets.specs.Sets.{has}
 use Rattle.state.specs.declared.Job.{Job}

@@ -1,42 +1,30 @@
 -- What an event of the client tells nodes that acknowledges no write and changes no session: no marks, no fill.
-use mathlib.Core.Path.{_≡_, refl, sym, ap, _∙_}
-use mathlib.Core.Bool.{Bool, true, false, _&&_, not}
-use mathlib.Core.List.{List}
+use mathlib.Core.Path.{_≡_, refl}
+use mathlib.Core.Bool.{Bool, true, false, not}
 use Prim.Native.Nat.{ℕ}
 use lib.Dec.{eqb}
 use Rattle.laws.specs.Words.{pick}
-use Rattle.laws.specs.Tests.{clash, by-cases, either, and-left}
+use Rattle.laws.specs.Tests.{clash, either}
 use Rattle.sets.specs.Sets.{has}
 use Rattle.state.specs.declared.Op.{Op}
-use Rattle.state.specs.declared.Run.{Run}
-use Rattle.state.specs.declared.Job.{Job}
-use Rattle.state.specs.declared.Message.{Message}
 use Rattle.state.specs.declared.Mode.{Mode}
 use Rattle.state.specs.declared.Told.{Told}
-use Rattle.state.specs.declared.Reply.{Reply}
-use Rattle.state.specs.declared.Answer.{Answer}
 use Rattle.state.specs.declared.Roster.{Roster}
-use Rattle.state.specs.declared.Session.{Session}
-use Rattle.state.specs.declared.State.{State}
 use Rattle.state.specs.declared.Pool.{Pool}
 use Rattle.state.specs.declared.Turn.{Turn}
-use Rattle.state.specs.Session.{isFree, isCreated, isDelete}
-use Rattle.roster.specs.Roster.{sessionAt}
-use Rattle.run.specs.declared.Who.{Who}
-use Rattle.run.specs.Run.{receiver, takes}
-use Rattle.recovery.specs.Recovery.{disabling, disablingBut}
 use Rattle.exits.specs.Exit.{refused}
 use Rattle.joins.specs.Joins.{joinTold, createRefusal, createDone, joinCreate, assembleRefusal, assembleDone, joinAssemble}
-use Rattle.links.specs.Links.{downRefusal, downAt, downDone, linkDown, checkRefusal, checkDone, storeCheck, rejoinRefusal, rejoin, tryRefusal, tryRun}
-use Rattle.enables.specs.Enables.{enableRefusal, enableDone, enable, maintenanceRefusal, maintenanceDone, maintenance}
+use Rattle.links.specs.Links.{linkDown, storeCheck, rejoin, tryRun}
+use Rattle.enables.specs.Enables.{enable, maintenance}
 use Rattle.writes.specs.Writes.{marks, writeRefusal, writeDone, writeEnded, syncRefusal, syncDone, synced}
 use Rattle.removal.specs.Remove.{removeRefusal, remove}
-use Rattle.answers.specs.Answers.{answerRefusal, answered, answer}
+use Rattle.answers.specs.Answers.{answer}
 use Rattle.client.specs.Client.{soundFor, cleanTo, removeTurn, writeTurn, answerTurn, syncedTurn}
-use Rattle.breaking.specs.Breaking.{isAccepted, acknowledges}
+use Rattle.breaking.specs.Breaking.{acknowledges}
 use Rattle.events.specs.Events.{Event, turnOf}
 use Rattle.node.specs.Events as storage
-use Rattle.world.specs.Station.{Station, does}
+use Rattle.world.specs.Station.{Station}
+use Rattle.mirrorworld.proofs.Tellings.{if-told, check-told, rejoin-told, try-told, enable-told, maintenance-told, down-told, answer-told}
 use Rattle.histories.specs.World.{whenTo, dueTo, afterAll, toldIn}
 use Rattle.stillempty.proofs.Rows.{Empty, brings, row-kept}
 
@@ -53,8 +41,11 @@ still (Told.Checks to tick) = true
 abbrev pub Still : Turn → Type 0
 Still t = still (toldIn (t .answer)) ≡ true
 
+abbrev Kept : Told → Type 0
+Kept t = still t ≡ true
+
 still-if : (p : Pool) (why : ℕ) (done : Turn) → Still done → Still (pick (eqb why 0) done (refused p why))
-still-if p why done q = either Still (eqb why 0) done (refused p why) q refl
+still-if p why done q = if-told Kept refl p why done q
 
 join-still : (ro : Roster) (op : Op) (id : ℕ) → still (joinTold ro op id) ≡ true
 unfolding joinTold
@@ -68,43 +59,6 @@ assemble-still : (p : Pool) (id set version : ℕ) → Still (joinAssemble p id 
 unfolding joinAssemble assembleDone
 assemble-still p id set version = still-if p (assembleRefusal p id set version) (assembleDone p id set version) (join-still (p .roster) Op.AddAssemble id)
 
-enable-still : (p : Pool) (id : ℕ) → Still (enable p id)
-unfolding enable enableDone
-enable-still p id = still-if p (enableRefusal p id) (enableDone p id) (either Still (isCreated (sessionAt (p .roster) id .state)) _ _ refl refl)
-
-maintenance-still : (p : Pool) (id : ℕ) → Still (maintenance p id)
-unfolding maintenance maintenanceDone
-maintenance-still p id = still-if p (maintenanceRefusal p id) (maintenanceDone p id) refl
-
-but-still : (id : ℕ) (x : Who) → still (disablingBut id x) ≡ true
-but-still id Who.Nobody = refl
-but-still id (Who.One i) = either (λ (u : Told). still u ≡ true) (eqb i id) Told.Nothing (Told.Disable i) refl refl
-
-who-still : (x : Who) → still (disabling x) ≡ true
-who-still Who.Nobody = refl
-who-still (Who.One i) = refl
-
-down-still : (p : Pool) (id : ℕ) → Still (linkDown p id)
-unfolding linkDown downDone
-down-still p id = still-if p (downRefusal p id) (downDone p id) (at (p .job))
-  where
-    at : (j : Job) → Still (downAt j p id)
-    at Job.Idle = refl
-    at (Job.Running r) = but-still id (receiver r)
-    at (Job.Removing d) = refl
-
-check-still : (p : Pool) (id : ℕ) → Still (storeCheck p id)
-unfolding storeCheck checkDone
-check-still p id = still-if p (checkRefusal p id) (checkDone p id) (either Still (p .roster .sync) _ _ refl refl)
-
-rejoin-still : (p : Pool) (id : ℕ) → Still (rejoin p id)
-unfolding rejoin checkDone
-rejoin-still p id = still-if p (rejoinRefusal p id) (checkDone p id) (either Still (p .roster .sync) _ _ refl refl)
-
-try-still : (p : Pool) → Still (tryRun p)
-unfolding tryRun
-try-still p = still-if p (tryRefusal p) _ refl
-
 remove-still : (p : Pool) (sound : Bool) (id : ℕ) (mode : Mode) → Still (remove p sound id mode)
 unfolding remove
 remove-still p sound id mode = still-if p (removeRefusal p sound id mode) _ refl
@@ -112,15 +66,6 @@ remove-still p sound id mode = still-if p (removeRefusal p sound id mode) _ refl
 sync-still : (p : Pool) (sound : Bool) (member chunk clean : ℕ) → Still (synced p sound member chunk clean)
 unfolding synced syncDone
 sync-still p sound member chunk clean = still-if p (syncRefusal p sound member chunk clean) (syncDone p member chunk) refl
-
-answer-still : (p : Pool) (sound : Bool) (number : ℕ) (a : Reply) → Still (answer p sound number a)
-unfolding answer
-answer-still p sound number a = still-if p (answerRefusal p sound number) (answered (p .job) p a) (at (p .job))
-  where
-    at : (j : Job) → Still (answered j p a)
-    at Job.Idle = refl
-    at (Job.Running r) = who-still (takes (p .roster .members) (p .roster .version) r a .disable)
-    at (Job.Removing d) = refl
 
 -- a write that is not acknowledged
 abbrev Unwritten : Turn → Type 0
@@ -153,16 +98,16 @@ pub calm : (e : Event) (p : Pool) → isExtend e ≡ false → acknowledges (tur
 unfolding removeTurn writeTurn answerTurn syncedTurn
 calm (Event.joinCreate id) p x u = create-still p id
 calm (Event.joinAssemble id set version) p x u = assemble-still p id set version
-calm (Event.enable id) p x u = enable-still p id
-calm (Event.maintenance id) p x u = maintenance-still p id
-calm (Event.linkDown id) p x u = down-still p id
-calm (Event.storeCheck id) p x u = check-still p id
-calm (Event.rejoin id) p x u = rejoin-still p id
-calm Event.tryRun p x u = try-still p
+calm (Event.enable id) p x u = enable-told Kept refl p id
+calm (Event.maintenance id) p x u = maintenance-told Kept refl (λ i. refl) p id
+calm (Event.linkDown id) p x u = down-told Kept refl (λ i. refl) p id
+calm (Event.storeCheck id) p x u = check-told Kept refl p id
+calm (Event.rejoin id) p x u = rejoin-told Kept refl p id
+calm Event.tryRun p x u = try-told Kept refl p
 calm (Event.remove xs id mode) p x u = remove-still p (soundFor p xs) id mode
 calm (Event.write xs chunk reached) p x u = write-still p (soundFor p xs) chunk reached u
 calm (Event.synced xs member chunk) p x u = sync-still p (soundFor p xs) member chunk (cleanTo xs chunk 16)
-calm (Event.answer xs number reply) p x u = answer-still p (soundFor p xs) number reply
+calm (Event.answer xs number reply) p x u = answer-told Kept refl (λ i. refl) p (soundFor p xs) number reply
 calm (Event.extend xs) p x u = clash refl x
 
 -- ---- at a node

@@ -1,5 +1,5 @@
 -- Which events of a node leave its own row empty where it is: all but a write, a fill, MAP_DONE and LAST_IO.
-use mathlib.Core.Path.{_≡_, refl, sym, ap, _∙_, subst}
+use mathlib.Core.Path.{_≡_, refl, sym, _∙_, subst}
 use mathlib.Core.Bool.{Bool, true, false}
 use mathlib.Core.List.{List}
 use mathlib.Core.Logic.{_⊎_, inl, inr, _≢_}
@@ -12,11 +12,10 @@ use Rattle.laws.specs.Bits.{bit-none}
 use Rattle.laws.specs.Tests.{clash, by-cases}
 use Rattle.sets.specs.Sets.{has}
 use Rattle.chunks.specs.Chunk.{there, byteOf, dirty}
-use Rattle.state.specs.declared.Op.{Op}
 use Rattle.node.specs.Events.{Event}
 use Rattle.node.specs.Held.{Held, next}
 use Rattle.nodeevents.specs.Demand1.{isAccepted}
-use Rattle.nodeevents.specs.Said.{Accepts, Zeroed, Rows, Cleared, Own, In, zeroesRow, saidOf}
+use Rattle.nodeevents.specs.Said.{Zeroed, Rows, Cleared, Own, In, zeroesRow, saidOf}
 use Rattle.nodeevents.proofs.Said.{map-as-said}
 use Rattle.world.specs.Station.{Station, face, does}
 use Rattle.mirrornodes.proofs.Did.{stays}

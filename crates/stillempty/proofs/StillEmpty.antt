@@ -1,10 +1,8 @@
 -- When the client zeroes a row, the member's own node still has an empty row for itself.
 use mathlib.Core.Path.{_≡_, refl, sym, ap, _∙_, subst}
-use mathlib.Core.Bool.{Bool, true, false, not, _&&_}
+use mathlib.Core.Bool.{Bool, true, false, not}
 use mathlib.Core.List.{List}
-use mathlib.Core.Logic.{_≢_}
-use Prim.Native.Nat.{ℕ, _<_}
-use native.Mathlib.Decide.{ℕ-discrete}
+use Prim.Native.Nat.{ℕ}
 use lib.Dec.{eqb}
 use borrow.Author.Tests.{eq-eqb, ne-eqb, not-false}
 use Rattle.laws.specs.Words.{pick}
@@ -15,7 +13,7 @@ use Rattle.state.specs.declared.Answer.{Answer}
 use Rattle.state.specs.declared.Session.{Session}
 use Rattle.state.specs.declared.Pool.{Pool}
 use Rattle.state.specs.Session.{isFree}
-use Rattle.rules.specs.Jobs.{isIdle, isRunning}
+use Rattle.rules.specs.Jobs.{isIdle}
 use Rattle.checks.specs.declared.Check.{Check}
 use Rattle.checks.specs.declared.Checked as checks
 use Rattle.checks.specs.Check.{noCheck}
@@ -31,7 +29,7 @@ use Rattle.clientevents.specs.Events.{Event, next, testsOf}
 use Rattle.clientevents.specs.Reached.{Reached}
 use Rattle.clientevents.proofs.Reached.{pool-reached}
 use Rattle.clientevents.proofs.Shape.{Judged, tick-judged, answer-judged, tickDone, answerDone}
-use Rattle.mapchecks.specs.Checks.{taken, sessionOf, Between, Quiet, First, Zeroes}
+use Rattle.mapchecks.specs.Checks.{taken, sessionOf, Between, Quiet, First}
 use Rattle.mapchecks.proofs.Steps.{turn, broken, stands, pool-quiet, once-other}
 use Rattle.mapchecks.proofs.Rows.{not-running, first-stands, first-once, two-in-a-row}
 use Rattle.mapchecks.proofs.Node.{one-would-do}
@@ -44,7 +42,6 @@ use Rattle.honest.proofs.Ground as real
 use Rattle.missed.proofs.Ground.{split}
 use Rattle.mirrornodes.proofs.Sane.{sane-keeps}
 use Rattle.histories.specs.World.{World, stateIn, Happening, toldIn, acted, enabling, byNode, after}
-use Rattle.histories.specs.History.{Starts, History}
 use Rattle.forgotten.specs.Premises.{Keeps, Kept}
 use Rattle.forgotten.proofs.Theorem.{tells}
 use Rattle.stillempty.specs.Watched.{Watched, clientOf, Sight, isEmpty, finds, seen, Watching, unchecked}

@@ -1,6 +1,6 @@
 -- C-17, the stronger sentence: when the client zeroes a row, the member's own node still has an empty row for itself.
 use mathlib.Core.Path.{_≡_}
-use mathlib.Core.Bool.{Bool, true}
+use mathlib.Core.Bool.{Bool}
 use mathlib.Core.List.{List}
 use Prim.Native.Nat.{ℕ, _<_}
 use Rattle.chunks.specs.Chunk.{dirty}

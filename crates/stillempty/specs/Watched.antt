@@ -1,5 +1,5 @@
 -- C-15's histories with map check in them: the client's ticks, what its nodes answer, and the client taking their answers.
-use mathlib.Core.Bool.{Bool, true, false, _&&_, not}
+use mathlib.Core.Bool.{Bool, false, _&&_, not}
 use mathlib.Core.List.{List}
 use Prim.Native.Nat.{ℕ}
 use lib.Dec.{eqb}
