@@ -55,7 +55,7 @@ def main():
     out = [
         "# Check times",
         "",
-        "Made by `scripts/check-times.py` from the log of a run of the gate on two cores, two checks at a time, so that every later change can say what it cost:",
+        "Made by `scripts/check-times.py` from the log of a whole run of the gate on two cores, two checks at a time, so that every later change can say what it cost:",
         "seconds of wall time. Lines: code with contracts, definitions, proofs and laws (of `laws` and `keeps`, which hold nothing but laws, under definitions).",
         "",
         "%s Sum of the times below: %d s of proofs, %d s of must-fail edits." % (how, sum(int(s) for _, s in proved), sum(int(e[3]) for e in edits)),

@@ -51,7 +51,7 @@ loop-less : tie.Need-loop-less Inv-loop μ-loop
 loop-less c = search needs
 
 loop-again : tie.Need-loop-again Inv-loop μ-loop
-loop-again c = (runs-more (c .before .loop .inv .0) (c .loop-test .taken) (rw (c .before .before .of-map .ensures) refl), search needs)
+loop-again c = (runs-more (c .before .loop .inv .0) (omega (arith, c .loop-test .taken)) (rw (c .before .before .of-map .ensures) refl), search needs)
 
 returns-2 : tie.Need-returns-2 Inv-loop μ-loop
 unfolding rowTrued
