@@ -1,4 +1,3 @@
-#!/usr/bin/env python3
 """A history as one page for a browser; `./lab --page FILE > page.html` runs it.
 
 The page holds everything: no network, no library. On it: the messages as a sequence chart, the client and its nodes; a slider over the commands; and at each command the pool, the sessions
@@ -12,11 +11,10 @@ import os
 import sys
 import textwrap
 
-import labhistory
-from labhistory import UNREADABLE, load, messages
-from labtrace import BY_HAND, FRESH_NODES, MEMBERS, ids, taken, trace
+from bench.history import UNREADABLE, Wrong, load, messages, run_lab
+from bench.trace import BY_HAND, FRESH_NODES, MEMBERS, ids, taken, trace
 
-TEMPLATE = os.path.join(labhistory.ROOT, "scripts", "labpage.html")
+TEMPLATE = os.path.join(os.path.dirname(os.path.abspath(__file__)), "page.html")
 WIDEST = 84  # letters of a comment on a line of the chart
 CLIENT = -1  # its place among those who send and receive
 SENT, AWAITED, ANSWERED, MAP = range(4)  # kinds of arrows
@@ -204,13 +202,9 @@ def arguments(words):
     return parser.parse_args(words)
 
 
-def make(words, run=labhistory.run_lab, write=sys.stdout.write):
+def make(words, run=run_lab, write=sys.stdout.write):
     history = load(arguments(words).file)
     if not history.commands:
-        raise labhistory.Wrong("%s: there is no command in it" % history.name)
+        raise Wrong("%s: there is no command in it" % history.name)
     write(page(picture(history, trace([history], run, rows=True)[0])))
     return 0
-
-
-if __name__ == "__main__":
-    labhistory.main(lambda: make(sys.argv[1:]))

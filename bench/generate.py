@@ -1,4 +1,3 @@
-#!/usr/bin/env python3
 """Histories to run against one's own driver; `./lab --generate` runs it.
 
   system   whole pools: legs are made or assembled, written to, lost and back, in maintenance, removed, added; now and then an event that does not belong there
@@ -14,12 +13,11 @@ import functools
 import os
 import sys
 
-import labhistory
-import matrix
-from labcheck import rewritten
-from labcover import CLIENT_TABLES, FIRST, NODE_TABLE, NOT_EMPTY, SECOND, SESSION_ROWS, only_by_poke
-from labdriver import DELETE, DISASSEMBLE, NORMAL, Chance, Driver, set_of
-from labhistory import CLIENT, DELIVER, FORMS, NODE, Wrong, answers_to, parse, store
+from bench.check import rewritten
+from bench.cover import CLIENT_TABLES, FIRST, NODE_TABLE, NOT_EMPTY, SECOND, SESSION_ROWS, only_by_poke
+from bench.driver import DELETE, DISASSEMBLE, NORMAL, Chance, Driver, set_of
+from bench.history import CLIENT, DELIVER, FORMS, NODE, Wrong, answers_to, is_number, parse, read, run_lab, store
+from tools import matrix
 
 HERE = 1  # the matrix's session and node
 BESIDE = 0  # another one that is always there
@@ -334,7 +332,7 @@ def attack(chance, count):
     while len(lines) < count:
         form = chance.weighted(HOSTILE_TABLE)
         line = hostile_line(chance, form)
-        if isinstance(labhistory.read(line), str):
+        if isinstance(read(line), str):
             continue  # numbers that do not go together can't be read
         lines.append(line)
         again = repaired(form, line)
@@ -385,7 +383,7 @@ def arguments(words):
 
 
 def whole(word):
-    if not labhistory.is_number(word):
+    if not is_number(word):
         raise argparse.ArgumentTypeError("%s is no whole number" % word)
     return int(word)
 
@@ -396,7 +394,7 @@ def with_answers(made, run):
     return [rewritten(h, said, every=True)[0] for h, said in zip(parsed, answers)]
 
 
-def generate(words, run=labhistory.run_lab, write=sys.stdout.write):
+def generate(words, run=run_lab, write=sys.stdout.write):
     given = arguments(words)
     made = histories(given.kind, given.seed, given.count)
     if given.expect:
@@ -414,7 +412,3 @@ def generate(words, run=labhistory.run_lab, write=sys.stdout.write):
         store(os.path.join(given.into, "%s-%d-%0*d.history" % (given.kind, given.seed, wide, k)), lines + [""])
     write("%d histories in %s\n" % (given.count, given.into))
     return 0
-
-
-if __name__ == "__main__":
-    labhistory.main(lambda: generate(sys.argv[1:]))

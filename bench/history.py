@@ -123,9 +123,14 @@ def fields(answer):
     return dict(w.split("=", 1) for w in answer.split(" | ")[0].split() if "=" in w)
 
 
+def sent(answer):
+    """The messages of a client's line, as they are written."""
+    return answer.split(" | ")[1:]
+
+
 def messages(answer):
     """The messages of a client's line: (words, number or None)."""
-    for part in answer.split(" | ")[1:]:
+    for part in sent(answer):
         words = part.split()
         number = words.pop()[1:] if words[-1].startswith("#") else None
         yield words, number
@@ -138,6 +143,11 @@ def ranges(answer):
         first, _, last = part.partition("-")
         found.append((int(first), int(last or first)))
     return found
+
+
+def chunks(answer):
+    """The chunks of a row's answer."""
+    return {c for first, last in ranges(answer) for c in range(first, last + 1)}
 
 
 # Histories.
@@ -236,6 +246,11 @@ def answers_to(scripts, run):
         found.append(said[at + 1 : at + 1 + len(lines)])
         at += 1 + len(lines)
     return found
+
+
+def answers_of(history, run):
+    """The answers to one history's commands."""
+    return answers_to([[c.text for c in history.commands]], run)[0]
 
 
 def main(work):

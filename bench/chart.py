@@ -1,32 +1,22 @@
-#!/usr/bin/env python3
-"""A history's messages as a sequence chart in plain text.
-
-  chart.py HISTORY ANSWERS   ANSWERS is what the lab writes for HISTORY (`./lab --chart FILE` runs both)
+"""A history's messages as a sequence chart in plain text; `./lab --chart` runs it.
 
 A column for the client and for each node that takes part. An arrow for each message, with its words on the right; `#N` is the number
 under which an answer is awaited. In brackets, where they change: the letters of the client's sessions (session 0 first), a node's state.
+Exit status: 0, or 2 where the file is missing or is no history.
 """
+import argparse
 import sys
 
-from labhistory import fields, messages
+from bench.history import answers_of, fields, load, messages, run_lab
 
 LEFT = 34   # room for the command
 WIDE = 14   # between two columns
 
 
-def pairs(history, answers):
-    """Each command with the line that answers it. Empty lines and comments are answered by nothing; comments stay, as titles."""
-    with open(history, encoding="utf-8", errors="replace") as f:
-        lines = f.read().split("\n")
-    with open(answers, encoding="ascii") as f:
-        said = f.read().split("\n")
-    at = 0
-    for line in lines:
-        if line.startswith("#"):
-            yield line, None
-        elif line:
-            yield line, said[at] if at < len(said) else ""
-            at += 1
+def rows_of(history, answers):
+    """Each command with the line that answers it, and the comments between them, which stay as titles."""
+    said = {c.at: (c.text, answer) for c, answer in zip(history.commands, answers)}
+    return [said.get(at, (line, None)) for at, line in enumerate(history.lines, 1) if at in said or line.startswith("#")]
 
 
 def nodes_of(rows):
@@ -143,10 +133,13 @@ def chart(rows):
     return "\n".join(c.rows) + "\n"
 
 
-def main():
-    if len(sys.argv) != 3:
-        sys.exit(__doc__)
-    sys.stdout.write(chart(list(pairs(sys.argv[1], sys.argv[2]))))
+def arguments(words):
+    parser = argparse.ArgumentParser(prog="./lab --chart", description=__doc__, formatter_class=argparse.RawDescriptionHelpFormatter)
+    parser.add_argument("file", metavar="FILE", nargs="?", default="-", help="a history; `-`, or none, is standard input")
+    return parser.parse_args(words)
 
 
-main()
+def draw(words, run=run_lab, write=sys.stdout.write):
+    history = load(arguments(words).file)
+    write(chart(rows_of(history, answers_of(history, run))))
+    return 0

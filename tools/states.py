@@ -1,8 +1,7 @@
-#!/usr/bin/env python3
 """The state diagrams of docs/STATES.md, made from the two tables that the theorems speak of.
 
-  states.py page    writes the page
-  states.py check   says whether the page is the one that this script makes
+  python3 -m tools.states page    writes the page
+  python3 -m tools.states check   says whether the page is the one that this script makes
 """
 import os
 import re
@@ -72,7 +71,7 @@ def node():
 
 def page():
     return "\n".join(
-        ["# State diagrams", "", "Made by `scripts/states.py` from the tables that the theorems speak of; the gate compares this page with them.", ""]
+        ["# State diagrams", "", "Made by `tools/states.py` from the tables that the theorems speak of; the gate compares this page with them.", ""]
         + ["## The client's session", "", "`legal` in crates/state/specs/Table.antt: source document 001's table. A session begins CREATED (in a sync pool NORMAL) and is freed from REMOVING.", ""]
         + ["```mermaid"] + client() + ["```", ""]
         + ["## The node", "", "`legal` in crates/nodestate/specs/Table.antt: source document 003 as document 01 condenses it; each arrow with the events that may take it.", ""]
@@ -93,4 +92,5 @@ def main():
         sys.exit(__doc__)
 
 
-main()
+if __name__ == "__main__":
+    main()

@@ -1,19 +1,9 @@
 # What the scripts ./lab, ./compare, ./status and ./library share: a program is built by proving it, once, and run. To be sourced, with root set to the repository's folder.
 
-# crates_of NAMES: the crates of the repository that a program, or some crates, are made of, they themselves with them, in the order of crates.txt: by level, in each the slowest check first.
+# crates_of NAMES: the crates of the repository that a program, or some crates, are made of, they themselves with them, in the order of crates.txt.
 crates_of() {
-	awk -F: -v name="$1" '
-		/^[a-z]/ { uses[$1] = $2; listed[++lines] = $1 }
-		END {
-			n = split(name, todo, " ")
-			for (i = 1; i <= n; i++) {
-				if (todo[i] in seen || !(todo[i] in uses)) continue
-				seen[todo[i]]
-				m = split(uses[todo[i]], more, " ")
-				for (k = 1; k <= m; k++) todo[++n] = more[k]
-			}
-			for (i = 1; i <= lines; i++) if (listed[i] in seen) print listed[i]
-		}' "$root/crates.txt"
+	# shellcheck disable=SC2086
+	python3 -B "$root/tools/crates.py" $1
 }
 
 # prove WHAT CRATES: proves crates and all they rest on, and says how far it is. Checks that are started together are waited for together, so four are started at a time even on two

@@ -1,7 +1,6 @@
-#!/usr/bin/env python3
 """Real NBD clients beside the lab: do they see the chunks that `./lab` prints? No part of the gate, which needs no package.
 
-  scripts/nbd-check
+  python3 -m nbd_server.check
 
 For each row tried, a map file with that row is served by `./nbd`. `nbdinfo` (libnbd) and `qemu-img` (QEMU) read its dirty bitmap, and the chunks that they report are compared with what `./lab`
 prints for the same bytes. And the other way: a bitmap that QEMU itself made and exports (`qemu-nbd --bitmap`) is read by `nbdinfo`, turned into a row by `./status read`, and compared with what was written.
@@ -17,6 +16,8 @@ import subprocess
 import sys
 import tempfile
 import time
+
+from bench.history import chunks as dirty_chunks
 
 ROOT = os.path.dirname(os.path.dirname(os.path.abspath(__file__)))
 MEMBER = 3
@@ -81,14 +82,9 @@ def lab(rows):
 
 
 def chunks_printed(line):
-    what, *words = line.split()
-    if what not in ("clean", "dirty"):
+    if line.split()[0] not in ("clean", "dirty"):
         sys.exit("nbd-check: ./lab says " + line)
-    found = set()
-    for word in words:
-        first, _, last = word.partition("-")
-        found.update(range(int(first), int(last or first) + 1))
-    return found
+    return dirty_chunks(line)
 
 
 def chunks_of(extents, chunks, chunk_size):
@@ -217,4 +213,5 @@ def main():
     sys.exit(bad != 0)
 
 
-main()
+if __name__ == "__main__":
+    main()

@@ -1,13 +1,12 @@
-#!/usr/bin/env python3
 """Wrong rules, each put into definition and code alike: which law or theorem refuses it?
 
 A must-fail edit reaches one crate. A misreading of a rule can stand in definition and code alike; then the crate itself is proved, and only a law or a theorem that says what
-must hold in other words can refuse it. Each file of scripts/wrong-rules/ is such a misreading: blocks of `file:`, `old:`, `new:` over any crates, the rule in words (`rule:`), and
+must hold in other words can refuse it. Each file of tools/wrong-rules/ is such a misreading: blocks of `file:`, `old:`, `new:` over any crates, the rule in words (`rule:`), and
 what refused it when it was tried (`falls:`, a crate and a name). A line that begins with `|` goes on with the text above it. One that names the crates of a theorem's proof (`proof:`) is tried
 against that theorem alone: only those crates and what they rest on are checked. It has the edits of another (`as:`), and its own make the laws below fit the wrong rule, so that none of them stands in the way.
 
-  scripts/wrong-rules.py            tries all, some minutes each
-  scripts/wrong-rules.py NAME ..    tries these
+  python3 -m tools.wrong_rules            tries all, some minutes each
+  python3 -m tools.wrong_rules NAME ..    tries these
 
 Each is applied to a copy of the tree with what is proved of it (run `rt check` before), and the crates that it touches and those above are checked, lowest first, up to the first that is refused. A wrong rule that passes them all is the
 failure. The programs come last: a wrong rule that only their stored output refuses is said to be caught by the vectors alone. This is no part of the gate.
@@ -20,8 +19,10 @@ import subprocess
 import sys
 import tempfile
 
+from tools.crates import above, depths, graph, under
+
 ROOT = os.path.dirname(os.path.dirname(os.path.abspath(__file__)))
-FOLDER = os.path.join(ROOT, "scripts", "wrong-rules")
+FOLDER = os.path.join(ROOT, "tools", "wrong-rules")
 THEOREMS = ("events", "creation", "nodeevents", "commuting", "table", "demand3", "added", "logs", "ownlogs")  # what these rest on is checked first, the lab after it
 
 
@@ -50,38 +51,15 @@ def read(path):
     return rule, falls, proof, edits
 
 
-def graph():
-    """Each crate with what it may use, in the order of crates.txt."""
-    found = {}
-    with open(os.path.join(ROOT, "crates.txt"), encoding="utf-8") as f:
-        for line in f:
-            name, colon, rest = line.partition(":")
-            if colon and not line.startswith("#"):
-                found[name.strip()] = rest.split()
-    return found
-
-
-def above(crates, touched, proof):
+def to_check(uses, touched, proof):
     """The crates that the edits touch and those that rest on them, lowest first, the lab after the theorems, programs last; for a proof only what it rests on."""
-    reached = set(touched)
-    while True:
-        more = {c for c, deps in crates.items() if c not in reached and reached & set(deps)}
-        if not more:
-            break
-        reached |= more
-
-    def depth(c):
-        return 1 + max([depth(d) for d in crates[c] if d in crates], default=0)
-
-    def under(c):
-        return {c}.union(*[under(d) for d in crates[c] if d in crates])
-
+    reached, depth = above(touched, uses), depths(uses)
     if proof:
-        return sorted(reached & set().union(*[under(c) for c in proof]), key=depth), []
-    first = set().union(*[under(c) for c in THEOREMS])
+        return sorted(reached & under(proof, uses), key=depth.get), []
+    first = under(THEOREMS, uses)
     program = {c for c in reached if os.path.exists(os.path.join(ROOT, "crates", c, "src", "main.rt"))}
     needed = {c for c in reached if c not in program}
-    return sorted(needed, key=lambda c: (c not in first, depth(c))), sorted(program)
+    return sorted(needed, key=lambda c: (c not in first, depth[c])), sorted(program)
 
 
 def apply(tree, edits):
@@ -90,7 +68,7 @@ def apply(tree, edits):
         with open(full, encoding="utf-8") as f:
             text = f.read()
         if text.count(old) != 1:
-            sys.exit("wrong-rules.py: %s has %d times: %s" % (path, text.count(old), old))
+            sys.exit("wrong_rules: %s has %d times: %s" % (path, text.count(old), old))
         with open(full, "w", encoding="utf-8") as f:
             f.write(text.replace(old, new))
 
@@ -107,7 +85,7 @@ def refused_at(output):
     return "fn " + fn.group(1) if fn else output.strip().split("\n")[-1]
 
 
-def attempt(name, crates):
+def attempt(name, uses):
     rule, falls, proof, edits = read(os.path.join(FOLDER, name + ".edit"))
     print("%s: %s" % (name, rule), flush=True)
     tree = tempfile.mkdtemp()
@@ -119,7 +97,7 @@ def attempt(name, crates):
             elif os.path.exists(source):
                 shutil.copy(source, to)
         apply(tree, edits)
-        libraries, programs = above(crates, {path.split("/")[1] for path, _, _ in edits}, proof)
+        libraries, programs = to_check(uses, {path.split("/")[1] for path, _, _ in edits}, proof)
         for i, crate in enumerate(libraries + programs):
             print("  %d of %d: %s" % (i + 1, len(libraries) + len(programs), crate), flush=True)
             done = subprocess.run(["rt", "check", crate], cwd=tree, capture_output=True, text=True, env=dict(os.environ, RT_CUT="0"))
@@ -135,8 +113,8 @@ def attempt(name, crates):
 
 def main():
     names = sys.argv[1:] or sorted(os.path.basename(p)[: -len(".edit")] for p in glob.glob(os.path.join(FOLDER, "*.edit")))
-    crates = graph()
-    passed = [n for n in names if not attempt(n, crates)]
+    uses = graph()
+    passed = [n for n in names if not attempt(n, uses)]
     print("%d refused, %d passed%s" % (len(names) - len(passed), len(passed), "".join(" " + n for n in passed)))
     sys.exit(1 if passed else 0)
 

@@ -1,16 +1,17 @@
-#!/usr/bin/env python3
 """The table of docs/TRUST.md that says what to read, from the definitions themselves.
 
 What is followed: every contract (the definitions that a function of src/ cites) and every statement (all of specs/ of the crates that have some), and from each definition
 the ones that it is made of, through the imports. Crates of laws are read only where a contract or a statement rests on a definition there; the table names those.
 
-  scripts/trust.py page    writes the table into the page
-  scripts/trust.py check   says whether the page has it, and whether every definition of specs/ is rested on
+  python3 -m tools.trust page    writes the table into the page
+  python3 -m tools.trust check   says whether the page has it, and whether every definition of specs/ is rested on
 """
 import glob
 import os
 import re
 import sys
+
+from tools.crates import graph
 
 ROOT = os.path.dirname(os.path.dirname(os.path.abspath(__file__)))
 PAGE = os.path.join(ROOT, "docs", "TRUST.md")
@@ -152,10 +153,10 @@ def table(files, seen):
 
 
 def listed():
-    names = [line.split(":")[0].strip() for line in text_of(os.path.join(ROOT, "crates.txt")).split("\n") if ":" in line and not line.startswith("#")]
+    names = graph()
     known = " ".join(LAYERS.values()).split() + LAWS.split()
     if sorted(names) != sorted(known):
-        sys.exit("trust.py: crates.txt and the layers differ: " + " ".join(sorted(set(names) ^ set(known))))
+        sys.exit("trust: crates.txt and the layers differ: " + " ".join(sorted(set(names) ^ set(known))))
 
 
 def main():
@@ -177,7 +178,8 @@ def main():
         with open(PAGE, "w", encoding="utf-8") as f:
             f.write(made)
     elif made != page:
-        sys.exit("trust.py: docs/TRUST.md has not the table that the definitions give (scripts/trust.py page)")
+        sys.exit("trust: docs/TRUST.md has not the table that the definitions give (python3 -m tools.trust page)")
 
 
-main()
+if __name__ == "__main__":
+    main()

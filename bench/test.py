@@ -1,9 +1,8 @@
-#!/usr/bin/env python3
 """The gate's test of the bench around the lab (`./lab --check`, `--cover`, `--generate`, `--page`); it says nothing where all is well.
 
-  lab-test.py        with kept answers: it needs no package and no program that is built by proving
-  lab-test.py keep   runs the lab on the small histories that are tried here, and keeps its answers in scripts/lab-test.kept
-  lab-test.py real   the same tests with the lab itself, and what needs too many answers to be kept: a thousand histories of each kind
+  python3 -m bench.test        with kept answers: it needs no package and no program that is built by proving
+  python3 -m bench.test keep   runs the lab on the small histories that are tried here, and keeps its answers in bench/test.kept
+  python3 -m bench.test real   the same tests with the lab itself, and what needs too many answers to be kept: a thousand histories of each kind
 
 The kept answers are the proved program's, of small histories with the looks that the scripts put between their commands. The large ones are crates/lab/stdin and crates/lab/stdout, which
 the gate compares with what the program writes.
@@ -18,25 +17,26 @@ import subprocess
 import sys
 import tempfile
 
-sys.dont_write_bytecode = True
-import labcheck
-import labcover
-import labdriver
-import labgenerate
-import labhistory
-import labpage
-import labtrace
-import matrix
-from labhistory import FORMS, ROOT, UNREADABLE, Wrong, parse, read
+import bench.chart
+import bench.check
+import bench.cover
+import bench.driver
+import bench.generate
+import bench.history
+import bench.log
+import bench.page
+import bench.trace
+from bench.history import FORMS, ROOT, UNREADABLE, Wrong, parse, read
+from tools import matrix
 
-KEPT = os.path.join(ROOT, "scripts", "lab-test.kept")
+KEPT = os.path.join(ROOT, "bench", "test.kept")
 EXAMPLES = os.path.join(ROOT, "examples")
 GUIDE = os.path.join(ROOT, "docs", "LAB.md")
 
 
 def same(got, wanted, what):
     if got != wanted:
-        sys.exit("lab-test: %s: %.600r, not %.600r" % (what, got, wanted))
+        sys.exit("bench.test: %s: %.600r, not %.600r" % (what, got, wanted))
 
 
 def wrong(what, words, work):
@@ -46,7 +46,7 @@ def wrong(what, words, work):
     except Wrong as e:
         same([w for w in words if w not in str(e)], [], "%s: words missing in %s" % (what, e))
     else:
-        sys.exit("lab-test: %s: no error" % what)
+        sys.exit("bench.test: %s: no error" % what)
 
 
 # Runs of the lab: kept ones, or its own.
@@ -66,9 +66,9 @@ class Lab:
         self.asked += 1
         if self.mode == "kept":
             if text not in self.runs:
-                sys.exit("lab-test: no answers are kept for a run that begins %.200r; where the lab is built, lab-test.py keep" % text)
+                sys.exit("bench.test: no answers are kept for a run that begins %.200r; where the lab is built, python3 -m bench.test keep" % text)
             return self.runs[text]
-        answers = labhistory.run_lab(text)
+        answers = bench.history.run_lab(text)
         if self.mode == "keep":
             self.runs[text] = answers
         return answers
@@ -79,7 +79,7 @@ class Lab:
 
 
 def no_lab(text):
-    sys.exit("lab-test: the lab was asked where it should not be: %.200r" % text)
+    sys.exit("bench.test: the lab was asked where it should not be: %.200r" % text)
 
 
 # Small histories.
@@ -224,12 +224,12 @@ def commands_in_the_document():
     """The commands of docs/HISTORIES.md, each as its words, numbers as `#`."""
     with open(os.path.join(ROOT, "docs", "HISTORIES.md"), encoding="utf-8") as f:
         rows = [line for line in f if line.startswith("| `")]
-    return {labhistory.skeleton(text.split()) for line in rows for text in line.split("|")[1].split("`")[1::2]}
+    return {bench.history.skeleton(text.split()) for line in rows for text in line.split("|")[1].split("`")[1::2]}
 
 
 def try_language():
     """The table of commands is that of docs/HISTORIES.md, and reads what the lab reads."""
-    same(sorted(commands_in_the_document() ^ (set(FORMS) | {("auto", "#")})), [], "commands of docs/HISTORIES.md alone, or of COMMANDS in scripts/labhistory.py alone")
+    same(sorted(commands_in_the_document() ^ (set(FORMS) | {("auto", "#")})), [], "commands of docs/HISTORIES.md alone, or of COMMANDS in bench/history.py alone")
     for line, why in [("joincreate 1", "no command"), ("join_create", "join_create ID"), ("node 1 write 3", "node N write CHUNK SET VERSION"), (" try", "a space"), ("try ", "a space"),
                       ("try\r", "carriage return"), ("write  1 2", "a space"), ("node 16 fault", "N is 0 to 15"), ("remove 1 2", "MODE is 0 to 1"), ("cut 0", "LEN is 1 to 1024"),
                       ("join_create 18446744073709551616", "ID is 0 to"), ("join_create ID", "no command"), ("join_create ²", "no command"), ("poke session 1 2 0 0 0 1", "REMOVING"),
@@ -269,12 +269,12 @@ def try_fitting():
         ("version=2 ..", line, False), (".. version=2 members=3", line, False), ("refused 3", "refused 3", True), ("refused 3", "refused 33", False), ("refused ..", "refused 33", True),
         ("refused .. 3", "refused 33", False), ("..", "", True), ("dirty .. 7", "dirty 0-3 7 9", True), ("dirty 7", "dirty 7 9", False), (line.replace("..............", ""), line, True),
     ]:
-        same(labcheck.fits(expected, answer), fits, "whether %r fits %r" % (answer, expected))
+        same(bench.check.fits(expected, answer), fits, "whether %r fits %r" % (answer, expected))
 
 
 def checked(lab, *words):
     said = []
-    status = labcheck.check(list(words), lab, said.append)
+    status = bench.check.check(list(words), lab, said.append)
     return status, said
 
 
@@ -338,15 +338,15 @@ def try_errors():
                                  ("numbers", "write 1\n> ok ..\n", 1, "write CHUNK REACHED")]:
         with files(**{name: text}) as paths:
             place = "%s:%d: " % (paths[0], at)
-            wrong(name, [place, word], lambda: labcheck.check(paths, no_lab))
-            wrong(name, [place, word], lambda: labcover.cover(paths, no_lab))
+            wrong(name, [place, word], lambda: bench.check.check(paths, no_lab))
+            wrong(name, [place, word], lambda: bench.cover.cover(paths, no_lab))
             if text.find(">") >= 0 and name != "numbers":
-                wrong(name, [place, word], lambda: labpage.make(paths, no_lab))
+                wrong(name, [place, word], lambda: bench.page.make(paths, no_lab))
     with files(empty="# nothing\n") as paths:
-        wrong("a page of nothing", [paths[0], "no command"], lambda: labpage.make(paths, no_lab))
+        wrong("a page of nothing", [paths[0], "no command"], lambda: bench.page.make(paths, no_lab))
         for words, part in [(["--check", paths[0] + "x"], paths[0] + "x: No such file"), (["--cover", os.path.dirname(paths[0])], "Is a directory"), (["--page", "/nowhere"], "/nowhere: No such file"),
-                            (["--generate", "strange", "1", "1"], "invalid choice"), (["--generate", "system", "x", "1"], "x is no whole number"), (["--check"], "FILE"), (["--chart", paths[0], paths[0]], "one FILE"),
-                            (["--sing"], "no such option here: --sing"), (["--log", "--sing"], "no such option"), (["/nowhere"], "/nowhere can't be read"), (["--generate", "wide", "1", "-1"], "COUNT"),
+                            (["--generate", "strange", "1", "1"], "invalid choice"), (["--generate", "system", "x", "1"], "x is no whole number"), (["--check"], "FILE"), (["--chart", paths[0], paths[0]], "unrecognized arguments"), ([paths[0], paths[0]], "one FILE"),
+                            (["--sing"], "no such option here: --sing"), (["--log", "--sing"], "--sing"), (["/nowhere"], "/nowhere can't be read"), (["--generate", "wide", "1", "-1"], "COUNT"),
                             (["--generate", "wide", "1"], "COUNT"), (["--check", "--sing", paths[0]], "--sing"), (["--page"], "FILE"), (["--cover"], "FILE"),
                             (["--check", "--update", "-"], "standard input"), (["--generate", "system", "1", "1", "--into", paths[0]], paths[0])]:
             done = subprocess.run([os.path.join(ROOT, "lab")] + words, stdin=subprocess.DEVNULL, stdout=subprocess.PIPE, stderr=subprocess.PIPE, universal_newlines=True)
@@ -357,13 +357,13 @@ def try_errors():
     for what in ("--check", "--cover", "--generate", "--page", ""):
         done = subprocess.run([os.path.join(ROOT, "lab")] + [what] * bool(what) + ["--help"], stdin=subprocess.DEVNULL, stdout=subprocess.PIPE, universal_newlines=True)
         same((done.returncode, "./lab " + what in done.stdout), (0, True), "./lab %s --help" % what)
-    wrong("a lab that dies", ["3 answers came to 4 commands"], lambda: labhistory.answers_to([["try", "try", "try"]], lambda text: ["done"] * 3))
+    wrong("a lab that dies", ["3 answers came to 4 commands"], lambda: bench.history.answers_to([["try", "try", "try"]], lambda text: ["done"] * 3))
 
 
 # trace
 
 def traced(lab, *texts):
-    return labtrace.trace([parse("history %d" % k, text) for k, text in enumerate(texts, 1)], lab)
+    return bench.trace.trace([parse("history %d" % k, text) for k, text in enumerate(texts, 1)], lab)
 
 
 def hidden(steps, text):
@@ -383,11 +383,11 @@ def try_trace(lab):
     same([s.answer[:9] for s in steps if s.command.text == "deliver"][2:6], ["ok versio", "refused 2", "refused 2", "ok versio"], "answers that the client refuses")
     same([s.dirty for s in steps if s.command.text.startswith("synced")], [False, False], "chunks that were not dirty")
     same([(s.command.text, s.answer, s.event, s.nodes) for s in steps[-1:]], [("nonsense 1", UNREADABLE, None, [])], "a line that the lab does not read")
-    same([labcover.session_row(s.before, 1).words for s in poked[3:5]], ["FAILED in maintenance, marked", "RECONNECTING in maintenance, marked"], "states put in")
+    same([bench.cover.session_row(s.before, 1).words for s in poked[3:5]], ["FAILED in maintenance, marked", "RECONNECTING in maintenance, marked"], "states put in")
     same([(e.before.transfer, e.before.got, e.after.transfer, e.after.got, e.answer[:10]) for s in poked for e in s.nodes if e.node == 3],
          [(1, 1024, 1, 2048, "ok node=3 "), (1, 2048, 1, 2048, "refused 16"), (1, 2048, 1, 0, "ok node=3 "), (1, 0, 2, 8192, "ok node=3 ")], "a transfer's bytes")
-    same([labcover.node_row(e.before).words for s in poked for e in s.nodes if e.node == 4], ["CREATED without store"], "a node's state that no row has")
-    same([labcover.session_row(s.before, 2).words for s in sync], ["none, no member", "none, no member", "NORMAL", "FAILED, cause link", "NORMAL", "NORMAL", "REMOVING (disassemble), LEAVE owed"], "a sync pool")
+    same([bench.cover.node_row(e.before).words for s in poked for e in s.nodes if e.node == 4], ["CREATED without store"], "a node's state that no row has")
+    same([bench.cover.session_row(s.before, 2).words for s in sync], ["none, no member", "none, no member", "NORMAL", "FAILED, cause link", "NORMAL", "NORMAL", "REMOVING (disassemble), LEAVE owed"], "a sync pool")
 
 
 def try_messages():
@@ -398,7 +398,7 @@ def try_messages():
         ("MAP_SEND 0 1", "node 0 give_part 0 1000; node 1 take 0"), ("MAP_DONE 1 1 5 7", "node 1 map_done 1 5 7"), ("MAP_GET_VER 2", "node 2 map_get_ver"), ("LAST_IO 2 0", "node 2 last_io 0"),
         ("LEAVE 1 0", "node 1 leave 1"), ("LEAVE 1 1", "node 1 leave 0"),
     ]:
-        same("; ".join(told.line for told in labtrace.handed(message.split(), 1000)), events, "the node events of %s" % message)
+        same("; ".join(told.line for told in bench.trace.handed(message.split(), 1000)), events, "the node events of %s" % message)
 
 
 def try_disagreement():
@@ -429,10 +429,10 @@ def try_ticks():
     same(fed[0].split("\n")[1:-1], [line for line, _ in TICKS], "the first run of a history with ticks")
     same(fed[1].split("\n")[1:-1], ["pool 0 64", "row 0 0", "node 0 map_check"], "its second run")
     same([s.event and s.event.numbers for s in steps[-3:]], [(), (1, 0, 1), (2, 1, 0)], "ticks and their answers")
-    same(labpage.Happened(steps[-2]).arrows, [(0, [labpage.CLIENT], "tick 1: empty", labpage.ANSWERED)], "an answer to a tick on the page")
-    cover = labcover.Cover()
+    same(bench.page.Happened(steps[-2]).arrows, [(0, [bench.page.CLIENT], "tick 1: empty", bench.page.ANSWERED)], "an answer to a tick on the page")
+    cover = bench.cover.Cover()
     cover.add(steps)
-    same(sorted(row.words for _, row, column in cover.pairs if column == labcover.CLIENT_COLUMNS["tick"][0][0]), ["NORMAL", "none, no member"], "who meets a tick")
+    same(sorted(row.words for _, row, column in cover.pairs if column == bench.cover.CLIENT_COLUMNS["tick"][0][0]), ["NORMAL", "none, no member"], "who meets a tick")
     same(cover.numbers["client"][13], 1, "a check's answer that is refused")
 
 
@@ -458,11 +458,11 @@ def block_lab(pairs, column):
 
 def try_columns():
     """The columns that events are told apart by are those of the matrix, and one more."""
-    for table, events in ((labcover.CLIENT_COLUMNS, matrix.client_events(2, 2)), (labcover.NODE_COLUMNS, matrix.NODE_EVENTS)):
+    for table, events in ((bench.cover.CLIENT_COLUMNS, matrix.client_events(2, 2)), (bench.cover.NODE_COLUMNS, matrix.NODE_EVENTS)):
         named = {column for tests in table.values() for column, _ in tests}
-        same(sorted(named - {column for column, *_ in events}), ["synced, clean for 1"] if table is labcover.CLIENT_COLUMNS else [], "columns that the matrix has not")
+        same(sorted(named - {column for column, *_ in events}), ["synced, clean for 1"] if table is bench.cover.CLIENT_COLUMNS else [], "columns that the matrix has not")
         same(sorted({column for column, *_ in events} - named), [], "columns of the matrix that no event has")
-    kinds = {labhistory.CLIENT: labcover.CLIENT_COLUMNS, labhistory.NODE: labcover.NODE_COLUMNS}
+    kinds = {bench.history.CLIENT: bench.cover.CLIENT_COLUMNS, bench.history.NODE: bench.cover.NODE_COLUMNS}
     same([f.name for f in FORMS.values() if f.kind in kinds and f.name not in kinds[f.kind]], [], "events without a column")
 
 
@@ -471,7 +471,7 @@ def kept_blocks(mode):
     history, answers = whole()
     if mode == "real":
         history = matrix.history()
-        answers = labhistory.run_lab(history)
+        answers = bench.history.run_lab(history)
     start = history.index(matrix.FIRST)
     at = len(parse("before", history[:start]).commands)
     found = {}
@@ -491,7 +491,7 @@ def try_cells(mode):
             continue
         tried += 1
         steps = traced(block_lab(list(zip(lines + [line], answers)), column), "\n".join(lines + [line]))[0]
-        cover = labcover.Cover()
+        cover = bench.cover.Cover()
         if table[0] == "client":
             cover.client(steps[-1])
         else:
@@ -505,20 +505,20 @@ def try_cells(mode):
 
 def try_by_poke():
     """Which pairs are said to be brought about by no event, by table and why: each row of that list stands for some, and the others are led to."""
-    cells = [(labcover.CLIENT_TABLES[sync], row[0], column) for sync in (0, 1) for row in labcover.SESSION_ROWS[sync] for column, *_ in matrix.client_events(2, 2)]
-    cells += [(labcover.NODE_TABLE, row, column) for row, _ in matrix.NODES for column, *_ in matrix.NODE_EVENTS]
-    whys = {labcover.only_by_poke(*cell) for cell in cells}
-    same(whys, {why for _, _, _, why in labcover.ONLY_BY_POKE} | {""}, "the reasons that are used")
-    same({row for _, row, _ in labgenerate.DRIVEN["client"]} - set(labgenerate.WAYS), set(), "rows without a way to them")
-    same({row for row, _ in labgenerate.DRIVEN["node"]} - set(labgenerate.NODE_WAYS), set(), "rows of a node without a way to them")
+    cells = [(bench.cover.CLIENT_TABLES[sync], row[0], column) for sync in (0, 1) for row in bench.cover.SESSION_ROWS[sync] for column, *_ in matrix.client_events(2, 2)]
+    cells += [(bench.cover.NODE_TABLE, row, column) for row, _ in matrix.NODES for column, *_ in matrix.NODE_EVENTS]
+    whys = {bench.cover.only_by_poke(*cell) for cell in cells}
+    same(whys, {why for _, _, _, why in bench.cover.ONLY_BY_POKE} | {""}, "the reasons that are used")
+    same({row for _, row, _ in bench.generate.DRIVEN["client"]} - set(bench.generate.WAYS), set(), "rows without a way to them")
+    same({row for row, _ in bench.generate.DRIVEN["node"]} - set(bench.generate.NODE_WAYS), set(), "rows of a node without a way to them")
 
 
 def try_writes():
     """Which columns a write has for a session, where it reached some and not others."""
-    pool = labtrace.Pool(letters="NNNF" + "." * 12, members=15)
+    pool = bench.trace.Pool(letters="NNNF" + "." * 12, members=15)
     for reached, i, wanted in [(7, 0, "all"), (6, 0, "1 not"), (6, 1, "all"), (5, 3, "1 not"), (7, 3, "all, 1 not"), (0, 0, "none"), (0, 3, "none"), (8, 3, "all"), (8, 0, "1 not"), (2**20, 0, "1 not")]:
-        met = labcover.Met((9, reached), pool=pool, id=i)
-        found = [column[len("write, "):-len(" reached")] for column, meant in labcover.CLIENT_COLUMNS["write"] if meant(met)]
+        met = bench.cover.Met((9, reached), pool=pool, id=i)
+        found = [column[len("write, "):-len(" reached")] for column, meant in bench.cover.CLIENT_COLUMNS["write"] if meant(met)]
         same(", ".join(found), wanted, "the columns of a write that reached %d, for %d" % (reached, i))
 
 
@@ -553,7 +553,7 @@ def alone(text):
 
 def covered(lab, *words):
     said = []
-    same(labcover.cover(list(words), lab, said.append), 0, "the status of a cover")
+    same(bench.cover.cover(list(words), lab, said.append), 0, "the status of a cover")
     return "".join(said)
 
 
@@ -591,6 +591,37 @@ def try_questions(lab):
                  "| next dirty chunk, the root's bit clear | - | 18: 1 |", "| write | 2 | - |", "| write, the root's bit clear | - | 18: 1 |", "| fault | - | 18: 1 |"]:
         same(line in part.split("\n"), True, "%r among what a NORMAL node met: %s" % (line, part))
     same("| 18 | - | 3 | the summary disagrees with its row |" in text, True, "the count of 18")
+
+
+# chart and log
+
+CHART = """                                  client        node 0        node 1
+
+# Two legs, one of them lost.
+pool 0 64                         |             |             |
+join_create 0                     [C]           |             |
+enable 0                          [N]           |             |
+join_create 16                    |             |             |     refused 3
+join_create 1                     [NC]          |             |
+                                  |------------>|             |     POOL_INFO 0 1
+enable 1                          [NN]          |             |
+write 7 1                         [NF]          |             |     acked=1 list=2
+                                  |------------>|             |     MARK 7 2 2
+link_down 0                       [FF]          |             |
+"""
+
+
+def try_chart(lab):
+    with files(checked=CHECKED) as paths:
+        said = []
+        same((bench.chart.draw(paths, lab, said.append), "".join(said)), (0, CHART), "a chart")
+
+
+def try_log():
+    """The records that are new, of the last pool alone."""
+    commands = parse("log", "pool 0 64\njoin_create 0\nlook\npool 0 64\njoin_create 3\njoin_create 16\nenable 3\n").commands
+    answers = "done|none|ok 1|record 1 1 0 0 0 1 0 0|look|record 1 1 0 0 0 1 0 0|done|none|ok 2|record 1 1 3 0 0 1 0 0|refused 3|record 1 1 3 0 0 1 0 0|ok 3|record 2 3 3 0 0 1 1 0".split("|")
+    same(bench.log.log(commands, answers), ["1 1 3 0 0 1 0 0", "2 3 3 0 0 1 1 0"], "a log")
 
 
 # The way through in docs/LAB.md.
@@ -631,23 +662,23 @@ def try_guide(lab):
 # generate
 
 def made(kind, seed, count):
-    return list(labgenerate.histories(kind, seed, count))
+    return list(bench.generate.histories(kind, seed, count))
 
 
 def try_chance():
     """The numbers are splitmix64's, whatever runs this."""
-    chance = labdriver.Chance("x")
+    chance = bench.driver.Chance("x")
     chance.state = 1234567
     same([chance.below(2**64) for _ in range(3)], [6457827717110365317, 3203168211198807973, 9817491932198370423], "splitmix64")
     chance.state = 1234567
     same([chance.below(100) for _ in range(5)], [35, 17, 53, 24, 88], "numbers below 100")
-    same(labdriver.Chance("system", 1, 2).state, int(hashlib.sha256(b"system 1 2").hexdigest()[:16], 16), "a seed")
+    same(bench.driver.Chance("system", 1, 2).state, int(hashlib.sha256(b"system 1 2").hexdigest()[:16], 16), "a seed")
 
 
 def try_generate():
     """Histories are the same for the same seed, in any process; each line is a command; the first ones do not hang on how many there are."""
-    program = "import sys; sys.path.insert(0, %r); sys.dont_write_bytecode = True; import labgenerate; labgenerate.generate(sys.argv[1:])" % os.path.join(ROOT, "scripts")
-    for kind in sorted(labgenerate.KINDS):
+    program = "import sys; sys.path.insert(0, %r); sys.dont_write_bytecode = True; from bench import generate; generate.generate(sys.argv[1:])" % ROOT
+    for kind in sorted(bench.generate.KINDS):
         few = made(kind, 7, 12)
         same(few[:5], made(kind, 7, 5), "the first histories of %s" % kind)
         same(few == made(kind, 8, 12), False, "whether another seed gives the same")
@@ -667,10 +698,10 @@ def try_generate():
 
 def try_turns():
     """A thousand histories come to every cell that they can come to."""
-    for kind, table in labgenerate.CELLS.items():
+    for kind, table in bench.generate.CELLS.items():
         for what, cells in table.items():
-            order = labgenerate.order(kind, 3, what)
-            same([labgenerate.in_turn(kind, 3, what, k) for k in (1, 2, len(cells), len(cells) + 1)], [order[0], order[1], order[-1], order[0]], "cells in turn")
+            order = bench.generate.order(kind, 3, what)
+            same([bench.generate.in_turn(kind, 3, what, k) for k in (1, 2, len(cells), len(cells) + 1)], [order[0], order[1], order[-1], order[0]], "cells in turn")
             same((len(cells) <= 1000, sorted(order) == sorted(cells)), (True, True), "whether all %d cells come in turn" % len(cells))
             same(order == cells, False, "whether a seed has an order of its own")
 
@@ -682,7 +713,7 @@ def try_expect():
 
     said, count = [], 11
     with tempfile.TemporaryDirectory() as folder:
-        same(labgenerate.generate(["system", "3", str(count), "--expect", "--into", folder], lab, said.append), 0, "generate")
+        same(bench.generate.generate(["system", "3", str(count), "--expect", "--into", folder], lab, said.append), 0, "generate")
         same(said, ["11 histories in %s\n" % folder], "what generate says")
         names = sorted(os.listdir(folder))
         same((len(names), names[0], names[-1]), (count, "system-3-01.history", "system-3-11.history"), "the files of generate")
@@ -699,7 +730,7 @@ def drawn(lab, text, name="page"):
     """The data of a page, read from it."""
     with files(**{name: text}) as paths:
         said = []
-        same(labpage.make(paths, lab, said.append), 0, "the status of a page")
+        same(bench.page.make(paths, lab, said.append), 0, "the status of a page")
     page = "".join(said)
     tags = alone(page)
     same(page.isascii(), True, "whether a page can be written in any encoding")
@@ -749,7 +780,7 @@ def try_page_of_pokes(lab):
          ["0 bytes", "1024 bytes", "2048 bytes", "0 bytes"], "a transfer")
     same([at(data["rows"], key, k) for k in (last - 1, last) for key in ("2 2", "-4 2", "-4 0")], ["48-49", "48-49", "0", "", "", ""], "rows that bytes were put into, and a fresh pool")
     same([at(data["states"], "3", k)[0] for k in (last - 1, last)], ["NO_IO", "EMPTY"], "a node, and a fresh one")
-    series = labpage.Series("")
+    series = bench.page.Series("")
     for k, value in ((3, "a"), (3, "b"), (5, "b"), (6, "a")):
         series.put("x", k, value)
     same([at(series.data(), "x", k) for k in range(8)], ["", "", "", "b", "b", "b", "a", "a"], "values that change")
@@ -769,18 +800,18 @@ def try_expected_lines():
 
 def try_thousands(lab):
     """A thousand histories of each kind leave no pair out but those that no event brings about."""
-    for kind in sorted(labgenerate.KINDS):
-        cover = labcover.Cover()
-        for steps in labtrace.trace([parse(kind, "\n".join(lines)) for lines in made(kind, 1, 1000)], lab):
+    for kind in sorted(bench.generate.KINDS):
+        cover = bench.cover.Cover()
+        for steps in bench.trace.trace([parse(kind, "\n".join(lines)) for lines in made(kind, 1, 1000)], lab):
             cover.add(steps)
-        for table in labcover.tables(cover):
-            missing = [(row.words, c) for row, columns in labcover.never(cover, table).items() for c in columns]
-            same([pair for pair in missing if not labcover.only_by_poke(table.name, *pair)], [], "pairs that a thousand %s histories leave out" % kind)
+        for table in bench.cover.tables(cover):
+            missing = [(row.words, c) for row, columns in bench.cover.never(cover, table).items() for c in columns]
+            same([pair for pair in missing if not bench.cover.only_by_poke(table.name, *pair)], [], "pairs that a thousand %s histories leave out" % kind)
             pairs = [(row.words, c) for row in table.rows[: table.known[0]] for c in table.columns[: table.known[1]]]
-            by_poke = [pair for pair in pairs if labcover.only_by_poke(table.name, *pair)]
+            by_poke = [pair for pair in pairs if bench.cover.only_by_poke(table.name, *pair)]
             same(missing, [] if kind == "hostile" else by_poke, "pairs that no event of a thousand %s histories brings about" % kind)
-        occur = [labcover.share(cover, table)[1] for table in labcover.tables(cover)]
-        numbers = ", ".join(str(n) for n, _ in labcover.missing_numbers(cover)) or "none"
+        occur = [bench.cover.share(cover, table)[1] for table in bench.cover.tables(cover)]
+        numbers = ", ".join(str(n) for n, _ in bench.cover.missing_numbers(cover)) or "none"
         line = "| `%s` | %s | %d | %d | %d | %s |" % (kind, format(cover.commands, ","), *occur, numbers)
         same(line in guide(), True, "a line of docs/LAB.md: %s" % line)
 
@@ -788,10 +819,10 @@ def try_thousands(lab):
 def try_written_out(lab):
     """A history answers the same with its deliveries and messages written out as node events and answers."""
     histories = [parse(name, example(name)) for name in ("leg-lost", "assembled", "receiver-fails", "removal-halts", "stale-leg")] + [parse("hidden", HIDDEN)]
-    histories += [parse(kind, "\n".join(lines)) for kind in sorted(labgenerate.KINDS) for lines in made(kind, 5, 60)]
-    for history, steps in zip(histories, labtrace.trace(histories, lab)):
+    histories += [parse(kind, "\n".join(lines)) for kind in sorted(bench.generate.KINDS) for lines in made(kind, 5, 60)]
+    for history, steps in zip(histories, bench.trace.trace(histories, lab)):
         pairs = [pair for step in steps for pair in written_out(step)]
-        (answers,) = labhistory.answers_to([[line for line, _ in pairs]], lab)
+        (answers,) = bench.history.answers_to([[line for line, _ in pairs]], lab)
         same([(line, a) for (line, _), a in zip(pairs, answers)], pairs, "%s written out" % history.name)
 
 
@@ -806,7 +837,7 @@ def written_out(step):
         return []
     if text != "deliver":
         return [("auto 0" if text == "auto 1" else text, step.answer)] + events
-    count = len([t for t in labtrace.handed(step.before.awaited, 1)]) if step.event.numbers[1] or step.before.awaited[0] != "MAP_SEND" else 1 + (len(events) > 1 and " take " in events[1][0])
+    count = len([t for t in bench.trace.handed(step.before.awaited, 1)]) if step.event.numbers[1] or step.before.awaited[0] != "MAP_SEND" else 1 + (len(events) > 1 and " take " in events[1][0])
     return events[:count] + [("answer %d %d %d" % step.event.numbers, step.answer)] + events[count:]
 
 
@@ -817,10 +848,10 @@ def main():
     lab = Lab(mode)
     for test in (try_language, try_reading, try_fitting, try_driver, try_large_check, try_errors, try_messages, try_disagreement, try_ticks, try_columns, try_by_poke, try_writes):
         test()
-    for test in (try_chance, try_generate, try_turns, try_expect):
+    for test in (try_chance, try_generate, try_turns, try_expect, try_log):
         test()
     try_cells(mode)
-    for test in (try_check, try_update, try_trace, try_cover, try_questions, try_guide, try_page, try_page_of_pokes):
+    for test in (try_check, try_update, try_trace, try_cover, try_questions, try_chart, try_guide, try_page, try_page_of_pokes):
         test(lab)
     if mode == "keep":
         lab.keep()
@@ -830,4 +861,5 @@ def main():
         try_thousands(lab)
 
 
-main()
+if __name__ == "__main__":
+    main()

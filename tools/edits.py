@@ -1,8 +1,7 @@
-#!/usr/bin/env python3
 """The rule on must-fail edits (docs/ARCHITECTURE.md), held to in the gate's first second.
 
-  edits.py check             every edit keeps the rule; else which does not, and a failing exit
-  edits.py list [CRATE..]    every edit with what it is, the function that it is in, and that function's contract
+  python3 -m tools.edits check             every edit keeps the rule; else which does not, and a failing exit
+  python3 -m tools.edits list [CRATE..]    every edit with what it is, the function that it is in, and that function's contract
 
 An edit of a definition or of a statement (specs/, proofs/) always may stand. An edit of code may stand once in a crate, and in none whose check takes over
 20 seconds (docs/CHECK-TIMES.md); where the contract of its function is no equation, so that more than the equation is to be tried, it may stand besides.

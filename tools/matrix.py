@@ -1,12 +1,13 @@
-#!/usr/bin/env python3
 """The full matrix of state and event, as the last history that the program `lab` is run on and as a page made from what it answers.
 
-  matrix.py history   writes the history into crates/lab/stdin, after the histories that stand before it
-  matrix.py page      writes docs/MATRIX.md from the end of crates/lab/stdout
-  matrix.py check     says whether the history and the page are those that this script makes
+  python3 -m tools.matrix history   writes the history into crates/lab/stdin, after the histories that stand before it
+  python3 -m tools.matrix page      writes docs/MATRIX.md from the end of crates/lab/stdout
+  python3 -m tools.matrix check     says whether the history and the page are those that this script makes
 """
 import os
 import sys
+
+from bench.history import chunks, fields, parse, sent
 
 ROOT = os.path.dirname(os.path.dirname(os.path.abspath(__file__)))
 STDIN = os.path.join(ROOT, "crates", "lab", "stdin")
@@ -243,22 +244,21 @@ def cell(line, further=""):
     """An answer, short, with the further fields before its messages."""
     if line.startswith("refused "):
         return line[8:]
-    head, *messages = line.split(" | ")
-    fields = dict(w.split("=", 1) for w in head.split() if "=" in w)
-    if "node" in fields:
-        words = [fields["state"]]
-        words += ["%s=%s" % (k, fields[k]) for k in ("store", "create", "members", "version", "kept", "transfer", "empty", "next") if k in fields]
+    said = fields(line)
+    if "node" in said:
+        words = [said["state"]]
+        words += ["%s=%s" % (k, said[k]) for k in ("store", "create", "members", "version", "kept", "transfer", "empty", "next") if k in said]
     else:
-        words = [fields["sessions"].rstrip(".") or "-", "v%s" % fields["version"], "n%s" % fields["count"]]
+        words = [said["sessions"].rstrip(".") or "-", "v%s" % said["version"], "n%s" % said["count"]]
         for k in ("members", "maint", "marked", "delete", "owed"):
-            if fields[k] != "0":
-                words.append("%s=%s" % (k, fields[k]))
-        if fields["job"] != "none":
-            words.append(fields["job"])
+            if said[k] != "0":
+                words.append("%s=%s" % (k, said[k]))
+        if said["job"] != "none":
+            words.append(said["job"])
         for k in ("id", "taken", "acked", "list"):
-            if k in fields:
-                words.append("%s=%s" % (k, fields[k]))
-    return " ".join(words) + further + "".join("; " + m for m in messages)
+            if k in said:
+                words.append("%s=%s" % (k, said[k]))
+    return " ".join(words) + further + "".join("; " + m for m in sent(line))
 
 
 def put_in(word, lines):
@@ -268,25 +268,16 @@ def put_in(word, lines):
 
 def fields_of(answer, look, lines):
     """The further fields of the client after the event: the pool's that are not 0, map check's that it changed. None for a refusal, which leaves them as they were set up."""
-    fields = dict(w.split("=") for w in look.split()[1:])
+    now = fields(look)
     was = {w: str(put_in(w, lines)) for w in (WRITTEN, ASSEMBLED, *CHECK)}
     for word, state in (("link", FAILED), ("io", FAILED_IO)):
         was[word] = str(sum(1 << i for i in range(16) if any(line.startswith("poke session %d %d " % (i, state)) for line in lines)))
     if answer.startswith("refused "):
-        if fields != was:
+        if now != was:
             sys.exit("matrix: a refusal changed a field of the client")
         return ""
-    shown = [k for k, v in fields.items() if v != (was[k] if k in CHECK else "0")]
-    return "".join(" " + (k if k in (WRITTEN, ASSEMBLED) else "%s=%s" % (k, fields[k])) for k in shown)
-
-
-def chunks(line):
-    """The chunks of a row's answer."""
-    found = set()
-    for part in line.split()[1:]:
-        first, _, last = part.partition("-")
-        found |= set(range(int(first), int(last or first) + 1))
-    return found
+    shown = [k for k, v in now.items() if v != (was[k] if k in CHECK else "0")]
+    return "".join(" " + (k if k in (WRITTEN, ASSEMBLED) else "%s=%s" % (k, now[k])) for k in shown)
 
 
 def row_fate(left, was, known):
@@ -344,7 +335,7 @@ def left_of(answer, looked, lines):
 def page():
     with open(STDOUT, encoding="ascii") as f:
         answers = f.read().split("\n")
-    at = sum(1 for line in before().split("\n") if line and not line.startswith("#"))  # each command has one line of answer
+    at = len(parse("the histories before it", before()).commands)  # each command has one line of answer
     tables = {}
     for table, words, name, lines, _, looks in blocks():
         at += len(lines)
@@ -360,7 +351,7 @@ def page():
     out = [
         "# The matrix: every state with every event",
         "",
-        "Made by `scripts/matrix.py` from what the program `lab` answers to the last history of `crates/lab/stdin`, which the gate runs; the gate also compares this page with it.",
+        "Made by `tools/matrix.py` from what the program `lab` answers to the last history of `crates/lab/stdin`, which the gate runs; the gate also compares this page with it.",
         "",
         "A number alone is the refusal. Else the answer: for the client the session letters (session 0 first; the acted-on session is 1), `v` the pool version,",
         "`n` the NORMAL count, the sets that are not empty, the job, what the answer counts, `written` and `assembled` where they stand, the sessions that are FAILED with cause",

@@ -1,4 +1,3 @@
-#!/usr/bin/env python3
 """Checks histories against the answers that are expected in them; `./lab --check` runs it.
 
 A line `> ANSWER` right after a command is what is expected of it; a command without one is run and not checked.
@@ -12,10 +11,8 @@ Exit status: 0 all passed, 1 some differ, 2 a file is missing or is no history.
 """
 import argparse
 import shlex
-import sys
 
-import labhistory
-from labhistory import answers_to, asking, demand_commands, load, store
+from bench.history import answers_to, asking, demand_commands, load, run_lab, store
 
 OPEN = ".."
 
@@ -125,7 +122,7 @@ def arguments(words):
     return given
 
 
-def check(words, run=labhistory.run_lab, out=print):
+def check(words, run=run_lab, out=print):
     given = arguments(words)
     histories = [load(path) for path in given.files]
     for history in histories:
@@ -140,7 +137,3 @@ def check(words, run=labhistory.run_lab, out=print):
     checked = sum(c.expected is not None for h in histories for c in h.commands)
     out("%d passed, %d differ; %d commands, %d checked" % (passed, len(histories) - passed, sum(len(h.commands) for h in histories), checked))
     return 0 if passed == len(histories) else 1
-
-
-if __name__ == "__main__":
-    labhistory.main(lambda: check(sys.argv[1:]))

@@ -1,7 +1,6 @@
-#!/usr/bin/env python3
 """The gate's test of the NBD server, with a small client of its own; it says nothing where all is well.
 
-  nbd-test.py
+  python3 -m nbd_server.test
 
 It needs no package and no program that is built by proving: a server here gets its descriptors from files, not from `./status`. They are those that the gate itself compares with what
 the proved programs write and take (crates/status/stdout, crates/statusread/stdin), and some written by hand. What a client must be told is found from the row's bits, not from the descriptors.
@@ -18,7 +17,6 @@ import tempfile
 import urllib.parse
 
 ROOT = os.path.dirname(os.path.dirname(os.path.abspath(__file__)))
-SCRIPTS = os.path.join(ROOT, "scripts")
 PATIENCE = 20  # seconds after which a server that does not answer has failed
 MIB = 1 << 20
 
@@ -44,7 +42,7 @@ def same(got, wanted, what):
 @contextlib.contextmanager
 def started(status, words):
     """The server's program with another command for `status`."""
-    program = "import sys; sys.path.insert(0, %r); import nbdserver; nbdserver.main(sys.argv[1:], %r)" % (SCRIPTS, status)
+    program = "import sys; sys.path.insert(0, %r); from nbd_server import server; server.main(sys.argv[1:], %r)" % (ROOT, status)
     command = [sys.executable, "-B", "-c", program] + words
     with subprocess.Popen(command, stdin=subprocess.DEVNULL, stdout=subprocess.PIPE, stderr=subprocess.PIPE) as process:
         try:
@@ -544,4 +542,5 @@ def main():
             os.chdir(ROOT)
 
 
-main()
+if __name__ == "__main__":
+    main()

@@ -1,4 +1,3 @@
-#!/usr/bin/env python3
 """Which states met which events in histories; `./lab --cover` runs it.
 
 Pairs are those of docs/MATRIX.md: the state of the event's session with the event, in a non-sync and in a sync pool, and the state of a node with its event. An event that names no session
@@ -17,10 +16,9 @@ import html
 import sys
 from typing import NamedTuple
 
-import labhistory
-import matrix
-from labhistory import UNREADABLE, demand_commands, load
-from labtrace import MAP_BYTES, MEMBERS, NODE_STATES, Node, Pool, trace
+from bench.history import UNREADABLE, demand_commands, load, run_lab
+from bench.trace import MAP_BYTES, MEMBERS, NODE_STATES, Node, Pool, trace
+from tools import matrix
 
 REFUSALS = {
     1: "the state breaks a rule", 2: "a lent map has another length, or a bit past the chunk count", 3: "an id above 15", 4: "a chunk that is not below the chunk count",
@@ -529,7 +527,7 @@ def arguments(words):
     return parser.parse_args(words)
 
 
-def cover(words, run=labhistory.run_lab, write=sys.stdout.write):
+def cover(words, run=run_lab, write=sys.stdout.write):
     given = arguments(words)
     histories = [load(path) for path in given.files]
     found = Cover()
@@ -540,7 +538,3 @@ def cover(words, run=labhistory.run_lab, write=sys.stdout.write):
         found.add(steps)
     write(page(found) if given.html else text(found, given.brief))
     return 0
-
-
-if __name__ == "__main__":
-    labhistory.main(lambda: cover(sys.argv[1:]))

@@ -6,7 +6,7 @@ What the nodes answer to the history's own commands must be the same both times.
 """
 from typing import NamedTuple, Optional
 
-from labhistory import CLIENT, DELIVER, LOOK, NODE, SETUP, UNREADABLE, Command, Read, Wrong, answers_to, fields, messages, ranges, read
+from bench.history import CLIENT, DELIVER, LOOK, NODE, SETUP, UNREADABLE, Command, Read, Wrong, answers_to, fields, messages, ranges, read
 
 MEMBERS = range(16)
 ALL = 2**16 - 1

@@ -1,7 +1,6 @@
-#!/usr/bin/env python3
 """An NBD server that gives a member's dirty chunks to backup software (docs/NBD.md); `./nbd` runs it.
 
-  nbdserver.py MAP MEMBER CHUNKS CHUNK_SIZE [--socket PATH | --port N]
+  ./nbd MAP MEMBER CHUNKS CHUNK_SIZE [--socket PATH | --port N]
 
 A read-only export of the volume's size. Its data reads as zeros: what is offered is the block status, in the context qemu:dirty-bitmap:member-MEMBER. The status is
 what the proved program `status` wrote. Here descriptors are only cut to the range that a client asks for; no dirty bit is computed.
@@ -391,7 +390,3 @@ def main(words, status=STATUS):
             serve(sock, volume)
     except (OSError, OverflowError, ValueError) as wrong:
         sys.exit("nbd: %s" % wrong)
-
-
-if __name__ == "__main__":
-    main(sys.argv[1:])

@@ -1,8 +1,7 @@
-#!/usr/bin/env python3
 """C-15's claim and its premises along histories of the lab: which premise does a history drop, and what is forgotten at its end?
 
-  scripts/premises.py            plays examples/premises/ and examples/needed/
-  scripts/premises.py FILE ..    plays these
+  python3 -m tools.premises            plays examples/premises/ and examples/needed/
+  python3 -m tools.premises FILE ..    plays these
   LAB='PROGRAM WORD ..' before it: plays them with that program instead of ./lab, as one with a wrong rule
 
 Each file of examples/premises/ is named after a clause of `Keeps` or `Starts` (crates/histories): it has to drop that one, no other but those that are only convenient (docs/DEMANDS.md), and to end with a missed chunk
@@ -16,6 +15,8 @@ import os
 import shlex
 import subprocess
 import sys
+
+from bench.history import chunks, fields, load, sent
 
 ROOT = os.path.dirname(os.path.dirname(os.path.abspath(__file__)))
 CLAUSES = ("follows", "assembles", "brings", "marks", "stores", "by-hand", "not-else", "own", "once", "broken", "deletes", "answers", "new", "fills", "free", "starts-pool", "starts-node")
@@ -31,23 +32,12 @@ def play(lines):
     done = subprocess.run(words, input="\n".join(lines) + "\n", capture_output=True, text=True, check=True)
     answers = done.stdout.splitlines()
     if len(answers) != len(lines):
-        sys.exit("premises.py: %d lines, %d answers" % (len(lines), len(answers)))
+        sys.exit("premises: %d lines, %d answers" % (len(lines), len(answers)))
     return answers
-
-
-def commands(path):
-    with open(path, encoding="utf-8") as f:
-        return [line.rstrip("\n") for line in f if line.strip() and not line.startswith("#")]
 
 
 def ids(number):
     return {i for i in range(16) if number >> i & 1}
-
-
-def fields(answer):
-    """The fields and the messages of a line of the client or of a node."""
-    head, *messages = answer.split(" | ")
-    return dict(w.split("=", 1) for w in head.split() if "=" in w), messages
 
 
 def as_event(message):
@@ -72,7 +62,7 @@ def spread_out(lines):
             continue
         out.append(line)
         if auto and line.split()[0] in CLIENT:
-            out += [as_event(m) for m in fields(answer)[1] if " #" not in m]
+            out += [as_event(m) for m in sent(answer) if " #" not in m]
     return out
 
 
@@ -98,7 +88,7 @@ class Walk:
             if values != FRESH:
                 self.drop("starts-node", line)
         elif values != FRESH:
-            sys.exit("premises.py: not a history: " + line)
+            sys.exit("premises: not a history: " + line)
         elif j in self.members or self.sessions[j] != ".":
             self.drop("free", line)
         self.joined.discard(j)
@@ -107,7 +97,7 @@ class Walk:
 
     def poke(self, words, line):
         if self.begun:
-            sys.exit("premises.py: not a history: " + line)
+            sys.exit("premises: not a history: " + line)
         self.drop("starts-pool", line)
         if words[1] == "members":
             self.members = ids(int(words[2]))
@@ -119,7 +109,7 @@ class Walk:
         if self.job == "none" or self.fate != "under way":
             self.drop("once", line)
             self.drop("broken", line)
-        version = fields(answer)[0].get("version") if " map_get_ver" in line else "0"
+        version = fields(answer).get("version") if " map_get_ver" in line else "0"
         self.fate = (0, "0") if answer.startswith("refused") else (2 if " map_get_ver" in line else 1, version)
 
     def node(self, line, answer, after):
@@ -153,7 +143,7 @@ class Walk:
         self.close()
         if not answer.startswith("ok"):
             return
-        words, (new, messages) = line.split(), fields(answer)
+        words, new, messages = line.split(), fields(answer), sent(answer)
         word, j = words[0], int(words[1]) if len(words) > 1 else 0
         there = self.members - self.deleting
         normal = {k for k in range(16) if self.sessions[k] == "N"}
@@ -213,20 +203,12 @@ class Walk:
         if words[0] in CLIENT:
             self.begun = True
             return self.client(line, answer, by_hand)
-        sys.exit("premises.py: not a history: " + line)
-
-
-def chunks_of(row):
-    found = set()
-    for part in row.split()[1:]:
-        low, _, high = part.partition("-")
-        found |= set(range(int(low), int(high or low) + 1))
-    return found
+        sys.exit("premises: not a history: " + line)
 
 
 def judge(path):
     """What a history drops, and what is forgotten at its end: node, member, chunk."""
-    lines = spread_out(commands(path))
+    lines = spread_out([c.text for c in load(path).commands])
     # after each line every node is asked for its state: that changes nothing, and is refused where the node does not serve
     asked = [x for line in lines for x in [line] + ["node %d map_get_ver" % j for j in range(16)]]
     rows = ["row %d %d" % (j, m) for j in range(16) for m in range(16)]
@@ -238,9 +220,9 @@ def judge(path):
         for j, said in enumerate(answers[17 * i + 1 : 17 * i + 17]):
             seen = said if said.startswith("ok") else main[i] if main[i].startswith("ok node=%d " % j) else ""
             if seen:
-                walk.nodes[j] = {k: v for k, v in fields(seen)[0].items() if k in ("version", "create")}
+                walk.nodes[j] = {k: v for k, v in fields(seen).items() if k in ("version", "create")}
     walk.close()
-    found = {r: chunks_of(a) for r, a in zip(rows, answers[len(asked):])}
+    found = {r: chunks(a) for r, a in zip(rows, answers[len(asked):])}
     forgotten = sorted((j, m, c) for j in range(16) if walk.sessions[j] == "N" for m, c in walk.missed if c not in found["row %d %d" % (j, m)])
     return walk.dropped, forgotten
 

@@ -1,7 +1,6 @@
-#!/usr/bin/env python3
 """docs/CHECK-TIMES.md from the log of a whole run of the gate.
 
-  { time .ci/run; } > LOG 2>&1; scripts/check-times.py LOG
+  { time .ci/run; } > LOG 2>&1; python3 -m tools.check_times LOG
 """
 import glob
 import os
@@ -55,7 +54,7 @@ def main():
     out = [
         "# Check times",
         "",
-        "Made by `scripts/check-times.py` from the log of a whole run of the gate on two cores, two checks at a time, so that every later change can say what it cost:",
+        "Made by `tools/check_times.py` from the log of a whole run of the gate on two cores, two checks at a time, so that every later change can say what it cost:",
         "seconds of wall time. Lines: code with contracts, definitions, proofs and laws (of `laws` and `keeps`, which hold nothing but laws, under definitions).",
         "",
         "%s Sum of the times below: %d s of proofs, %d s of must-fail edits." % (how, sum(int(s) for _, s in proved), sum(int(e[3]) for e in edits)),
@@ -82,4 +81,5 @@ def main():
         f.write("\n".join(out) + "\n")
 
 
-main()
+if __name__ == "__main__":
+    main()
