@@ -6,13 +6,17 @@ A line `> ANSWER` right after a command is what is expected of it; a command wit
   > ok .. job=none .. | MARK 0   words side by side must stand side by side, in this order; `.. NF` leaves the beginning open
 Of sessions=, the dots at the end may be left out. In every file the lab begins fresh: it is told `pool 0 4096` before each.
 
-For each file, `passed`, or its first difference: the command, what was expected and what came. The last line is the total.
-Exit status: 0 all passed, 1 some differ, 2 a file is missing or is no history.
+For each file, `passed`, or its first difference: the command, what was expected and what came. The last line is the total. A file that is missing, is no history, or at which the program fails
+is told of on standard error, and the others are checked; so is one that passed with nothing expected in it.
+Exit status: 0 all passed, 1 some differ, 2 some could not be checked.
 """
 import argparse
 import shlex
+import shutil
+from typing import NamedTuple
 
-from bench.history import answers_to, asking, demand_commands, load, run_lab, store
+from bench.history import Wrong, asked, asking, build_for, complain, loaded, run_lab, store, to_spread
+from bench.spread import spread
 
 OPEN = ".."
 
@@ -85,25 +89,53 @@ def difference(history, answers):
     return next(((c, a) for c, a in zip(history.commands, answers) if c.expected is not None and not fits(c.expected, a)), None)
 
 
-def report(history, answers, out):
-    """Says how it went, and hands back whether it passed."""
-    found = difference(history, answers)
+class Outcome(NamedTuple):
+    """What became of a file."""
+    status: int       # PASSED, DIFFERS or UNREAD
+    said: list        # lines about it
+    wrong: list       # lines for standard error
+    commands: int = 0
+    checked: int = 0
+
+
+PASSED, DIFFERS, UNREAD = range(3)  # the exit statuses, too
+
+
+def compared(history, answers):
+    found, count = difference(history, answers), len(history.commands)
     checked = sum(c.expected is not None for c in history.commands)
     if found is None:
-        out("passed %s: %d of %d commands checked" % (history.name, checked, len(history.commands)))
-        return True
+        idle = [] if checked else ["%s: nothing is expected in it, so nothing was checked" % history.name]
+        return Outcome(PASSED, ["passed %s: %d of %d commands checked" % (history.name, checked, count)], idle, count, checked)
     command, answer = found
-    out("differs %s:%d: %s" % (history.name, command.at, command.text))
-    out("    expected: %s" % command.expected)
-    out("    came:     %s" % answer)
-    return False
+    said = ["differs %s:%d: %s" % (history.name, command.at, command.text), "    expected: %s" % command.expected, "    came:     %s" % answer]
+    return Outcome(DIFFERS, said, [], count, checked)
 
 
-def update(history, answers, every, out):
+def updated(history, answers, every):
     lines, changed = rewritten(history, answers, every)
     if changed:
-        store(history.name, lines)
-    out("%s %s: expected answers that changed: %d" % ("updated" if changed else "kept", history.name, changed))
+        try:
+            store(history.name, lines)
+        except Wrong as e:
+            return Outcome(UNREAD, [], [e])
+    return Outcome(PASSED, ["%s %s: expected answers that changed: %d" % ("updated" if changed else "kept", history.name, changed)], [])
+
+
+def outcomes(things, run, given):
+    """What becomes of each file, by one run of the program for all. Those that are no histories, and those that the program fails at, are left out and told of."""
+    histories = loaded(things)
+    answers = iter(asked([h for h in histories if not isinstance(h, Wrong)], run))
+    found = []
+    for history in histories:
+        said = history if isinstance(history, Wrong) else next(answers)
+        if isinstance(said, Wrong):
+            found.append(Outcome(UNREAD, [], [said]))
+        elif given.update or given.expect:
+            found.append(updated(history, said, given.expect))
+        else:
+            found.append(compared(history, said))
+    return found
 
 
 def arguments(words):
@@ -119,21 +151,35 @@ def arguments(words):
         parser.error("standard input can't be rewritten")
     if given.program is not None and not shlex.split(given.program):
         parser.error("there is no program in --with")
+    if given.program is not None and not shutil.which(shlex.split(given.program)[0]):
+        raise Wrong("%s could not be run: there is no such program" % shlex.split(given.program)[0])
     return given
 
 
-def check(words, run=run_lab, out=print):
+def check(words, run=None, out=print, wrong=complain):
+    """With a function of its own that runs the program, all by one run of it; else spread over the processors."""
     given = arguments(words)
-    histories = [load(path) for path in given.files]
-    for history in histories:
-        demand_commands(history)
-    answers = answers_to([[c.text for c in h.commands] for h in histories], asking(shlex.split(given.program)) if given.program else run)
-    if given.update or given.expect:
-        for history, said in zip(histories, answers):
-            update(history, said, given.expect, out)
-        return 0
-    quiet = (lambda line: None if line.startswith("passed") else out(line)) if given.quiet else out
-    passed = sum([report(h, said, quiet) for h, said in zip(histories, answers)])
-    checked = sum(c.expected is not None for h in histories for c in h.commands)
-    out("%d passed, %d differ; %d commands, %d checked" % (passed, len(histories) - passed, sum(len(h.commands) for h in histories), checked))
-    return 0 if passed == len(histories) else 1
+    if given.program:
+        run, spreading = asking(shlex.split(given.program)), True
+    else:
+        run, spreading = run or run_lab, run is None
+    things, sizes = to_spread(given.files)
+    if spreading and not given.program:
+        build_for(things)
+    found = []
+    for some in spread(lambda run_of: outcomes(run_of, run, given), things, sizes, "files") if spreading else [outcomes(things, run, given)]:
+        for outcome in some:
+            found.append(outcome._replace(said=[], wrong=[]))
+            for line in outcome.said if outcome.status or not given.quiet else []:
+                out(line)
+            for line in outcome.wrong:
+                wrong(line)
+    if not (given.update or given.expect):
+        out(total(found))
+    return max(outcome.status for outcome in found)
+
+
+def total(found):
+    counts = [sum(outcome.status == status for outcome in found) for status in (PASSED, DIFFERS, UNREAD)]
+    unread = ", %d could not be checked" % counts[UNREAD] if counts[UNREAD] else ""
+    return "%d passed, %d differ%s; %d commands, %d checked" % (*counts[:UNREAD], unread, sum(o.commands for o in found), sum(o.checked for o in found))

@@ -7,7 +7,7 @@ hand to a node counts as the node's event. For each pair: how often accepted, ho
 Where several columns are the same command: a write is `all reached` where it reached the session, or every NORMAL one, and `1 not reached` where it did not reach the session, so for one
 that is not NORMAL it can be both; an answer's number is the awaited one or, with nothing awaited, the one last awaited, and any other is `another number`; `our set` is the pool's
 member set or, with no member yet, the id alone; `the root's bit clear` is any word of the node's summaries that disagrees with its map, which refusal 18 tells.
-Exit status: 0, or 2 where a file is missing or is no history.
+A file that is missing or is no history is told of on standard error, and the others are counted. Exit status: 0, or 2 where one was left out.
 """
 import argparse
 import collections
@@ -16,17 +16,13 @@ import html
 import sys
 from typing import NamedTuple
 
-from bench.history import UNREADABLE, demand_commands, load, run_lab
+from bench.history import UNREADABLE, Wrong, build_for, complain, loaded, run_lab, to_spread
+from bench.spread import spread
 from bench.trace import MAP_BYTES, MEMBERS, NODE_STATES, Node, Pool, trace
+from programs.refusals import ORDER, REFUSALS as WORDS, number_of
 from tools import matrix
 
-REFUSALS = {
-    1: "the state breaks a rule", 2: "a lent map has another length, or a bit past the chunk count", 3: "an id above 15", 4: "a chunk that is not below the chunk count",
-    5: "not for this kind of pool", 6: "a job in hand bars it", 7: "the id has no session", 8: "the id has a session", 9: "not from this state", 10: "a membership test fails",
-    11: "no session NORMAL, or one reached that is not", 12: "the chunk can't be synced", 13: "not the number awaited", 14: "a version that is too high",
-    15: "no map transfer in hand, or MAP_DONE before a map", 16: "a part that can't be taken or given", 17: "the pool was written to or assembled", 18: "the summary disagrees with its row",
-    19: "no id is left",
-}
+REFUSALS = {n: WORDS[n] for n in sorted(ORDER)}  # those that events give
 
 
 # Rows: the states.
@@ -300,6 +296,15 @@ class Cover:
             for event in step.nodes:
                 self.node(event)
 
+    def merge(self, other):
+        """Counts what another has counted, too."""
+        for pair, counts in other.pairs.items():
+            self.pairs[pair].update(counts)
+        for side, counts in other.numbers.items():
+            self.numbers[side].update(counts)
+        for name in ("files", "histories", "commands", "client_events", "node_events", "handed", "unreadable"):
+            setattr(self, name, getattr(self, name) + getattr(other, name))
+
     def client(self, step):
         self.client_events += 1
         number = number_of(step.answer)
@@ -321,10 +326,6 @@ class Cover:
         for column, meant in NODE_COLUMNS[event.read.form.name]:
             if meant(met):
                 self.pairs[NODE_TABLE, node_row(event.before), column][number] += 1
-
-
-def number_of(answer):
-    return int(answer[8:]) if answer.startswith("refused ") else ACCEPTED
 
 
 # What there is to say.
@@ -527,14 +528,28 @@ def arguments(words):
     return parser.parse_args(words)
 
 
-def cover(words, run=run_lab, write=sys.stdout.write):
-    given = arguments(words)
-    histories = [load(path) for path in given.files]
+def covered(things, run, unreadable):
+    """What some files cover, by two runs of the program for all, and what is wrong with those that are left out."""
+    histories = loaded(things, unreadable)
     found = Cover()
-    if not given.unreadable:
-        for history in histories:
-            demand_commands(history)
-    for steps in trace(histories, run):
+    for steps in trace([h for h in histories if not isinstance(h, Wrong)], run):
         found.add(steps)
+    return found, [h for h in histories if isinstance(h, Wrong)]
+
+
+def cover(words, run=None, write=sys.stdout.write, wrong=complain):
+    """With a function of its own that runs the program, all by it; else spread over the processors."""
+    given = arguments(words)
+    things, sizes = to_spread(given.files)
+    if run is None:
+        build_for(things)
+    found, status = Cover(), 0
+    for some, errors in spread(lambda run_of: covered(run_of, run_lab, given.unreadable), things, sizes, "files") if run is None else [covered(things, run, given.unreadable)]:
+        found.merge(some)
+        for error in errors:
+            wrong(error)
+            status = 2
+    if not found.files:
+        return status
     write(page(found) if given.html else text(found, given.brief))
-    return 0
+    return status

@@ -17,6 +17,8 @@ from bench.check import rewritten
 from bench.cover import CLIENT_TABLES, FIRST, NODE_TABLE, NOT_EMPTY, SECOND, SESSION_ROWS, only_by_poke
 from bench.driver import DELETE, DISASSEMBLE, NORMAL, Chance, Driver, set_of
 from bench.history import CLIENT, DELIVER, FORMS, NODE, Wrong, answers_to, is_number, parse, read, run_lab, store
+from bench.spread import spread
+from programs.build import command
 from tools import matrix
 
 HERE = 1  # the matrix's session and node
@@ -364,10 +366,13 @@ def hostile(seed, k):
 KINDS = {"system": system, "hostile": hostile, "wide": wide}
 
 
+def history(kind, seed, k):
+    """The k-th history, a list of lines."""
+    return ["# %s %d %d" % (kind, seed, k)] + KINDS[kind](seed, k)
+
+
 def histories(kind, seed, count):
-    """So many histories, each a list of lines."""
-    for k in range(1, count + 1):
-        yield ["# %s %d %d" % (kind, seed, k)] + KINDS[kind](seed, k)
+    return (history(kind, seed, k) for k in range(1, count + 1))
 
 
 # What is typed.
@@ -394,11 +399,22 @@ def with_answers(made, run):
     return [rewritten(h, said, every=True)[0] for h, said in zip(parsed, answers)]
 
 
-def generate(words, run=run_lab, write=sys.stdout.write):
+SIZE = 2000  # bytes of a history, roughly
+
+
+def expecting(given, run):
+    """Histories with their answers. With a function of its own that runs the program, all by one run of it; else spread over the processors."""
+    numbers = range(1, given.count + 1)
+    if run is not None:
+        return with_answers([history(given.kind, given.seed, k) for k in numbers], run)
+    command("lab")  # it is built once, before the work is spread
+    runs = spread(lambda some: with_answers([history(given.kind, given.seed, k) for k in some], run_lab), numbers, [SIZE] * given.count, "histories")
+    return (lines for some in runs for lines in some)
+
+
+def generate(words, run=None, write=sys.stdout.write):
     given = arguments(words)
-    made = histories(given.kind, given.seed, given.count)
-    if given.expect:
-        made = with_answers(list(made), run)
+    made = expecting(given, run) if given.expect else histories(given.kind, given.seed, given.count)
     if given.into is None:
         for lines in made:
             write("\n".join(lines) + "\n")

@@ -2,21 +2,18 @@
 
 A history is one command a line (docs/HISTORIES.md). A line `> ANSWER` right after a command is the answer that is expected of it; it is never handed to the program.
 """
+import difflib
 import functools
 import os
 import subprocess
 import sys
 from typing import NamedTuple, Optional
 
-ROOT = os.path.dirname(os.path.dirname(os.path.abspath(__file__)))
-LAB = [os.path.join(ROOT, "lab")]
+from programs.build import ROOT, Wrong, command
+
 FRESH = "pool 0 4096"  # as the lab is before the first `pool` line
 UNREADABLE = "unreadable"
 LONGEST = 255  # bytes of a line that the lab reads
-
-
-class Wrong(Exception):
-    """What a person typed or wrote that can't be worked with: said in one line, with exit status 2."""
 
 
 # The language. A word in capitals is a number. Kinds: what the command is for.
@@ -109,11 +106,33 @@ def read(line):
 
 
 def no_command(line, words):
+    """Why a line is no command: what a person does not see in it, or the commands that are near."""
+    if line.startswith("\ufeff"):
+        return "the line begins with a byte order mark"
+    if line.endswith("\r"):
+        return "the line ends with a carriage return"
+    if "\t" in line:
+        return "there is a tab in the line"
     if line != line.strip() or "" in words:
-        return "a space or another mark too many" if not line.endswith("\r") else "the line ends with a carriage return"
-    word = words[2] if words[0] == "node" and len(words) > 2 else words[0]
-    near = [str(f) for f in FORMS.values() if word in f.words and ("node" in f.words) == (words[0] == "node")]
+        return "a space or another mark too many"
+    near = nearest(words)
     return "no command; meant is perhaps: %s" % "; ".join(near) if near else "no command"
+
+
+def nearest(words):
+    """The commands that were perhaps meant: those with the same word, else those with a word that is spelt much like it."""
+    at_node = words[0] == "node" and len(words) > 2
+    word = words[2] if at_node else words[0]
+    known = {}
+    for form in FORMS.values():
+        if ("node" in form.words) == at_node:
+            for own in form.words:
+                if own[0].islower() and own != "node":
+                    known.setdefault(own, []).append(str(form))
+    if not at_node:
+        known["node"] = ["node N EVENT .."]
+    found = [word] if word in known else difflib.get_close_matches(word.lower().replace("-", "_"), known, n=1, cutoff=0.66 if len(word) == 3 else 0.75)
+    return [form for own in found for form in known[own]]
 
 
 # Answers.
@@ -231,11 +250,15 @@ def asking(program):
     return run
 
 
-run_lab = asking(LAB)  # tests put another function in its place
+def run_lab(text):
+    """What the lab answers to a history; tests put another function in its place."""
+    return asking(command("lab"))(text)
 
 
 def answers_to(scripts, run):
     """The answers to several lists of commands, by one run of the program. Each begins with a fresh lab."""
+    if not scripts:
+        return []
     text = "".join("%s\n%s\n" % (FRESH, "\n".join(lines)) if lines else "%s\n" % FRESH for lines in scripts)
     said = run(text)
     wanted = sum(len(lines) + 1 for lines in scripts)
@@ -248,22 +271,54 @@ def answers_to(scripts, run):
     return found
 
 
+def asked(histories, run):
+    """The answers to the commands of each history. Where a run fails, each half of it is tried alone: one history that the program fails at, in whose place an error is handed back, does not keep it from the others."""
+    try:
+        return answers_to([[c.text for c in h.commands] for h in histories], run)
+    except Wrong as e:
+        if len(histories) < 2:
+            return [Wrong("%s: %s" % (h.name, e)) for h in histories]
+        half = len(histories) // 2
+        return asked(histories[:half], run) + asked(histories[half:], run)
+
+
+def loaded(things, unreadable=False):
+    """The histories in files, or those that are there already; in the place of one that is none, the error. Unreadable: lines that are no command are let be."""
+    found = []
+    for thing in things:
+        try:
+            history = load(thing) if isinstance(thing, str) else thing
+            if not unreadable:
+                demand_commands(history)
+            found.append(history)
+        except Wrong as e:
+            found.append(e)
+    return found
+
+
+def to_spread(paths):
+    """Paths as other processes can load them: what is on standard input is read here. With each, how large it is."""
+    things = [load(path) if path == "-" else path for path in paths]
+    return things, [file_size(thing) if isinstance(thing, str) else sum(map(len, thing.lines)) for thing in things]
+
+
+def file_size(path):
+    try:
+        return os.path.getsize(path)
+    except OSError:
+        return 0  # loading it will say why
+
+
+def build_for(things):
+    """Builds the lab before the work is spread, so that it is done once; not for files that are not there."""
+    if any(not isinstance(thing, str) or os.path.isfile(thing) for thing in things):
+        command("lab")
+
+
+def complain(error):
+    print("lab: %s" % error, file=sys.stderr, flush=True)
+
+
 def answers_of(history, run):
     """The answers to one history's commands."""
     return answers_to([[c.text for c in history.commands]], run)[0]
-
-
-def main(work):
-    """Runs a script's work; the exit status is what it hands back, and 2 after an error. Bytes of a history that are no text are written as they came."""
-    for stream in (sys.stdout, sys.stderr):
-        stream.reconfigure(encoding="utf-8", errors="surrogateescape")
-    try:
-        status = work()
-        sys.stdout.flush()
-    except Wrong as e:
-        print("lab: %s" % e, file=sys.stderr)
-        status = 2
-    except BrokenPipeError:
-        os.dup2(os.open(os.devnull, os.O_WRONLY), 1)  # whoever read it has seen enough
-        status = 1
-    sys.exit(status)

@@ -1,6 +1,6 @@
 """The gate's test of the bench around the lab (`./lab --check`, `--cover`, `--generate`, `--page`); it says nothing where all is well.
 
-  python3 -m bench.test        with kept answers: it needs no package and no program that is built by proving
+  python3 -m bench.test        with kept answers; the program is compiled for it, not proved (some seconds, once), and asked a few lines
   python3 -m bench.test keep   runs the lab on the small histories that are tried here, and keeps its answers in bench/test.kept
   python3 -m bench.test real   the same tests with the lab itself, and what needs too many answers to be kept: a thousand histories of each kind
 
@@ -10,13 +10,17 @@ the gate compares with what the program writes.
 import contextlib
 import hashlib
 import html.parser
+import io
 import json
 import os
 import re
+import select
 import subprocess
 import sys
 import tempfile
+import threading
 
+import bench.answers
 import bench.chart
 import bench.check
 import bench.cover
@@ -25,8 +29,11 @@ import bench.generate
 import bench.history
 import bench.log
 import bench.page
+import bench.spread
 import bench.trace
+import bench.why
 from bench.history import FORMS, ROOT, UNREADABLE, Wrong, parse, read
+from programs import refusals
 from tools import matrix
 
 KEPT = os.path.join(ROOT, "bench", "test.kept")
@@ -230,7 +237,11 @@ def commands_in_the_document():
 def try_language():
     """The table of commands is that of docs/HISTORIES.md, and reads what the lab reads."""
     same(sorted(commands_in_the_document() ^ (set(FORMS) | {("auto", "#")})), [], "commands of docs/HISTORIES.md alone, or of COMMANDS in bench/history.py alone")
-    for line, why in [("joincreate 1", "no command"), ("join_create", "join_create ID"), ("node 1 write 3", "node N write CHUNK SET VERSION"), (" try", "a space"), ("try ", "a space"),
+    with open(os.path.join(ROOT, "docs", "HISTORIES.md"), encoding="utf-8") as f:
+        same(refusals.table() in f.read(), True, "whether docs/HISTORIES.md has the table of refusals as programs/refusals.py has it: %s" % refusals.table())
+    same(sorted(refusals.ORDER), list(range(1, 20)), "the refusals of events")
+    for line, why in [("joincreate 1", "join_create ID"), ("join_create", "join_create ID"), ("link-down 1", "perhaps: link_down ID"), ("node 1 wirte 3 4 5", "perhaps: node N write CHUNK SET VERSION"), ("noed 1 fault", "node N"),
+                      ("Enable 1", "perhaps: enable ID"), ("sing 1", "no command"), ("try\t", "a tab"), ("\ufefftry", "a byte order mark"), ("node 1 write 3", "node N write CHUNK SET VERSION"), (" try", "a space"), ("try ", "a space"),
                       ("try\r", "carriage return"), ("write  1 2", "a space"), ("node 16 fault", "N is 0 to 15"), ("remove 1 2", "MODE is 0 to 1"), ("cut 0", "LEN is 1 to 1024"),
                       ("join_create 18446744073709551616", "ID is 0 to"), ("join_create ID", "no command"), ("join_create ²", "no command"), ("poke session 1 2 0 0 0 1", "REMOVING"),
                       ("row client 16", "M is 0 to 15"), ("# " * 0 + "write 1 " + "0" * 300, "longer than 255")]:
@@ -272,17 +283,22 @@ def try_fitting():
         same(bench.check.fits(expected, answer), fits, "whether %r fits %r" % (answer, expected))
 
 
-def checked(lab, *words):
-    said = []
-    status = bench.check.check(list(words), lab, said.append)
+def checked(lab, *words, wrong=None):
+    """The status of a check and what it says; what it says on standard error goes to `wrong`, and there should be nothing where that is left out."""
+    said, errors = [], []
+    status = bench.check.check(list(words), lab, said.append, errors.append)
+    same([str(e) for e in errors] if wrong is None else [], [], "what a check says on standard error")
+    if wrong is not None:
+        wrong += [str(e) for e in errors]
     return status, said
 
 
 def try_check(lab):
     with files(first=CHECKED, second="write 1 1\n> refused 11\npoke chunks 70000\n> unreadable\n", third=CHECKED.replace("refused 3", "refused 4"), fourth="# nothing\n") as paths:
-        before = lab.asked
-        status, said = checked(lab, *paths)
+        before, warned = lab.asked, []
+        status, said = checked(lab, *paths, wrong=warned)
         same((status, lab.asked - before), (1, 1), "the status of a check with a difference, by one run of the lab")
+        same(warned, ["%s: nothing is expected in it, so nothing was checked" % paths[3]], "what is said of a file with nothing in it")
         same(said, ["passed %s: 7 of 8 commands checked" % paths[0], "passed %s: 2 of 2 commands checked" % paths[1],
                     "differs %s:8: join_create 16" % paths[2], "    expected: refused 4", "    came:     refused 3", "passed %s: 0 of 0 commands checked" % paths[3],
                     "3 passed, 1 differ; 18 commands, 16 checked"], "what a check says")
@@ -314,8 +330,10 @@ def try_driver():
         status, said = checked(no_lab, "--with", program, *paths[1:])
         same((status, said[1:3], said[-1]), (1, ["differs %s:1: try" % paths[2], "    expected: ok .."], "1 passed, 1 differ; 3 commands, 3 checked"), "a check of another program")
         wrong("a program that is not there", ["/nowhere could not be run"], lambda: checked(no_lab, "--with", "/nowhere x", paths[1]))
-        wrong("a program that fails", ["could not be run"], lambda: checked(no_lab, "--with", "sh -c 'exit 3'", paths[1]))
-        wrong("a program that says too little", ["0 answers came to 3 commands"], lambda: checked(no_lab, "--with", "true", paths[1]))
+        for what, failing, word in [("fails", "sh -c 'exit 3'", "could not be run"), ("says too little", "true", "0 answers came to 3 commands")]:
+            errors = []
+            status, said = checked(no_lab, "--with", failing, paths[1], wrong=errors)
+            same((status, said, paths[1] in errors[0] and word in errors[0]), (2, ["0 passed, 0 differ, 1 could not be checked; 0 commands, 0 checked"], True), "a program that %s: %s" % (what, errors))
 
 
 def try_large_check():
@@ -338,8 +356,11 @@ def try_errors():
                                  ("numbers", "write 1\n> ok ..\n", 1, "write CHUNK REACHED")]:
         with files(**{name: text}) as paths:
             place = "%s:%d: " % (paths[0], at)
-            wrong(name, [place, word], lambda: bench.check.check(paths, no_lab))
-            wrong(name, [place, word], lambda: bench.cover.cover(paths, no_lab))
+            errors = []
+            same(checked(no_lab, *paths, wrong=errors)[0], 2, "the status of a check of %s" % name)
+            same((bench.cover.cover(paths, no_lab, no_lab, errors.append)), 2, "the status of a cover of %s" % name)
+            for error in errors:
+                same(place in str(error) and word in str(error), True, "%s: what is said of it: %s" % (name, error))
             if text.find(">") >= 0 and name != "numbers":
                 wrong(name, [place, word], lambda: bench.page.make(paths, no_lab))
     with files(empty="# nothing\n") as paths:
@@ -350,14 +371,152 @@ def try_errors():
                             (["--generate", "wide", "1"], "COUNT"), (["--check", "--sing", paths[0]], "--sing"), (["--page"], "FILE"), (["--cover"], "FILE"),
                             (["--check", "--update", "-"], "standard input"), (["--generate", "system", "1", "1", "--into", paths[0]], paths[0])]:
             done = subprocess.run([os.path.join(ROOT, "lab")] + words, stdin=subprocess.DEVNULL, stdout=subprocess.PIPE, stderr=subprocess.PIPE, universal_newlines=True)
-            same((done.returncode, done.stdout, part in done.stderr), (2, "", True), "./lab %s: %s" % (" ".join(words), done.stderr))
+            same((done.returncode, done.stdout if words[0] != "--check" else "", part in done.stderr), (2, "", True), "./lab %s: %s" % (" ".join(words), done.stderr))
     with files(bytes=b"try\n> ok\nno \xff command\n") as paths:
-        done = subprocess.run([os.path.join(ROOT, "lab"), "--check", paths[0]], stdin=subprocess.DEVNULL, stderr=subprocess.PIPE, env=dict(os.environ, LC_ALL="C", PYTHONUTF8="0"))
-        same((done.returncode, done.stderr), (2, b"lab: %s:3: no command: no \xff command\n" % paths[0].encode()), "an error about bytes that are no text")
+        done = subprocess.run([os.path.join(ROOT, "lab"), "--check", paths[0]], stdin=subprocess.DEVNULL, stdout=subprocess.DEVNULL, stderr=subprocess.PIPE, env=dict(os.environ, LC_ALL="C", PYTHONUTF8="0"))
+        same((done.returncode, b"lab: %s:3: no command: no \xff command\n" % paths[0].encode() in done.stderr), (2, True), "an error about bytes that are no text: %s" % done.stderr)
     for what in ("--check", "--cover", "--generate", "--page", ""):
         done = subprocess.run([os.path.join(ROOT, "lab")] + [what] * bool(what) + ["--help"], stdin=subprocess.DEVNULL, stdout=subprocess.PIPE, universal_newlines=True)
         same((done.returncode, "./lab " + what in done.stdout), (0, True), "./lab %s --help" % what)
     wrong("a lab that dies", ["3 answers came to 4 commands"], lambda: bench.history.answers_to([["try", "try", "try"]], lambda text: ["done"] * 3))
+
+
+# What is typed, and what comes through a pipe.
+
+# In the lab's place: it answers each line at once, as a program in a dialogue does, with the line itself.
+AT_ONCE = "import sys\nfor line in iter(sys.stdin.readline, ''):\n    if line[0] not in '#\\n':\n        print('unreadable' if line.startswith('no') else line.strip(), flush=True)\n"
+
+
+def answered(source):
+    """The next line that is answered, if it comes soon."""
+    came = ""
+    while not came.endswith("\n") and select.select([source], [], [], 20)[0]:
+        came += os.read(source, 100).decode()
+    return came
+
+
+def try_dialogue():
+    """What is typed is handed on before the next line is, and so is the answer; expected answers are handed on to nobody."""
+    (inside, typing), (answering, out), ended, slips = os.pipe(), os.pipe(), [], []
+    with put(bench.answers, say_slip=lambda *slip: slips.append(slip)):
+        work = threading.Thread(target=lambda: ended.append(bench.answers.answer_stream("here", inside, [sys.executable, "-c", AT_ONCE], out)), daemon=True)
+        work.start()
+        for line, answer in [("try\n", "try\n"), ("# a comment\n\nlook\n", "look\n"), ("> look\ntick\n", "tick\n"), ("no command\n", "unreadable\n"), ("> unreadable\nextend", "")]:
+            os.write(typing, line.encode())
+            same(answered(answering) if answer else "", answer, "what a dialogue answers to %r" % line)
+        os.close(typing)
+        same(answered(answering), "extend\n", "the answer to a last line that no newline ends")
+        work.join(20)
+    same((ended, slips in ([], [("here", 7, b"no command")])), ([0], True), "the status of a dialogue, and what is said of a line before it is known that it is not to be read: %s" % slips)
+
+
+SLIPS = "pool 0 64\n> done\nlink-down 1\n\n# a comment\ntry \n> ok ..\nlook\r\nnonsense\n> unreadable\njoin_create 16\n"
+SLIPPED = ["done", UNREADABLE, UNREADABLE, UNREADABLE, UNREADABLE, "refused 3"]
+
+
+def try_slips():
+    """Of each line that the lab can't read standard error says which, and why; from a file, from one on standard input and from a pipe. The lab itself is asked, compiled and not proved."""
+    with files(slips=SLIPS, good=SLIPS.replace("link-down 1", "try").replace("try ", "try").replace("\r", "")) as paths:
+        for way, name in [([paths[0]], paths[0]), (["-"], "standard input"), ([], "standard input")]:
+            with open(paths[0], "rb") as f:
+                done = subprocess.run([os.path.join(ROOT, "lab")] + way, stdout=subprocess.PIPE, stderr=subprocess.PIPE, **({"stdin": f} if way else {"input": SLIPS.encode()}))
+            same((done.returncode, done.stdout.decode().split("\n")[:-1]), (2, SLIPPED), "./lab %s with slips: %s" % (" ".join(way), done.stderr))
+            same([line for line in done.stderr.decode().split("\n")[:-1] if "not proved" not in line and "compiling" not in line],
+                 ["lab: %s:%s" % (name, said) for said in ("3: no command; meant is perhaps: link_down ID: link-down 1", "6: a space or another mark too many: try ", "8: the line ends with a carriage return: look\r")], "what is said of slips")
+        done = subprocess.run([os.path.join(ROOT, "lab"), paths[1]], stdout=subprocess.PIPE, stderr=subprocess.DEVNULL, universal_newlines=True)
+        same((done.returncode, done.stdout.split("\n")[-3:-1]), (0, [UNREADABLE, "refused 3"]), "./lab on a history where one line is not to be read")
+    same([(line, at) for at, line in bench.answers.slips_in(io.BytesIO(SLIPS.encode()), 0, [1, 2, 4])], [(b"link-down 1", 3), (b"try ", 6)], "slips in a file")
+    answers = bench.answers.Answers(os.open(os.devnull, os.O_WRONLY))
+    same([answers.hand_on(data) for data in (b"done\nunread", b"able\nunreadable", b" x\n\nunreadable\n")], [[], [1], [4]], "answers in pieces")
+
+
+def try_why():
+    said = []
+    same((bench.why.tell(["3"], said.append), said), (0, ["refused 3: an id above 15, or a bit above 15 in a set"]), "./lab --why 3")
+    bench.why.tell([], said.append)
+    same(len(said), 1 + len(refusals.REFUSALS), "./lab --why")
+    for words in (["0"], ["x"], ["22"], ["1", "2"]):
+        wrong("./lab --why", ["number"], lambda: bench.why.tell(words))
+
+
+# Many files.
+
+class Terminal(io.StringIO):
+    def isatty(self):
+        return True
+
+
+def try_spread():
+    """Work that is spread over processes comes back in order; progress is shown on a terminal, and nowhere else."""
+    same(bench.spread.cut("abcdef", [20000, 1, 1, 30000, 19999, 2], 2), [["a"], ["b", "c"], ["d"], ["e"], ["f"]], "runs of neighbours")
+    same([len(run) for run in bench.spread.cut(range(64), [100000] * 64, 2)], [4] * 16, "runs of large things")
+    here = os.getpid()
+    same(list(bench.spread.results(lambda run: [os.getpid() != here, sum(run)], [[1, 2], [3], [4, 5]], 2)), [[True, 3], [True, 3], [True, 9]], "work by other processes")
+    shown, hidden = Terminal(), io.StringIO()
+    for stream in (shown, hidden):
+        progress = bench.spread.Progress(5, "files", stream)
+        progress.add(1)
+        progress.began -= bench.spread.QUIET
+        progress.add(2)
+        progress.clear()
+    same((shown.getvalue(), hidden.getvalue()), ("\r\033[Klab: 3 of 5 files\r\033[K", ""), "progress")
+
+
+@contextlib.contextmanager
+def put(module, **values):
+    """Other values in a module, for a while."""
+    before = {name: getattr(module, name) for name in values}
+    for name, value in values.items():
+        setattr(module, name, value)
+    try:
+        yield
+    finally:
+        for name, value in before.items():
+            setattr(module, name, value)
+
+
+def echo(text):
+    return ["done" if line.startswith("pool") else "refused %d" % len(line) for line in text.split("\n")[:-1]]
+
+
+def try_many():
+    """Forty files over two processes, some of them bad: these are told of, the others are checked and counted, as by one process."""
+    texts = {"f%02d" % k: "pool 0 64\n> done\ntry\n> refused %d\n" % (3 if k != 7 else 4) for k in range(40)}
+    texts.update(f11="tyr\n", f13="> done\n", f17="try\n")
+    with files(**texts) as paths, put(bench.spread, LEAST=1, cores=lambda: 2), put(bench.check, run_lab=echo, build_for=len):
+        found = []
+        for lab in (None, echo):
+            errors = []
+            status, said = checked(lab, *paths, paths[0] + "x", wrong=errors)
+            found.append((status, said, errors))
+        same(found[0], found[1], "a check by two processes")
+        same((status, len(said), said[7:9], said[-1]), (2, 41, ["differs %s:3: try" % paths[7], "    expected: refused 4"], "37 passed, 1 differ, 3 could not be checked; 75 commands, 74 checked"), "a check of many files")
+        same([e.split(": ", 1) for e in errors], [[paths[11] + ":1", "no command; meant is perhaps: try: tyr"], [paths[13] + ":1", "an expected answer stands right after its command: > done"],
+                                                  [paths[17], "nothing is expected in it, so nothing was checked"], [paths[0] + "x", "No such file or directory"]], "what is said of bad files")
+    failing = []
+
+    def fails_at_one(text):
+        failing.append(text)
+        return echo(text)[:-1] if "tick" in text else echo(text)
+
+    with files(a="try\n> refused 3\n", b="tick\n> refused 4\n", c="try\n> refused 3\n") as paths:
+        errors = []
+        same(checked(fails_at_one, *paths, wrong=errors), (2, ["passed %s: 1 of 1 commands checked" % paths[0], "passed %s: 1 of 1 commands checked" % paths[2], "2 passed, 0 differ, 1 could not be checked; 2 commands, 2 checked"]),
+             "a program that fails at one file")
+        same(errors, ["%s: 1 answers came to 2 commands" % paths[1]], "what is said of it")
+    counted = []
+    with files(a="try\n", b="tyr\n", c="write 1 1\n") as paths, put(bench.spread, LEAST=1, cores=lambda: 2), put(bench.cover, run_lab=lambda text: ["refused 9" if w[0] in ("try", "write") else "look" if w[0] == "look" else "done" for w in map(str.split, text.split("\n")[:-1])], build_for=len):
+        for lab in (None, bench.cover.run_lab):
+            said, errors = [], []
+            status = bench.cover.cover(paths, lab, said.append, errors.append)
+            counted.append((status, said, [str(e) for e in errors]))
+    same(counted[0], counted[1], "a cover by two processes")
+    same((counted[0][0], "Files: 2. Histories: 2. Commands: 2;" in counted[0][1][0], counted[0][2]), (2, True, ["%s:1: no command; meant is perhaps: try: tyr" % paths[1]]), "a cover with a bad file")
+    with put(bench.spread, LEAST=1, cores=lambda: 2), put(bench.generate, run_lab=echo, command=len):
+        said, alone = [], []
+        bench.generate.generate(["system", "3", "9", "--expect"], None, said.append)
+        bench.generate.generate(["system", "3", "9", "--expect"], echo, alone.append)
+        same(said, alone, "histories with answers by two processes")
 
 
 # trace
@@ -561,7 +720,7 @@ def try_cover(lab):
     with files(lost=example("leg-lost"), hidden=HIDDEN, poked=POKED, sync=SYNC) as paths:
         text = covered(lab, "--unreadable", *paths)
         for line in ["Files: 4. Histories: 5. Commands: 88; client events: 42; node events: 46, of them messages that auto and deliver handed over: 25.", "Unreadable: 1.",
-                     "| 2 | 2 | - | a lent map has another length, or a bit past the chunk count |", "| 3 | 1 | - | an id above 15 |", "| 16 | - | 3 | a part that can't be taken or given |",
+                     "| 2 | 2 | - | a map, staging map or dump is not 8,192 bytes, or has a bit set past the chunk count |", "| 3 | 1 | - | an id above 15, or a bit above 15 in a set |",
                      "## Client, sync pool", "**an id above 15** (no row of docs/MATRIX.md)", "**FAILED in maintenance, marked** (no row of docs/MATRIX.md)",
                      "- Client, sync pool, 26: a sync pool takes no write, so none fails by one"]:
             same(line in text, True, "%r in what a cover says" % line)
@@ -590,7 +749,7 @@ def try_questions(lab):
     for line in ["| map check | 1 | - |", "| map check, its own row empty | 1 | - |", "| next dirty chunk | 3 | - |", "| next dirty chunk, none | 1 | 3: 1 |", "| next dirty chunk, a start past the last | - | 4: 1 |",
                  "| next dirty chunk, the root's bit clear | - | 18: 1 |", "| write | 2 | - |", "| write, the root's bit clear | - | 18: 1 |", "| fault | - | 18: 1 |"]:
         same(line in part.split("\n"), True, "%r among what a NORMAL node met: %s" % (line, part))
-    same("| 18 | - | 3 | the summary disagrees with its row |" in text, True, "the count of 18")
+    same("| 18 | - | 3 | a node's summary disagrees with its map |" in text, True, "the count of 18")
 
 
 # chart and log
@@ -848,7 +1007,7 @@ def main():
     lab = Lab(mode)
     for test in (try_language, try_reading, try_fitting, try_driver, try_large_check, try_errors, try_messages, try_disagreement, try_ticks, try_columns, try_by_poke, try_writes):
         test()
-    for test in (try_chance, try_generate, try_turns, try_expect, try_log):
+    for test in (try_chance, try_generate, try_turns, try_expect, try_log, try_dialogue, try_slips, try_why, try_spread, try_many):
         test()
     try_cells(mode)
     for test in (try_check, try_update, try_trace, try_cover, try_questions, try_chart, try_guide, try_page, try_page_of_pokes):

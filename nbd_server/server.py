@@ -9,6 +9,7 @@ Clients are taken from this machine alone, by a Unix socket or at 127.0.0.1 (por
 import argparse
 import bisect
 import contextlib
+import errno
 import itertools
 import os
 import signal
@@ -312,17 +313,26 @@ class Client:
         return struct.pack(">IIQ", SIMPLE_REPLY, no.number, cookie)
 
 
+def bind(sock, address, words, taken):
+    """Binds a socket; what is wrong is said with the address, and of one that is in use what may be done."""
+    try:
+        sock.bind(address)
+    except (OSError, OverflowError) as e:
+        in_use = isinstance(e, OSError) and e.errno == errno.EADDRINUSE
+        raise ValueError("%s: %s%s" % (words, e.strerror if in_use else e, " (%s)" % taken if in_use else "")) from None
+
+
 @contextlib.contextmanager
 def listening(path, port):
     """A listening socket with its URI: at the path where there is one, else at the port. The socket's file goes when it is over."""
     with socket.socket(socket.AF_INET if path is None else socket.AF_UNIX) as sock:
         if path is None:
             sock.setsockopt(socket.SOL_SOCKET, socket.SO_REUSEADDR, 1)
-            sock.bind(("127.0.0.1", port))
+            bind(sock, ("127.0.0.1", port), "127.0.0.1:%d" % port, "--port takes another, 0 a free one")
             sock.listen()
             yield sock, "nbd://127.0.0.1:%d" % sock.getsockname()[1]
             return
-        sock.bind(path)  # fails where something is there already, and leaves it
+        bind(sock, path, path, "another server's, or left by one that was killed: remove it, or take another path")  # fails where something is there already, and leaves it
         try:
             sock.listen()
             yield sock, "nbd+unix:///?socket=" + urllib.parse.quote(os.fsencode(os.path.abspath(path)))
@@ -347,7 +357,7 @@ def read_status(status, words):
     """What the program `status` writes for the words. Its refusal is its own line on standard error, and this program's end."""
     done = subprocess.run(status + words, stdin=subprocess.DEVNULL, stdout=subprocess.PIPE, check=False)
     if done.returncode:
-        sys.exit(1)
+        sys.exit(2)
     return done.stdout
 
 
@@ -389,4 +399,5 @@ def main(words, status=STATUS):
             print("ready %s size=%d context=qemu:dirty-bitmap:member-%d (the data reads as zeros)" % (uri, volume.size, given.member), flush=True)
             serve(sock, volume)
     except (OSError, OverflowError, ValueError) as wrong:
-        sys.exit("nbd: %s" % wrong)
+        print("nbd: %s" % wrong, file=sys.stderr)
+        sys.exit(2)

@@ -3,7 +3,7 @@
   python3 -m nbd_server.test
 
 It needs no package and no program that is built by proving: a server here gets its descriptors from files, not from `./status`. They are those that the gate itself compares with what
-the proved programs write and take (crates/status/stdout, crates/statusread/stdin), and some written by hand. What a client must be told is found from the row's bits, not from the descriptors.
+the programs write and take (crates/status/stdout, programs/cases/statusread/stdin), and some written by hand. What a client must be told is found from the row's bits, not from the descriptors.
 """
 import contextlib
 import os
@@ -186,7 +186,7 @@ def context_data(name, *queries):
 # What a client must be told.
 
 def file(*path):
-    with open(os.path.join(ROOT, "crates", *path), "rb") as f:
+    with open(os.path.join(ROOT, *path), "rb") as f:
         return f.read()
 
 
@@ -221,11 +221,11 @@ def packed(*descriptors):
 
 def volumes():
     """The volumes that are tried: words, descriptors, member, chunks, chunk size, dirty chunks."""
-    member, chunks, size = (int(w) for w in file("status", "args").split()[1:])
-    row = file("status", "data", "map")[512 * member:512 * member + 512]
-    yield "what status wrote", file("status", "stdout"), member, chunks, size, dirty_chunks(row)
-    chunks, size = (int(w) for w in file("statusread", "args").split()[1:])
-    yield "what statusread takes", file("statusread", "stdin"), 0, chunks, size, dirty_chunks(file("statusread", "stdout"))
+    member, chunks, size = (int(w) for w in file("crates", "status", "args").split()[1:])
+    row = file("crates", "status", "data", "map")[512 * member:512 * member + 512]
+    yield "what status wrote", file("crates", "status", "stdout"), member, chunks, size, dirty_chunks(row)
+    chunks, size = (int(w) for w in file("programs", "cases", "statusread", "args").split()[1:])
+    yield "what statusread takes", file("programs", "cases", "statusread", "stdin"), 0, chunks, size, dirty_chunks(file("programs", "cases", "statusread", "stdout"))
     yield "a full row, cut", packed((4095 * MIB, 1), (MIB, 1)), 15, 4096, MIB, set(range(4096))
     yield "an empty row, cut", packed((4095 * MIB, 0), (MIB, 0)), 3, 4096, MIB, set()
     yield "last chunk only", packed((100 * 4096, 0), (4096, 1)), 3, 101, 4096, {100}
@@ -492,15 +492,15 @@ def try_starts():
         ("too few words", chunk, good[:3], b"usage: nbd "),
         ("a member that is no number", chunk, ["map", "x"] + good[2:], b"usage: nbd "),
         ("two places", chunk, good + ["--port", "0"], b"usage: nbd "),
-        ("a port that there is not", chunk, good[:4] + ["--port", "65536"], b"nbd: "),
-        ("a path that is too long", chunk, good[:5] + ["s" * 200], b"nbd: "),
-        ("a path that is there already", chunk, good[:5] + ["taken"], b"nbd: "),
+        ("a port that there is not", chunk, good[:4] + ["--port", "65536"], b"nbd: 127.0.0.1:65536: "),
+        ("a path that is too long", chunk, good[:5] + ["s" * 200], b"nbd: sssss"),
+        ("a path that is there already", chunk, good[:5] + ["taken"], b"nbd: taken: Address already in use (another server's, or left by one that was killed: remove it, or take another path)\n"),
     ]:
         with open("taken", "wb"):
             pass
         with started(status, words) as process:
             out, err = process.communicate(timeout=PATIENCE)
-        same((process.returncode > 0, out), (True, b""), what)
+        same((process.returncode, out), (2, b""), what)
         same(err if said.endswith(b"\n") else err[:len(said)], said, "words after " + what)
         same((b"Traceback" in err, os.path.exists("s"), os.path.exists("taken")), (False, False, True), "files after " + what)
     usage = subprocess.run([os.path.join(ROOT, "nbd")], stdout=subprocess.PIPE, stderr=subprocess.PIPE, check=False)

@@ -11,19 +11,11 @@ import os
 import re
 import sys
 
+from tools.check_times import seconds
+
 MOST_SECONDS = 20
 HEADER = re.compile(r"^[ \t]*(?:pub )?(?:extern \"C\" )?fn (\w+)", re.M)
 ENSURES = re.compile(r"ensures \{ λ (\w+)\. ⌜ (.*) ⌝ \}")
-
-
-def seconds():
-    """Each crate's check, by the last whole run."""
-    times = {}
-    for line in open("docs/CHECK-TIMES.md", encoding="utf-8"):
-        row = re.match(r"\| (\w+) \| (\d+) \| \d+ \| \d+ \| \d+ \| \d+ \|", line)
-        if row:
-            times[row.group(1)] = int(row.group(2))
-    return times
 
 
 def is_equation(name, fact):

@@ -13,10 +13,9 @@ How a history is read: a node's line that equals what the client's last event te
 import glob
 import os
 import shlex
-import subprocess
 import sys
 
-from bench.history import chunks, fields, load, sent
+from bench.history import asking, chunks, fields, load, run_lab, sent
 
 ROOT = os.path.dirname(os.path.dirname(os.path.abspath(__file__)))
 CLAUSES = ("follows", "assembles", "brings", "marks", "stores", "by-hand", "not-else", "own", "once", "broken", "deletes", "answers", "new", "fills", "free", "starts-pool", "starts-node")
@@ -28,9 +27,8 @@ FRESH = "0 0 0 0 0 0".split()
 
 
 def play(lines):
-    words = shlex.split(os.environ.get("LAB", os.path.join(ROOT, "lab")))
-    done = subprocess.run(words, input="\n".join(lines) + "\n", capture_output=True, text=True, check=True)
-    answers = done.stdout.splitlines()
+    run = asking(shlex.split(os.environ["LAB"])) if "LAB" in os.environ else run_lab
+    answers = run("\n".join(lines) + "\n")
     if len(answers) != len(lines):
         sys.exit("premises: %d lines, %d answers" % (len(lines), len(answers)))
     return answers
