@@ -13,7 +13,7 @@ import tempfile
 import threading
 
 from bench.history import UNREADABLE, Wrong, read
-from programs.build import command
+from programs.build import command, standard_input
 
 PIECE = 65536
 EXPECTED, COMMENT = b">", b"#"
@@ -182,7 +182,7 @@ def answer(words, program=None, out=1):
         raise Wrong("one FILE at a time (./lab --help says what there is)")
     path = words[0] if words else "-"
     try:
-        file = sys.stdin.buffer if path == "-" else open(path, "rb")
+        file = standard_input() if path == "-" else open(path, "rb")
     except OSError as e:
         raise Wrong("%s can't be read: %s" % (path, e.strerror)) from None
     with file:

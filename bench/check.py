@@ -15,7 +15,7 @@ import shlex
 import shutil
 from typing import NamedTuple
 
-from bench.history import Wrong, asked, asking, build_for, complain, loaded, run_lab, store, to_spread
+from bench.history import Wrong, asked, asking, build_for, complain, loaded, run_lab, store, to_spread, whole
 from bench.spread import spread
 
 OPEN = ".."
@@ -143,6 +143,7 @@ def arguments(words):
     parser.add_argument("files", metavar="FILE", nargs="+", help="a history; `-` is standard input")
     parser.add_argument("-q", "--quiet", action="store_true", help="say nothing of files that passed")
     parser.add_argument("--with", metavar="PROGRAM", dest="program", help="ask this program, and its words, instead of the lab: one that reads commands from standard input and writes a line for each")
+    parser.add_argument("--jobs", metavar="N", type=whole, help="how many runs of the program at a time; where it is left out, as many as there are processors, and with --with one")
     change = parser.add_mutually_exclusive_group()
     change.add_argument("--update", action="store_true", help="rewrite the expected answers that do not fit to what the lab answers; nothing is checked")
     change.add_argument("--expect", action="store_true", help="the same, and write one after every command that has none")
@@ -167,7 +168,7 @@ def check(words, run=None, out=print, wrong=complain):
     if spreading and not given.program:
         build_for(things)
     found = []
-    for some in spread(lambda run_of: outcomes(run_of, run, given), things, sizes, "files") if spreading else [outcomes(things, run, given)]:
+    for some in spread(lambda run_of: outcomes(run_of, run, given), things, sizes, "files", given.jobs or (1 if given.program else None)) if spreading else [outcomes(things, run, given)]:
         for outcome in some:
             found.append(outcome._replace(said=[], wrong=[]))
             for line in outcome.said if outcome.status or not given.quiet else []:

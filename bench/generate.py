@@ -16,7 +16,7 @@ import sys
 from bench.check import rewritten
 from bench.cover import CLIENT_TABLES, FIRST, NODE_TABLE, NOT_EMPTY, SECOND, SESSION_ROWS, only_by_poke
 from bench.driver import DELETE, DISASSEMBLE, NORMAL, Chance, Driver, set_of
-from bench.history import CLIENT, DELIVER, FORMS, NODE, Wrong, answers_to, is_number, parse, read, run_lab, store
+from bench.history import CLIENT, DELIVER, FORMS, NODE, Wrong, answers_to, parse, read, run_lab, store, whole
 from bench.spread import spread
 from programs.build import command
 from tools import matrix
@@ -385,12 +385,6 @@ def arguments(words):
     parser.add_argument("--expect", action="store_true", help="write the lab's answers in, as `>` lines (for ./lab --check)")
     parser.add_argument("--into", metavar="DIR", help="a file for each, KIND-SEED-K.history in that folder, instead of all on standard output")
     return parser.parse_args(words)
-
-
-def whole(word):
-    if not is_number(word):
-        raise argparse.ArgumentTypeError("%s is no whole number" % word)
-    return int(word)
 
 
 def with_answers(made, run):

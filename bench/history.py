@@ -2,6 +2,7 @@
 
 A history is one command a line (docs/HISTORIES.md). A line `> ANSWER` right after a command is the answer that is expected of it; it is never handed to the program.
 """
+import argparse
 import difflib
 import functools
 import os
@@ -9,7 +10,7 @@ import subprocess
 import sys
 from typing import NamedTuple, Optional
 
-from programs.build import ROOT, Wrong, command
+from programs.build import ROOT, Wrong, command, standard_input
 
 FRESH = "pool 0 4096"  # as the lab is before the first `pool` line
 UNREADABLE = "unreadable"
@@ -219,7 +220,7 @@ def load(path):
     """The history in a file; `-` is standard input. Bytes that are no text are kept as they are."""
     try:
         if path == "-":
-            data = sys.stdin.buffer.read()
+            data = standard_input().read()
         else:
             with open(path, "rb") as f:
                 data = f.read()
@@ -313,6 +314,12 @@ def build_for(things):
     """Builds the lab before the work is spread, so that it is done once; not for files that are not there."""
     if any(not isinstance(thing, str) or os.path.isfile(thing) for thing in things):
         command("lab")
+
+
+def whole(word):
+    if not is_number(word):
+        raise argparse.ArgumentTypeError("%s is no whole number" % word)
+    return int(word)
 
 
 def complain(error):

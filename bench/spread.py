@@ -44,9 +44,9 @@ def cut(things, weights, workers):
     return runs
 
 
-def spread(work, things, weights, what):
-    """What `work` makes of each run of neighbours, with the run, in their order. It is handed a list, and hands back what can be sent from process to process."""
-    workers = cores()
+def spread(work, things, weights, what, workers=None):
+    """What `work` makes of each run of neighbours, in their order. It is handed a list, and hands back what can be sent from process to process. Workers: how many at a time, else one for each processor."""
+    workers = workers or cores()
     runs = cut(things, weights, workers)
     progress = Progress(len(things), what)
     try:

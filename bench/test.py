@@ -33,7 +33,7 @@ import bench.spread
 import bench.trace
 import bench.why
 from bench.history import FORMS, ROOT, UNREADABLE, Wrong, parse, read
-from programs import refusals
+from programs import build, refusals
 from tools import matrix
 
 KEPT = os.path.join(ROOT, "bench", "test.kept")
@@ -1013,6 +1013,7 @@ def main():
     for test in (try_check, try_update, try_trace, try_cover, try_questions, try_chart, try_guide, try_page, try_page_of_pokes):
         test(lab)
     if mode == "keep":
+        same(build.is_proved("lab", build.sources_changed(["lab"])), True, "whether the lab is proved, whose answers are to be kept (./lab --prove)")
         lab.keep()
     if mode == "real":
         try_expected_lines()

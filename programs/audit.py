@@ -14,7 +14,7 @@ import subprocess
 import sys
 import tempfile
 
-from programs.build import Wrong, command
+from programs.build import Wrong, command, standard_input
 
 FIELDS = 8
 LAST_KIND = 15
@@ -55,7 +55,7 @@ def reason(number, line):
 def opened(path):
     """The log as a file that can be read twice: a pipe is read to its end first."""
     try:
-        log = sys.stdin.buffer if path == "-" else open(path, "rb")
+        log = standard_input() if path == "-" else open(path, "rb")
         if not stat.S_ISREG(os.fstat(log.fileno()).st_mode):
             kept = tempfile.TemporaryFile()
             shutil.copyfileobj(log, kept)

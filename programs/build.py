@@ -25,6 +25,13 @@ class Wrong(Exception):
     """What a person typed or wrote that can't be worked with, or what is not here: said in one line, with exit status 2."""
 
 
+def standard_input():
+    """Standard input as bytes; whoever started the program may have closed it."""
+    if sys.stdin is None:
+        raise Wrong("standard input is closed")
+    return sys.stdin.buffer
+
+
 def say(name, words):
     print("%s: %s" % (name, words), file=sys.stderr, flush=True)
 

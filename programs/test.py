@@ -125,8 +125,11 @@ check)
 	for crate; do echo "rt: $crate proved (1 s)"; done
 	[ -z "${FAILS-}" ] || { echo 'rt: some words'; exit 1; }
 	mkdir -p target/bin target/stamp
-	[ -e target/bin/$crate ] || cp target/quick/$crate target/bin/$crate
+	[ -e target/bin/$crate ] || cp target/quick/$crate target/bin/$crate || : # a library
 	: >target/stamp/$crate ;;
+staticlib)
+	mkdir -p target/staticlib
+	echo "$2" >target/staticlib/lib$2.a ;;
 *) exec %s "$@" ;;
 esac
 """
@@ -177,6 +180,12 @@ def try_built(name="compare"):
         same((run("--prove")[0], run()), (0, (0, "same\n", "")), "a proof of what rt finds unchanged, and a run after it")
         os.remove(os.path.join(copy, "target", "stamp", name))
         same(NOT_PROVED % name in run()[2], True, "whether a program that rt did not pass is not taken for proved")
+        for what, archives in (("the first time", 2), ("again", 0), ("after an edit", 2)):
+            if what == "after an edit":
+                edit()
+            done = subprocess.run([os.path.join(copy, "library")], stdout=subprocess.PIPE, stderr=subprocess.PIPE, universal_newlines=True, env=other)
+            same((done.returncode, done.stdout, done.stderr.count("library: archive ")), (0, os.path.join(copy, "target", "library") + "\n", archives), "./library %s: %s" % (what, done.stderr))
+        same(sorted(os.listdir(os.path.join(copy, "target", "library"))), ["libmunzolkheg_client.a", "libmunzolkheg_node.a", "lines.h", "munzolkheg.h"], "the library")
         os.chmod(os.path.join(folder, "bin", "rt"), stat.S_IRUSR)
         done = subprocess.run([sys.executable, "-B", os.path.join(copy, "programs"), name, f.name, f.name], stdout=subprocess.PIPE, stderr=subprocess.PIPE, universal_newlines=True, env=dict(other, PATH=os.path.join(folder, "bin")))
         same((done.returncode, done.stdout, "the Rattle kit is not here" in done.stderr), (2, "", True), "a run without rt: %s" % done.stderr)
