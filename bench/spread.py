@@ -6,7 +6,7 @@ import time
 
 from programs.build import cores
 
-LEAST = 20000      # bytes of histories that are worth a run of the program of their own
+LEAST = 50000      # bytes of histories that are worth a run of the program of their own
 QUIET = 1          # seconds before progress is shown
 
 

@@ -448,7 +448,7 @@ class Terminal(io.StringIO):
 
 def try_spread():
     """Work that is spread over processes comes back in order; progress is shown on a terminal, and nowhere else."""
-    same(bench.spread.cut("abcdef", [20000, 1, 1, 30000, 19999, 2], 2), [["a"], ["b", "c"], ["d"], ["e"], ["f"]], "runs of neighbours")
+    same(bench.spread.cut("abcdef", [50000, 1, 1, 60000, 49999, 2], 2), [["a"], ["b", "c"], ["d"], ["e"], ["f"]], "runs of neighbours")
     same([len(run) for run in bench.spread.cut(range(64), [100000] * 64, 2)], [4] * 16, "runs of large things")
     here = os.getpid()
     same(list(bench.spread.results(lambda run: [os.getpid() != here, sum(run)], [[1, 2], [3], [4, 5]], 2)), [[True, 3], [True, 3], [True, 9]], "work by other processes")

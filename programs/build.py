@@ -12,7 +12,6 @@ import stat
 import subprocess
 import sys
 import tempfile
-import time
 
 from tools.check_times import seconds
 from tools.crates import ROOT, graph, made_of, under
@@ -87,9 +86,9 @@ def is_new(path, changed):
     return os.path.exists(path) and os.stat(path).st_mtime_ns >= changed
 
 
-def built_at(path, began):
-    """What was built is as new as the sources were when it was begun."""
-    os.utime(path, ns=(began, began))
+def built_from(path, changed):
+    """What was built is as new as its sources were when it was begun, whatever has been edited since, and whatever clock they have their times from."""
+    os.utime(path, ns=(changed, changed))
 
 
 # Compiled.
@@ -139,9 +138,8 @@ def compiler_words(name, mine):
     return words
 
 
-def compile_quickly(name):
+def compile_quickly(name, changed):
     """Compiles a program as `rt try` does, with no proof, and keeps it as target/quick/NAME."""
-    began = time.time_ns()
     with tempfile.TemporaryDirectory(dir=QUICK, prefix=name + ".") as mine:
         toolchain(mine)
         done = subprocess.run(compiler_words(name, mine), cwd=mine, stdin=subprocess.DEVNULL, stdout=subprocess.PIPE, stderr=subprocess.STDOUT, universal_newlines=True, errors="replace")
@@ -150,7 +148,7 @@ def compile_quickly(name):
             sys.stderr.write("".join(line + "\n" for line in done.stdout.split("\n")[-20:] if line))
             raise Wrong("the program could not be compiled")
         os.chmod(made, 0o755)
-        built_at(made, began)
+        built_from(made, changed)
         os.replace(made, os.path.join(QUICK, name))
 
 
@@ -162,7 +160,7 @@ def compiled(name, changed):
         fcntl.flock(lock, fcntl.LOCK_EX)
         if not is_new(path, changed):
             say(name, "compiling the program: some seconds, once")
-            compile_quickly(name)
+            compile_quickly(name, changed)
     return path
 
 
@@ -212,10 +210,10 @@ def is_proved(name, changed):
 
 def prove_program(name):
     """What `./NAME --prove` does; the exit status."""
-    began = time.time_ns()
+    changed = sources_changed([name])
     if not prove(name, [name]):
         return 1
-    built_at(proved_program(name), began)  # rt leaves an unchanged program as it is, however new its sources look
+    built_from(proved_program(name), changed)  # rt leaves an unchanged program as it is, however new its sources look
     say(name, "proved: target/bin/%s is used from now on" % name)
     return 0
 

@@ -8,9 +8,8 @@ import os
 import shutil
 import subprocess
 import sys
-import time
 
-from programs.build import ROOT, TARGET, Wrong, built_at, is_new, prove, say, sources_changed
+from programs.build import ROOT, TARGET, Wrong, built_from, is_new, prove, say, sources_changed
 
 THERE = os.path.join(TARGET, "library")
 HEADERS = ("munzolkheg.h", "lines.h")
@@ -35,14 +34,14 @@ def archive(side, crate):
 
 def build(sides):
     """Whether these archives were proved and made."""
-    began = time.time_ns()
+    changed = sources_changed([SIDES[side] for side in sides])
     if not prove("library", [SIDES[side] for side in sides]):
         return False
     for k, side in enumerate(sides, 1):
         say("library", "archive %d of %d: %s" % (k, len(sides), side))
         if not archive(side, SIDES[side]):
             return False
-        built_at(path_of(side), began)
+        built_from(path_of(side), changed)
     return True
 
 

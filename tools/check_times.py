@@ -22,8 +22,8 @@ REMARK = (
     "Other checks ran beside its first half hour. `stillempty` came after it: 7 s, and four edits of 8 to 10 s each; `mapchecks` was checked again with it, 5 s."
 )
 
-# Measured apart, by the time of `./lab` in a fresh copy.
-FIRST_ANSWER = "The first answer of `./lab`, from nothing and alone on two cores: 10 minutes and 47 seconds, C-11 and C-24 in; 11 minutes and 36 seconds when vectors and matrix were two programs."
+# Measured apart, by the time of `./lab --prove` in a fresh copy.
+FIRST_ANSWER = "The first answer of a proved `./lab`, from nothing and alone on two cores: 10 minutes and 47 seconds, C-11 and C-24 in; 11 minutes and 36 seconds when vectors and matrix were two programs."
 
 
 PAGE = os.path.join(ROOT, "docs", "CHECK-TIMES.md")
