@@ -3,6 +3,7 @@
   python3 -m bench.test        with kept answers; the program is compiled for it, not proved (some seconds, once), and asked a few lines
   python3 -m bench.test keep   runs the lab on the small histories that are tried here, and keeps its answers in bench/test.kept
   python3 -m bench.test real   the same tests with the lab itself, and what needs too many answers to be kept: a thousand histories of each kind
+  python3 -m bench.test dialogue   a dialogue with the lab itself, line by line over a pipe
 
 The kept answers are the proved program's, of small histories with the looks that the scripts put between their commands. The large ones are crates/lab/stdin and crates/lab/stdout, which
 the gate compares with what the program writes.
@@ -383,8 +384,13 @@ def try_errors():
 
 # What is typed, and what comes through a pipe.
 
-# In the lab's place: it answers each line at once, as a program in a dialogue does, with the line itself.
-AT_ONCE = "import sys\nfor line in iter(sys.stdin.readline, ''):\n    if line[0] not in '#\\n':\n        print('unreadable' if line.startswith('no') else line.strip(), flush=True)\n"
+# In the lab's place: it answers each line before it reads the next.
+AT_ONCE = """import sys
+for line in iter(sys.stdin.readline, ""):
+    if line[0] not in "#\\n":
+        print({"pool 0 64": "done", "join_create 16": "refused 3", "deliver": "idle"}.get(line.strip(), "unreadable"), flush=True)
+"""
+DIALOGUE = [("pool 0 64\n", "done\n"), ("# a comment\n\njoin_create 16\n", "refused 3\n"), ("> refused 3\ndeliver\n", "idle\n"), ("no command\n", "unreadable\n"), ("> unreadable\ndeliver", "")]
 
 
 def answered(source):
@@ -395,17 +401,17 @@ def answered(source):
     return came
 
 
-def try_dialogue():
-    """What is typed is handed on before the next line is, and so is the answer; expected answers are handed on to nobody."""
+def try_dialogue(program):
+    """What is typed is answered before the next line is; expected answers are handed on to nobody."""
     (inside, typing), (answering, out), ended, slips = os.pipe(), os.pipe(), [], []
     with put(bench.answers, say_slip=lambda *slip: slips.append(slip)):
-        work = threading.Thread(target=lambda: ended.append(bench.answers.answer_stream("here", inside, [sys.executable, "-c", AT_ONCE], out)), daemon=True)
+        work = threading.Thread(target=lambda: ended.append(bench.answers.answer_stream("here", inside, program, out)), daemon=True)
         work.start()
-        for line, answer in [("try\n", "try\n"), ("# a comment\n\nlook\n", "look\n"), ("> look\ntick\n", "tick\n"), ("no command\n", "unreadable\n"), ("> unreadable\nextend", "")]:
+        for line, answer in DIALOGUE:
             os.write(typing, line.encode())
             same(answered(answering) if answer else "", answer, "what a dialogue answers to %r" % line)
         os.close(typing)
-        same(answered(answering), "extend\n", "the answer to a last line that no newline ends")
+        same(answered(answering), "idle\n", "the answer to a last line that no newline ends")
         work.join(20)
     same((ended, slips in ([], [("here", 7, b"no command")])), ([0], True), "the status of a dialogue, and what is said of a line before it is known that it is not to be read: %s" % slips)
 
@@ -1002,13 +1008,16 @@ def written_out(step):
 
 def main():
     mode = sys.argv[1] if len(sys.argv) == 2 else "kept" if len(sys.argv) == 1 else ""
-    if mode not in ("kept", "keep", "real"):
+    if mode not in ("kept", "keep", "real", "dialogue"):
         sys.exit(__doc__)
+    if mode == "dialogue":
+        return try_dialogue(build.command("lab"))
     lab = Lab(mode)
     for test in (try_language, try_reading, try_fitting, try_driver, try_large_check, try_errors, try_messages, try_disagreement, try_ticks, try_columns, try_by_poke, try_writes):
         test()
-    for test in (try_chance, try_generate, try_turns, try_expect, try_log, try_dialogue, try_slips, try_why, try_spread, try_many):
+    for test in (try_chance, try_generate, try_turns, try_expect, try_log, try_slips, try_why, try_spread, try_many):
         test()
+    try_dialogue([sys.executable, "-c", AT_ONCE])
     try_cells(mode)
     for test in (try_check, try_update, try_trace, try_cover, try_questions, try_chart, try_guide, try_page, try_page_of_pokes):
         test(lab)
