@@ -157,25 +157,28 @@ def arguments(words):
     return given
 
 
-def check(words, run=None, out=print, wrong=complain):
-    """With a function of its own that runs the program, all by one run of it; else spread over the processors."""
-    given = arguments(words)
-    if given.program:
-        run, spreading = asking(shlex.split(given.program)), True
-    else:
-        run, spreading = run or run_lab, run is None
+def parts(given, run):
+    """What becomes of the files, some at a time. With a function that runs the program, which tests hand over, all at once; else spread over processes."""
     things, sizes = to_spread(given.files)
-    if spreading and not given.program:
-        build_for(things)
-    found = []
-    for some in spread(lambda run_of: outcomes(run_of, run, given), things, sizes, "files", given.jobs or (1 if given.program else None)) if spreading else [outcomes(things, run, given)]:
-        for outcome in some:
-            found.append(outcome._replace(said=[], wrong=[]))
-            for line in outcome.said if outcome.status or not given.quiet else []:
-                out(line)
-            for line in outcome.wrong:
-                wrong(line)
-    if not (given.update or given.expect):
+    if given.program:
+        program = asking(shlex.split(given.program))
+        return spread(lambda some: outcomes(some, program, given), things, sizes, "files", given.jobs or 1)
+    if run is not None:
+        return [outcomes(things, run, given)]
+    build_for(things)
+    return spread(lambda some: outcomes(some, run_lab, given), things, sizes, "files", given.jobs)
+
+
+def check(words, run=None, out=print, wrong=complain):
+    given = arguments(words)
+    changing, found = given.update or given.expect, []
+    for outcome in (outcome for some in parts(given, run) for outcome in some):
+        found.append(outcome)
+        for line in outcome.said if outcome.status or changing or not given.quiet else []:
+            out(line)
+        for line in outcome.wrong:
+            wrong(line)
+    if not changing:
         out(total(found))
     return max(outcome.status for outcome in found)
 

@@ -537,19 +537,23 @@ def covered(things, run, unreadable):
     return found, [h for h in histories if isinstance(h, Wrong)]
 
 
-def cover(words, run=None, write=sys.stdout.write, wrong=complain):
-    """With a function of its own that runs the program, all by it; else spread over the processors."""
-    given = arguments(words)
+def parts(given, run):
+    """What some of the files cover, some at a time. With a function that runs the program, which tests hand over, all at once; else spread over processes."""
     things, sizes = to_spread(given.files)
-    if run is None:
-        build_for(things)
+    if run is not None:
+        return [covered(things, run, given.unreadable)]
+    build_for(things)
+    return spread(lambda some: covered(some, run_lab, given.unreadable), things, sizes, "files")
+
+
+def cover(words, run=None, write=sys.stdout.write, wrong=complain):
+    given = arguments(words)
     found, status = Cover(), 0
-    for some, errors in spread(lambda run_of: covered(run_of, run_lab, given.unreadable), things, sizes, "files") if run is None else [covered(things, run, given.unreadable)]:
+    for some, errors in parts(given, run):
         found.merge(some)
         for error in errors:
             wrong(error)
             status = 2
-    if not found.files:
-        return status
-    write(page(found) if given.html else text(found, given.brief))
+    if found.files:
+        write(page(found) if given.html else text(found, given.brief))
     return status
