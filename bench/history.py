@@ -10,7 +10,7 @@ import subprocess
 import sys
 from typing import NamedTuple, Optional
 
-from programs.build import ROOT, Wrong, command, standard_input
+from programs.build import Wrong, command, standard_input
 
 FRESH = "pool 0 4096"  # as the lab is before the first `pool` line
 UNREADABLE = "unreadable"

@@ -33,9 +33,10 @@ import bench.page
 import bench.spread
 import bench.trace
 import bench.why
-from bench.history import FORMS, ROOT, UNREADABLE, Wrong, parse, read
+from bench.history import FORMS, UNREADABLE, Wrong, parse, read
 from programs import build, refusals
 from tools import matrix
+from tools.crates import ROOT
 
 KEPT = os.path.join(ROOT, "bench", "test.kept")
 EXAMPLES = os.path.join(ROOT, "examples")

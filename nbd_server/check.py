@@ -18,8 +18,8 @@ import tempfile
 import time
 
 from bench.history import chunks as dirty_chunks
+from tools.crates import ROOT
 
-ROOT = os.path.dirname(os.path.dirname(os.path.abspath(__file__)))
 MEMBER = 3
 CONTEXT = "qemu:dirty-bitmap:member-%d" % MEMBER
 PACKAGE = {"nbdinfo": "libnbd-bin", "qemu-img": "qemu-utils", "qemu-io": "qemu-utils", "qemu-nbd": "qemu-utils"}

@@ -21,7 +21,8 @@ import threading
 import time
 import urllib.parse
 
-ROOT = os.path.dirname(os.path.dirname(os.path.abspath(__file__)))
+from tools.crates import ROOT
+
 STATUS = [os.path.join(ROOT, "status")]
 PORT = 10809
 

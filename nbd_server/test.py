@@ -16,7 +16,8 @@ import sys
 import tempfile
 import urllib.parse
 
-ROOT = os.path.dirname(os.path.dirname(os.path.abspath(__file__)))
+from tools.crates import ROOT
+
 PATIENCE = 20  # seconds after which a server that does not answer has failed
 MIB = 1 << 20
 

@@ -7,7 +7,7 @@ import os
 import re
 import sys
 
-ROOT = os.path.dirname(os.path.dirname(os.path.abspath(__file__)))
+from tools.crates import ROOT
 
 # Whole runs of the gate before the one whose log is read: what was in, crates and edits that passed, minutes and seconds, minutes of CPU time (0: not measured).
 EARLIER = [

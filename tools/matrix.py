@@ -8,8 +8,8 @@ import os
 import sys
 
 from bench.history import chunks, fields, parse, sent
+from tools.crates import ROOT
 
-ROOT = os.path.dirname(os.path.dirname(os.path.abspath(__file__)))
 STDIN = os.path.join(ROOT, "crates", "lab", "stdin")
 STDOUT = os.path.join(ROOT, "crates", "lab", "stdout")
 PAGE = os.path.join(ROOT, "docs", "MATRIX.md")

@@ -16,8 +16,8 @@ import shlex
 import sys
 
 from bench.history import asking, chunks, fields, load, run_lab, sent
+from tools.crates import ROOT
 
-ROOT = os.path.dirname(os.path.dirname(os.path.abspath(__file__)))
 CLAUSES = ("follows", "assembles", "brings", "marks", "stores", "by-hand", "not-else", "own", "once", "broken", "deletes", "answers", "new", "fills", "free", "starts-pool", "starts-node")
 CONVENIENT = {"assembles", "brings", "not-else"}
 CLIENT = ("join_create", "join_assemble", "enable", "maintenance", "link_down", "store_check", "rejoin", "try", "extend", "remove", "write", "synced", "answer", "deliver")

@@ -7,7 +7,8 @@ import os
 import re
 import sys
 
-ROOT = os.path.dirname(os.path.dirname(os.path.abspath(__file__)))
+from tools.crates import ROOT
+
 PAGE = os.path.join(ROOT, "docs", "STATES.md")
 CLIENT = os.path.join(ROOT, "crates", "state", "specs", "Table.antt")
 NODE = os.path.join(ROOT, "crates", "nodestate", "specs", "Table.antt")

@@ -11,9 +11,8 @@ import os
 import re
 import sys
 
-from tools.crates import graph
+from tools.crates import ROOT, graph
 
-ROOT = os.path.dirname(os.path.dirname(os.path.abspath(__file__)))
 PAGE = os.path.join(ROOT, "docs", "TRUST.md")
 START, END = "| layer | files | lines, comments and imports with them |\n", "\n## What the definitions were compared with"
 LAYERS = {

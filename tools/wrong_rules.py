@@ -19,9 +19,8 @@ import subprocess
 import sys
 import tempfile
 
-from tools.crates import above, depths, graph, under
+from tools.crates import ROOT, above, depths, graph, under
 
-ROOT = os.path.dirname(os.path.dirname(os.path.abspath(__file__)))
 FOLDER = os.path.join(ROOT, "tools", "wrong-rules")
 THEOREMS = ("events", "creation", "nodeevents", "commuting", "table", "demand3", "added", "logs", "ownlogs")  # what these rest on is checked first, the lab after it
 
