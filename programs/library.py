@@ -13,7 +13,7 @@ from programs.build import ROOT, TARGET, Wrong, built_from, is_new, prove, say, 
 
 THERE = os.path.join(TARGET, "library")
 HEADERS = ("munzolkheg.h", "lines.h")
-SIDES = {"client": "clientlib", "node": "nodelib"}  # each archive, and its crate
+SIDES = {"client": "library_client", "node": "library_node"}  # each archive, and its crate
 
 
 def path_of(side):

@@ -10,8 +10,8 @@ import sys
 from tools.crates import ROOT
 
 PAGE = os.path.join(ROOT, "docs", "STATES.md")
-CLIENT = os.path.join(ROOT, "crates", "state", "specs", "Table.antt")
-NODE = os.path.join(ROOT, "crates", "nodestate", "specs", "Table.antt")
+CLIENT = os.path.join(ROOT, "crates", "rules_pool", "specs", "Table.antt")
+NODE = os.path.join(ROOT, "crates", "rules_node", "specs", "Table.antt")
 
 SESSION = ["Free", "Created", "Normal", "Failed", "Reconnecting", "Removing"]
 STATES = ["Empty", "Registered", "Created", "Normal", "NoIo"]
@@ -73,9 +73,9 @@ def node():
 def page():
     return "\n".join(
         ["# State diagrams", "", "Made by `tools/states.py` from the tables that the theorems speak of; the gate compares this page with them.", ""]
-        + ["## The client's session", "", "`legal` in crates/state/specs/Table.antt: source document 001's table. A session begins CREATED (in a sync pool NORMAL) and is freed from REMOVING.", ""]
+        + ["## The client's session", "", "`legal` in crates/rules_pool/specs/Table.antt: source document 001's table. A session begins CREATED (in a sync pool NORMAL) and is freed from REMOVING.", ""]
         + ["```mermaid"] + client() + ["```", ""]
-        + ["## The node", "", "`legal` in crates/nodestate/specs/Table.antt: source document 003 as document 01 condenses it; each arrow with the events that may take it.", ""]
+        + ["## The node", "", "`legal` in crates/rules_node/specs/Table.antt: source document 003 as document 01 condenses it; each arrow with the events that may take it.", ""]
         + ["```mermaid"] + node() + ["```"]
     ) + "\n"
 

@@ -15,19 +15,9 @@ from tools.crates import ROOT, graph
 
 PAGE = os.path.join(ROOT, "docs", "TRUST.md")
 START, END = "| layer | files | lines, comments and imports with them |\n", "\n## What the definitions were compared with"
-LAYERS = {
-    "ground": "numbers refusals sets chunks maps parts fills emptyrows rows summaries mending searching versions",
-    "client": "state roster changes run recovery rules exits joins extending enables links writes removal answers breaking checks client",
-    "node": "nodestate noderegister nodejoins nodeenables nodewrites nodefills nodeserve nodehand nodemaps nodesummaries nodenext nodechecks node",
-    "theorems": "order events creation bounds table clientevents mapchecks nodeevents commuting world honest demand3 added histories forgotten followed stillempty",
-    "lab": "text names lines forms eventlines commands say sayclient saynode sayrow journal sayrecord saylab post lending anyclient anynode lendclient lendnode lendask bench truing delivery fetching reading arranging lab",
-    "backup": "descriptors statuswriter statusreader statuslaws statustool status statusread statusrefused",
-    "compare": "dumps differences saydifferences comparing compare comparesame comparelong",
-    "library": "words nodewords poolwords clientwords answerwords clientlib nodelib",
-    "audit": "records replay auditing auditor batches logs ownlogs auditlines auditrun audit auditwrong auditword",
-}
-LAWS = "laws keeps missed mirror mirrorlinks mirrorruns mirrorremoval mirrorpool mirrornodes mirrorworld"  # crates of laws: what they say is proved of the others; only the definitions named in the table change what a contract or statement means
-THEOREMS = set((LAYERS["theorems"] + " versions statuslaws dumps differences saydifferences batches logs ownlogs summaries mending searching nodewords clientwords").split())  # crates with statements in specs/
+LAYERS = ["rules", "theorem", "client", "node", "event", "map", "text", "lab", "status", "compare", "library", "audit"]  # by what the crates' names begin with; what must be believed first
+LAWS = ("laws_", "model_")  # crates of laws: what they say is proved of the others; only the definitions named in the table change what a contract or statement means
+STATED = ("rules_", "theorem_", "status_proof", "audit_proof", "compare_", "audit_list", "map_versions", "map_summary", "event_words", "library_")  # crates with statements in specs/
 
 HEAD = re.compile(r"^(?:(?:abbrev|unfoldable) )?(?:pub )?(?:(?:record|data) ([^\s(){}:;]+)|([^\s(){}:;]+)(?: \{[^}]*\})? :)")
 USE = re.compile(r"^(?:ghost )?use Rattle·(\w+?)(?:·specs\.specs|\.specs)\.([\w.]+?)(?:\.\{([^}]*)\}| as (\w[\w-]*));?$")
@@ -94,7 +84,7 @@ def cited(files):
         for crate, module in modules.values():
             roots |= {(crate, module, n) for n in files[crate, module][0]}
     for (crate, module), (defs, _, _, _) in files.items():
-        if crate in THEOREMS:
+        if crate.startswith(STATED):
             roots |= {(crate, module, n) for n in defs}
     return roots
 
@@ -127,7 +117,7 @@ def rested_on(files):
 def row(layer, files, seen, crates, by_name):
     cells, lines = [], 0
     for (crate, module), (defs, _, _, count) in files.items():
-        if crate not in crates:
+        if not crate.startswith(crates):
             continue
         used = [n for n in defs if (crate, module, n) in seen]
         if not used:
@@ -138,24 +128,22 @@ def row(layer, files, seen, crates, by_name):
         else:
             cells.append("%s/%s" % (crate, module))
             lines += count
-    order = {c: i for i, c in enumerate(crates)}
-    cells.sort(key=lambda c: order[c.split("/")[0]])
+    cells.sort()
     return "| %s | %s | %d |\n" % (layer, ", ".join(cells), lines)
 
 
 def table(files, seen):
     rows = [START, "|---|---|---|\n"]
-    rows.append(row("words of the laws", files, seen, LAWS.split(), True))
-    for layer, crates in LAYERS.items():
-        rows.append(row(layer, files, seen, crates.split(), False))
+    rows.append(row("words of the laws", files, seen, LAWS, True))
+    for layer in LAYERS:
+        rows.append(row(layer, files, seen, (layer,), False))
     return "".join(rows)
 
 
 def listed():
-    names = graph()
-    known = " ".join(LAYERS.values()).split() + LAWS.split()
-    if sorted(names) != sorted(known):
-        sys.exit("trust: crates.txt and the layers differ: " + " ".join(sorted(set(names) ^ set(known))))
+    unknown = [c for c in graph() if not c.startswith(LAWS + tuple(LAYERS))]
+    if unknown:
+        sys.exit("trust: in no layer: " + " ".join(unknown))
 
 
 def main():
@@ -167,7 +155,7 @@ def main():
     if sys.argv[1] == "idle":
         for (crate, module), (defs, _, _, _) in files.items():
             idle = [n for n in defs if (crate, module, n) not in seen]
-            if idle and crate not in LAWS.split():
+            if idle and not crate.startswith(LAWS):
                 print("%s/%s: %s" % (crate, module, " ".join(idle)))
         return
     page = text_of(PAGE)

@@ -3,5 +3,5 @@ fn main() {
     let mut buf = [0u8; 4096];
     let mut line = [0u8; 256];
     let mut out = [0u8; 32];
-    auditrun::run(&mut buf, &mut line, &mut out);
+    audit_tool::run(&mut buf, &mut line, &mut out);
 }

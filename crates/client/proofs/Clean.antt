@@ -7,11 +7,11 @@ use Prim.Native.Nat.{ℕ, zero, suc, _<_, _≤_}
 use native.Mathlib.Decide.{ℕ-discrete}
 use native.Mathlib.Omega.{arith}
 use lib.Dec.{eqb}
-use Rattle.laws.specs.Words.{pick}
-use Rattle.sets.specs.Sets.{has, with}
-use Rattle.sets.proofs.Laws.{has-none, has-with-same, has-with-other}
-use Rattle.chunks.specs.Chunk.{dirty}
-use Rattle.client.specs.Client.{cleanTo}
+use Rattle.laws_words.specs.Words.{pick}
+use Rattle.rules_base.specs.Sets.{has, with}
+use Rattle.rules_base.proofs.Sets.{has-none, has-with-same, has-with-other}
+use Rattle.rules_base.specs.Chunk.{dirty}
+use Rattle.rules_client.specs.Client.{cleanTo}
 
 -- nobody at n or above is in it yet
 above : (xs : List ℕ) (chunk n j : ℕ) → n ≤ j → has (cleanTo xs chunk n) j ≡ false

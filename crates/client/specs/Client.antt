@@ -1,94 +1,68 @@
--- The client's face: the fresh client, what an event hands back, and what it does to the client map.
+-- The client as the code declares it, and as the rules have it.
 use mathlib.Core.Bool.{Bool}
 use mathlib.Core.List.{List}
-use Prim.Native.Nat.{ℕ, zero, suc}
-use lib.Dec.{eqb}
-use lib.ListN.{replicate}
-use Rattle.laws.specs.Words.{pick}
-use Rattle.sets.specs.Sets.{with}
-use Rattle.chunks.specs.Chunk.{dirty, markedFor}
-use Rattle.maps.specs.Map.{zeroRow, zeroed, sound}
-use Rattle.fills.specs.Fill.{rowFilled}
-use Rattle.state.specs.declared.Mode.{Mode}
-use Rattle.state.specs.declared.Reply.{Reply}
-use Rattle.state.specs.declared.Job.{Job}
-use Rattle.state.specs.declared.Pool.{Pool}
-use Rattle.state.specs.declared.Effect.{Effect}
-use Rattle.state.specs.declared.Turn.{Turn}
-use Rattle.state.specs.Past.{noPast}
-use Rattle.state.specs.Session.{free}
-use Rattle.removal.specs.Remove.{remove}
-use Rattle.writes.specs.Writes.{writeEnded, synced}
-use Rattle.answers.specs.Answers.{answer}
-use Rattle.extending.specs.Extending.{extend}
-use Rattle.emptyrows.specs.Empty.{fullTo}
-use Rattle.checks.specs.declared.Checked.{Checked}
-use Rattle.checks.specs.Check.{noCheck, tick, after}
-use Rattle.checks.specs.Check as checks
+use Prim.Native.Nat.{ℕ}
+use Rattle.rules_pool.specs.declared.Turn.{Turn}
+use Rattle.rules_pool.specs.declared.Pool.{Pool}
+use Rattle.rules_client.specs.declared.Check.{Check}
+use Rattle.rules_client.specs.declared.Checked.{Checked}
+use Rattle.rules_client.specs.Joins.{joinCreate, joinAssemble}
+use Rattle.rules_client.specs.Enables.{enable, maintenance}
+use Rattle.rules_client.specs.Links.{linkDown, storeCheck, rejoin, tryRun}
+use Rattle.rules_client.specs.Remove.{remove}
+use Rattle.rules_client.specs.Writes.{writeEnded, synced}
+use Rattle.rules_client.specs.Answers.{answer}
+use Rattle.rules_client.specs.Extend.{extend}
+use Rattle.rules_client.specs.MapCheck as checks
+use Rattle.rules_client.specs.Client as rules
+use Rattle.event.specs.declared.Event.{Event}
 use Rattle.client.specs.declared.Client.{Client}
 use Rattle.client.specs.declared.Out.{Out}
+use Rattle.client.specs.declared.Step.{Step}
 
--- a fresh pool, sync or not: no session, no member, version 1, nothing awaited
-abbrev pub freshPool : Bool → ℕ → Pool
-freshPool sync chunks =
-    record {
-      roster = record { sessions = replicate 16 free; count = 0; version = 1; members = 0; sync = sync; past = noPast };
-      job = Job.Idle;
-      number = 0;
-      chunks = chunks;
-    }
+abbrev pub held : Client → rules.Client
+held c = record { pool = c .pool; check = c .check }
 
--- a fresh client of such a pool
+abbrev pub came : Out → rules.Out
+came r = record { answer = r .answer; client = held (r .client) }
+
+abbrev pub made : rules.Client → Client
+made c = record { pool = c .pool; check = c .check }
+
+abbrev pub given : rules.Out → Out
+given r = record { answer = r .answer; client = made (r .client) }
+
 abbrev pub fresh : Bool → ℕ → Client
-fresh sync chunks = record { pool = freshPool sync chunks; check = noCheck }
+fresh sync chunks = made (rules.fresh sync chunks)
 
--- what an event of the pool hands back: the answer, and the next client; a row of empty answers stands, or the event breaks it
 abbrev pub handed : Client → Turn → Out
-handed c t = record { answer = t .answer; client = record { pool = t .pool; check = after (c .check) (c .pool) t } }
+handed c t = given (rules.handed (held c) t)
 
--- what a tick or an answer to it hands back: the pool stays
 abbrev pub checkHanded : Client → Checked → Out
-checkHanded c k = record { answer = k .answer; client = record { pool = c .pool; check = k .check } }
+checkHanded c k = given (rules.checkHanded (held c) k)
 
--- what is done to the client map
-abbrev pub carried : Effect → List ℕ → List ℕ
-carried Effect.Keep xs = xs
-carried (Effect.Mark s c) xs = markedFor xs s c
-carried (Effect.ZeroRow m) xs = zeroRow m xs
-carried Effect.ZeroAll xs = zeroed xs
-carried (Effect.FillRow m n) xs = rowFilled m n xs
+-- what an event of the pool comes to, and one of map check
+abbrev pub ofPool : Pool → Check → Turn → Step
+ofPool p k t = record { out = handed (record { pool = p; check = k }) t; effect = t .effect }
 
--- ---- the events that a map is lent to: what they do, judged by the lent map's soundness
+abbrev pub ofCheck : Pool → Checked → Step
+ofCheck p k = record { out = record { answer = k .answer; client = record { pool = p; check = k .check } }; effect = k .effect }
 
-abbrev pub soundFor : Pool → List ℕ → Bool
-soundFor p xs = sound (p .chunks) xs
-
-unfoldable pub extendTurn : Pool → List ℕ → Turn
-extendTurn p xs = extend p (soundFor p xs)
-
-unfoldable pub removeTurn : Pool → List ℕ → ℕ → Mode → Turn
-removeTurn p xs id mode = remove p (soundFor p xs) id mode
-
-unfoldable pub writeTurn : Pool → List ℕ → ℕ → ℕ → Turn
-writeTurn p xs chunk reached = writeEnded p (soundFor p xs) chunk reached
-
-unfoldable pub answerTurn : Pool → List ℕ → ℕ → Reply → Turn
-answerTurn p xs number a = answer p (soundFor p xs) number a
-
--- the ids below m for which chunk c is clean in a map
-unfoldable pub cleanTo : List ℕ → ℕ → ℕ → ℕ
-cleanTo xs c zero = 0
-cleanTo xs c (suc m) = pick (eqb (dirty xs m c) 1) (cleanTo xs c m) (with (cleanTo xs c m) m)
-
--- the map lent to synced is a NORMAL node's, and is only read
-unfoldable pub syncedTurn : Pool → List ℕ → ℕ → ℕ → Turn
-syncedTurn p xs member chunk = synced p (soundFor p xs) member chunk (cleanTo xs chunk 16)
-
--- ---- map check
-
--- the map lent to a tick is the client's, and is only read
-unfoldable pub tickTurn : Client → List ℕ → Checked
-tickTurn c xs = tick (c .pool) (c .check) (soundFor (c .pool) xs) (fullTo xs 16)
-
-unfoldable pub checkTurn : Client → List ℕ → ℕ → ℕ → Bool → Checked
-checkTurn c xs number m empty = checks.answer (c .pool) (c .check) (soundFor (c .pool) xs) number m empty
+-- What an event comes to by what is seen of the lent map: whether it is sound, and ids: those for which the chunk is clean in a map that synced reads, those whose row is not
+-- empty in one that a tick reads.
+abbrev pub stepped : Event → Pool → Check → Bool → ℕ → Step
+stepped (Event.JoinCreate id) p k sound ids = ofPool p k (joinCreate p id)
+stepped (Event.JoinAssemble id set version) p k sound ids = ofPool p k (joinAssemble p id set version)
+stepped (Event.Enable id) p k sound ids = ofPool p k (enable p id)
+stepped (Event.Maintenance id) p k sound ids = ofPool p k (maintenance p id)
+stepped (Event.LinkDown id) p k sound ids = ofPool p k (linkDown p id)
+stepped (Event.StoreCheck id) p k sound ids = ofPool p k (storeCheck p id)
+stepped (Event.Rejoin id) p k sound ids = ofPool p k (rejoin p id)
+stepped Event.Try p k sound ids = ofPool p k (tryRun p)
+stepped (Event.Remove id mode) p k sound ids = ofPool p k (remove p sound id mode)
+stepped (Event.Write chunk reached) p k sound ids = ofPool p k (writeEnded p sound chunk reached)
+stepped (Event.Synced member chunk n) p k sound ids = ofPool p k (synced p sound member chunk ids)
+stepped (Event.Answer number a) p k sound ids = ofPool p k (answer p sound number a)
+stepped Event.Extend p k sound ids = ofPool p k (extend p sound)
+stepped Event.Tick p k sound ids = ofCheck p (checks.tick p k sound ids)
+stepped (Event.CheckAnswer number m empty) p k sound ids = ofCheck p (checks.answer p k sound number m empty)

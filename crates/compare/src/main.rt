@@ -3,5 +3,5 @@ fn main() {
     let mut first = [0u8; 8193];
     let mut second = [0u8; 8193];
     let mut out = [0u8; 40960];
-    comparing::run(&mut first, &mut second, &mut out);
+    compare_tool::run(&mut first, &mut second, &mut out);
 }

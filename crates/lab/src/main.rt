@@ -3,15 +3,15 @@ pub mod obeying;
 
 ghost use Prim.Native.Nat.{_<_};
 use crate::obeying::Obeyed;
-use bench::Lab;
-use checks::Check;
-use fetching::Cur;
-use fetching::Got;
-use forms::Command;
-use journal::Journal;
-use nodestate::Node;
-use saylab::Said;
-use state::Pool;
+use audit_record::journal::Journal;
+use lab_form::Command;
+use lab_say_line::Said;
+use lab_state::Lab;
+use rules_client::Check;
+use rules_node::Node;
+use rules_pool::Pool;
+use text_words::fetching::Cur;
+use text_words::fetching::Got;
 
 // Where a run stands: the lab and its log, the reading, how many bytes of the output are not written yet, and whether to go on.
 pub struct Stand {
@@ -57,11 +57,11 @@ pub fn run_all(
 }
 
 fn begin() -> Stand {
-    let l = bench::fresh(false, 4096);
-    let c = fetching::start();
+    let l = lab_state::fresh(false, 4096);
+    let c = text_words::fetching::start();
     Stand {
         lab: l,
-        log: journal::fresh(),
+        log: audit_record::journal::fresh(),
         cur: c,
         at: 0,
         go: true,
@@ -81,7 +81,7 @@ fn turn(
     let cur = s.cur;
     let l = s.lab;
     let j = s.log;
-    let c = fetching::fetch(cur, buf, line);
+    let c = text_words::fetching::fetch(cur, buf, line);
     step(l, j, c, s.at, line, own, maps, stagings, out)
 }
 
@@ -140,7 +140,7 @@ fn write_line(
     out: &mut [u8],
 ) -> usize {
     let to = room(at, out);
-    let to = saylab::put_line(out, to, s, p, k, n);
+    let to = lab_say_line::put_line(out, to, s, p, k, n);
     row_line(to, s, own, maps, stagings, out)
 }
 
@@ -149,7 +149,7 @@ fn row_line(at: usize, s: Said, own: &[u8], maps: &[u8], stagings: &[u8], out: &
     let Said::Row(w, m) = s else {
         return at;
     };
-    saylab::put_row(out, at, w, m, own, maps, stagings)
+    lab_say_line::put_row(out, at, w, m, own, maps, stagings)
 }
 
 fn pool_of(l: Lab) -> Pool {
@@ -193,7 +193,7 @@ fn number_of(s: Said) -> u64 {
 fn command_of(c: Cur, line: &[u8]) -> Command {
     let k = c.kind;
     let Got::Part = k else {
-        return reading::to_command(c.len, line);
+        return lab_command::reading::to_command(c.len, line);
     };
     Command::Passed
 }
@@ -212,7 +212,7 @@ fn onward(l: Lab, j: Journal, c: Cur, at: usize, out: &mut [u8]) -> Stand {
         Got::Whole => Stand {
             lab: l,
             log: j,
-            cur: fetching::fresh(c),
+            cur: text_words::fetching::fresh(c),
             at: at,
             go: true,
         },

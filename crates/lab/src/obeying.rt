@@ -1,18 +1,18 @@
 // What a command does to the lab, and what there is to say of it.
-use bench::Lab;
+use audit_record::journal::Journal;
 use client::Client;
-use delivery::Reported;
-use forms::Command;
-use forms::Event;
-use forms::NodeEvent;
-use forms::Question;
-use forms::Which;
-use journal::Journal;
-use lendask::Finding;
-use saylab::Said;
-use state::Answer;
-use state::Roster;
-use state::Sent;
+use event::Event;
+use event::NodeEvent;
+use event::Question;
+use event_ask::ask::Finding;
+use lab_deliver::delivery::Reported;
+use lab_form::Command;
+use lab_form::Which;
+use lab_say_line::Said;
+use lab_state::Lab;
+use rules_pool::Answer;
+use rules_pool::Roster;
+use rules_pool::Sent;
 
 // The lab after a command, its log, and what is said.
 pub struct Obeyed {
@@ -50,10 +50,10 @@ fn client_event(
 ) -> Obeyed {
     let before = l.client;
     let lent = l.lent;
-    let o = lendclient::client_event(before, lent, e, own, maps);
+    let o = lab_lend::client_event::client_event(before, lent, e, own, maps);
     let a = o.answer;
     let c = o.client;
-    let log = journal::enter(j, e, a, roster_of(c));
+    let log = audit_record::journal::enter(j, e, a, roster_of(c));
     match a {
         Answer::Refused(n) => Obeyed {
             lab: l,
@@ -80,8 +80,8 @@ fn accepted(
 ) -> Obeyed {
     let awaited = sent.awaited;
     let told = sent.told;
-    let k = bench::after(l, c, awaited, sent.number);
-    let next = delivery::tell_auto(k, told, maps, stagings);
+    let k = lab_state::after(l, c, awaited, sent.number);
+    let next = lab_deliver::delivery::tell_auto(k, told, maps, stagings);
     Obeyed {
         lab: next,
         log: j,
@@ -97,7 +97,7 @@ fn node_event(
     maps: &mut [u8],
     stagings: &mut [u8],
 ) -> Obeyed {
-    let r = delivery::node_event(l, n, e, maps, stagings);
+    let r = lab_deliver::delivery::node_event(l, n, e, maps, stagings);
     let next = r.lab;
     let a = r.answer;
     Obeyed {
@@ -109,7 +109,7 @@ fn node_event(
 
 // Node n takes node m's map, part by part; what is said is the last one's.
 fn take(l: Lab, j: Journal, n: u64, m: u64, maps: &mut [u8], stagings: &mut [u8]) -> Obeyed {
-    let r = delivery::take(l, n, m, maps, stagings);
+    let r = lab_deliver::delivery::take(l, n, m, maps, stagings);
     let next = r.lab;
     let a = r.answer;
     Obeyed {
@@ -119,18 +119,18 @@ fn take(l: Lab, j: Journal, n: u64, m: u64, maps: &mut [u8], stagings: &mut [u8]
     }
 }
 
-fn node_said(n: u64, a: nodestate::Answer) -> Said {
+fn node_said(n: u64, a: rules_node::Answer) -> Said {
     match a {
-        nodestate::Answer::Refused(why) => Said::Refused(why),
-        nodestate::Answer::Done => Said::Node(n),
-        nodestate::Answer::Version(v) => Said::Node(n),
+        rules_node::Answer::Refused(why) => Said::Refused(why),
+        rules_node::Answer::Done => Said::Node(n),
+        rules_node::Answer::Version(v) => Said::Node(n),
     }
 }
 
 // The awaited message to its node, and the node's answer to the client.
 fn deliver(l: Lab, j: Journal, own: &mut [u8], maps: &mut [u8], stagings: &mut [u8]) -> Obeyed {
     let m = l.awaited;
-    let none = state::is_nothing(m);
+    let none = client_state::state::is_nothing(m);
     if none {
         return Obeyed {
             lab: l,
@@ -139,7 +139,7 @@ fn deliver(l: Lab, j: Journal, own: &mut [u8], maps: &mut [u8], stagings: &mut [
         };
     }
     let number = l.number as u64;
-    let r = delivery::deliver(l, m, maps, stagings);
+    let r = lab_deliver::delivery::deliver(l, m, maps, stagings);
     let next = r.lab;
     let a = r.reply;
     client_event(next, j, Event::Answer(number, a), own, maps, stagings)
@@ -147,7 +147,7 @@ fn deliver(l: Lab, j: Journal, own: &mut [u8], maps: &mut [u8], stagings: &mut [
 
 // What node n answers to a question.
 fn ask(l: Lab, j: Journal, n: u64, q: Question, maps: &[u8], stagings: &[u8]) -> Obeyed {
-    let f = delivery::ask(l, n, q, maps, stagings);
+    let f = lab_deliver::delivery::ask(l, n, q, maps, stagings);
     Obeyed {
         lab: l,
         log: j,
@@ -171,7 +171,7 @@ fn deliver_check(
     maps: &mut [u8],
     stagings: &mut [u8],
 ) -> Obeyed {
-    let r = delivery::deliver_check(l, maps, stagings);
+    let r = lab_deliver::delivery::deliver_check(l, maps, stagings);
     match r {
         Reported::Nobody => Obeyed {
             lab: l,
@@ -192,7 +192,7 @@ fn arrange(
     stagings: &mut [u8],
 ) -> Obeyed {
     arrange_maps(c, own, maps, stagings);
-    let next = bench::arrange(l, c);
+    let next = lab_state::arrange(l, c);
     Obeyed {
         lab: arrange_words(next, c, maps),
         log: log_after(j, c),
@@ -205,7 +205,7 @@ fn log_after(j: Journal, c: Command) -> Journal {
     let Command::Pool(sync, chunks) = c else {
         return j;
     };
-    journal::fresh()
+    audit_record::journal::fresh()
 }
 
 // A byte in a node's map: the six words of its row are made true of it.
@@ -219,15 +219,15 @@ fn arrange_words(l: Lab, c: Command, maps: &[u8]) -> Lab {
 fn true_words(l: Lab, w: Which, i: u64, maps: &[u8]) -> Lab {
     match w {
         Which::Client => l,
-        Which::Node(n) => truing::true_row(l, n, i / 512, maps),
+        Which::Node(n) => lab_set::truing::true_row(l, n, i / 512, maps),
         Which::Staging(n) => l,
     }
 }
 
 fn arrange_maps(c: Command, own: &mut [u8], maps: &mut [u8], stagings: &mut [u8]) {
     match c {
-        Command::Pool(sync, chunks) => arranging::zero_all(own, maps, stagings),
-        Command::Byte(w, i, v) => arranging::store(w, i, v, own, maps, stagings),
+        Command::Pool(sync, chunks) => lab_set::arranging::zero_all(own, maps, stagings),
+        Command::Byte(w, i, v) => lab_set::arranging::store(w, i, v, own, maps, stagings),
         _ => {}
     }
 }

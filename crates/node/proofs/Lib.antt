@@ -1,4 +1,1 @@
-pub mod Lent
-pub mod Theorems
-pub mod Worked
-pub mod Cuts
+pub mod NoPart

@@ -1,84 +1,44 @@
--- The node with its lent maps: xs the map's bytes, ys those of staging. An event gives an answer and the next state, and leaves both maps.
-use mathlib.Core.Path.{_≡_}
-use mathlib.Core.Bool.{true, not, _&&_}
+-- The node as the code declares it, and as the rules have it.
 use mathlib.Core.List.{List}
 use Prim.Native.Nat.{ℕ}
-use lib.Dec.{eqb}
-use lib.ListN.{length, replicate}
-use Rattle.laws.specs.Words.{pick}
-use Rattle.refusals.specs.Limits.{mapBytes}
-use Rattle.maps.specs.Map.{sound}
-use Rattle.summaries.specs.Summary.{summariesOf, agree}
-use Rattle.searching.specs.Search.{rowSearched}
-use Rattle.nodestate.specs.declared.OnStaging.{OnStaging}
-use Rattle.nodestate.specs.declared.Node.{Node}
-use Rattle.nodestate.specs.declared.Turn.{Turn}
-use Rattle.nodestate.specs.Change as Change
-use Rattle.nodemaps.specs.Carry.{mapAfter, stagingAfter, takenIn}
-use Rattle.emptyrows.specs.Empty.{rowEmpty}
-use Rattle.nodechecks.specs.Check.{mapCheck}
+use Rattle.rules_node.specs.declared.Turn.{Turn}
+use Rattle.rules_node.specs.Events.{Event}
+use Rattle.rules_node.specs.Face as rules
 use Rattle.node.specs.declared.StorageNode.{StorageNode}
-use Rattle.nodenext.specs.Next.{nextDirty}
 use Rattle.node.specs.declared.Out.{Out}
 use Rattle.node.specs.declared.Asked.{Asked}
 use Rattle.node.specs.declared.Searched.{Searched}
-use Rattle.node.specs.Events.{Event, Part, partIn, turnOf}
 
--- a fresh node; any numbers. Its summaries are those of a map in which nothing is dirty
+abbrev pub held : StorageNode → rules.StorageNode
+held s = record { node = s .node; summaries = s .summaries }
+
+abbrev pub came : Out → rules.Out
+came r = record { answer = r .answer; node = held (r .node) }
+
+abbrev pub made : rules.StorageNode → StorageNode
+made s = record { node = s .node; summaries = s .summaries }
+
+abbrev pub given : rules.Out → Out
+given r = record { answer = r .answer; node = made (r .node) }
+
 abbrev pub freshNode : ℕ → ℕ → StorageNode
-freshNode id chunks = record { node = Change.fresh id chunks; summaries = replicate 96 0 }
+freshNode id chunks = made (rules.freshNode id chunks)
 
--- the number that the lent maps refuse with: 2 unless both are sound, 18 unless the summaries agree with the map, else 0
-abbrev pub lentNumber : ℕ → List ℕ → List ℕ → List ℕ → ℕ
-lentNumber chunks words xs ys = pick (not (sound chunks xs && sound chunks ys)) 2 (pick (not (agree words xs)) 18 0)
-
-abbrev pub lentTo : StorageNode → List ℕ → List ℕ → ℕ
-lentTo s xs ys = lentNumber (s .node .chunks) (s .summaries) xs ys
-
--- what is known of summaries and a map that do not refuse
-pub record Lent (words xs : List ℕ) : Type 0 where
-  pub size : length xs ≡ mapBytes
-  pub agrees : agree words xs ≡ true
-
--- the turn of an event at a node with its maps
-abbrev pub turnAt : Event → StorageNode → List ℕ → List ℕ → Turn
-turnAt e s xs ys = turnOf e (s .node) (lentTo s xs ys)
-
--- the answer beside the next state
 abbrev pub handed : Turn → List ℕ → Out
-handed t words = record { answer = t .answer; node = record { node = t .node; summaries = words } }
+handed t words = given (rules.handed t words)
 
--- the map that a turn leaves
-unfoldable pub mapBy : Turn → List ℕ → List ℕ → List ℕ
-mapBy t xs ys = mapAfter (t .effect .map) (t .node) ys xs
-
--- staging with a part ORed in, if there is one
-abbrev pub stagingWith : Part → OnStaging → List ℕ → List ℕ
-stagingWith Part.none e ys = ys
-stagingWith (Part.some part) e ys = takenIn e part ys
-
--- the staging map that a turn leaves
-unfoldable pub stagingBy : Turn → List ℕ → List ℕ → List ℕ
-stagingBy t xs ys = stagingAfter (t .effect .staging) (mapBy t xs ys) ys
-
--- the summaries that a turn leaves: those of the map that it leaves, unless the lent maps refuse, with the number lent
-unfoldable pub wordsBy : ℕ → Turn → List ℕ → List ℕ → List ℕ → List ℕ
-wordsBy lent t words xs ys = pick (eqb lent 0) (summariesOf (mapBy t xs ys)) words
-
--- what an event answers, and the two maps that it leaves
 abbrev pub answers : Event → StorageNode → List ℕ → List ℕ → Out
-answers e s xs ys = handed (turnAt e s xs ys) (wordsBy (lentTo s xs ys) (turnAt e s xs ys) (s .summaries) xs ys)
+answers e s xs ys = given (rules.answers e (held s) xs ys)
 
 abbrev pub mapLeft : Event → StorageNode → List ℕ → List ℕ → List ℕ
-mapLeft e s xs ys = mapBy (turnAt e s xs ys) xs ys
+mapLeft e s xs ys = rules.mapLeft e (held s) xs ys
 
 abbrev pub stagingLeft : Event → StorageNode → List ℕ → List ℕ → List ℕ
-stagingLeft e s xs ys = stagingWith (partIn e) (turnAt e s xs ys .effect .staging) (stagingBy (turnAt e s xs ys) xs ys)
+stagingLeft e s xs ys = rules.stagingLeft e (held s) xs ys
 
--- what a node answers to map check: of its own row in its map; the node and both maps stay
+-- the node that is asked stays as it is
 abbrev pub checked : StorageNode → List ℕ → List ℕ → Asked
-checked s xs ys = record { answer = mapCheck (s .node) (lentTo s xs ys) (rowEmpty xs (s .node .id)); node = s }
+checked s xs ys = record { answer = rules.checked (held s) xs ys .answer; node = s }
 
--- what a node answers that is asked for the next dirty chunk of a member's row at or after a start; the node and both maps stay
 abbrev pub nextAt : StorageNode → List ℕ → List ℕ → ℕ → ℕ → Searched
-nextAt s xs ys member start = record { answer = nextDirty (s .node) (lentTo s xs ys) member start (rowSearched (s .summaries) xs member start .found); node = s }
+nextAt s xs ys member start = record { answer = rules.nextAt (held s) xs ys member start .answer; node = s }

@@ -1,4 +1,1 @@
-pub mod Events
 pub mod Face
-pub mod Held
-pub mod Cuts

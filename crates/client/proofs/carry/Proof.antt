@@ -36,25 +36,25 @@ same-length : tie.Need-same-length
 same-length c = search needs
 
 returns-2 : tie.Need-returns-2
-returns-2 c = let e = c .before .before .before .before .before .effect .given .1 in rw e (cc)
+returns-2 c = let e = c .before .before .before .before .before .effect .given .1 in rw e (c .before .before .mark-for .ensures)
 
 same-length-2 : tie.Need-same-length-2
 same-length-2 c = search needs
 
 returns-3 : tie.Need-returns-3
-returns-3 c = let e = c .before .before .before .before .before .effect2 .given .1 in rw e (cc)
+returns-3 c = let e = c .before .before .before .before .before .effect2 .given .1 in rw e (c .before .before .zero-row .ensures)
 
 same-length-3 : tie.Need-same-length-3
 same-length-3 c = search needs
 
 returns-4 : tie.Need-returns-4
-returns-4 c = let e = c .before .before .before .before .enum-told2 .given .1 in rw e (cc)
+returns-4 c = let e = c .before .before .before .before .enum-told2 .given .1 in rw e (c .before .before .zero .ensures)
 
 same-length-4 : tie.Need-same-length-4
 same-length-4 c = search needs
 
 returns-5 : tie.Need-returns-5
-returns-5 c = let e = c .before .before .before .before .before .effect3 .given .1 in rw e (cc)
+returns-5 c = let e = c .before .before .before .before .before .effect3 .given .1 in rw e (c .before .before .fill-row .ensures)
 
 pub carry-spec : {M : Type 1} → statement M
 carry-spec =

@@ -1,5 +1,5 @@
 use borrow.Author.Needs.{needs}
-use Rattle.client.specs.Client.{cleanTo}
+use Rattle.rules_client.specs.Client.{cleanTo}
 use native.Mathlib.Numerals.{add-one}
 use Prim.Native.Nat.{_-_, _≤_}
 use native.Mathlib.Omega.{arith}

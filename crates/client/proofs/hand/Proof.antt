@@ -6,7 +6,7 @@ after-requires : tie.Need-after-requires
 after-requires c κs = search needs
 
 returns : tie.Need-returns
-returns c = cc
+returns c = rw (c .before .after .ensures)
 
 pub hand-spec : {M : Type 1} → statement M
 hand-spec = tie.close (tie.spec after-requires returns)

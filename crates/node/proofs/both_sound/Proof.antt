@@ -9,7 +9,7 @@ is-sound-requires-2 : tie.Need-is-sound-requires-2
 is-sound-requires-2 c κs = search needs
 
 returns : tie.Need-returns
-returns c = cc
+returns c = rw (c .is-sound2 .ensures, c .before .is-sound .ensures)
 
 pub both-sound-spec : {M : Type 1} → statement M
 both-sound-spec = tie.close (tie.spec is-sound-requires is-sound-requires-2 returns)

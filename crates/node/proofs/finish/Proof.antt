@@ -1,5 +1,5 @@
-use Rattle.node.proofs.Lent.{words-by}
-use Rattle.node.specs.Face.{mapBy, stagingBy, wordsBy}
+use Rattle.laws_node.proofs.Lent.{words-by}
+use Rattle.rules_node.specs.Face.{mapBy, stagingBy, wordsBy}
 use native.Mathlib.Omega.{arith}
 use mathlib.Core.Path.{_≡_, refl, sym, ap, _∙_}
 use borrow.Author.Needs.{needs}
@@ -7,8 +7,8 @@ use Rattle.node.proofs.finish.Statement.{statement}
 use Rattle.node.proofs.finish.Tie as tie
 use Rattle.node.proofs.finish.Reads as reads
 use Rattle.node.proofs.finish.Lts as lts
-use Rattle.nodemaps.proofs.carry.Reads as carry-reads
-use Rattle.nodesummaries.proofs.after.Reads as after-reads
+use Rattle.node_bytes.proofs.maps.carry.Reads as carry-reads
+use Rattle.node_bytes.proofs.summaries.after.Reads as after-reads
 
 -- src/lib.rt:389:5
 carry-requires : tie.Need-carry-requires

@@ -1,4 +1,4 @@
-use Rattle.client.specs.Client.{tickTurn}
+use Rattle.rules_client.specs.Client.{tickTurn}
 use borrow.Author.Needs.{needs}
 use Rattle.client.proofs.Client.tick.Statement.{statement}
 use Rattle.client.proofs.Client.tick.Tie as tie
@@ -9,17 +9,12 @@ is-sound-requires c κs = search needs
 full-ids-requires : tie.Need-full-ids-requires
 full-ids-requires c κs = search needs
 
-tick-requires : tie.Need-tick-requires
-tick-requires c κs = search needs
-
-hand-check-requires : tie.Need-hand-check-requires
-hand-check-requires c κs = search needs
+on-values-requires : tie.Need-on-values-requires
+on-values-requires c κs = search needs
 
 returns : tie.Need-returns
 unfolding tickTurn
-returns c = cc
+returns c = rw (c .on-values .ensures, c .before .full-ids .ensures, c .before .before .is-sound .ensures)
 
 pub tick-spec : {M : Type 1} → statement M
-tick-spec =
-    tie.close
-    (tie.spec is-sound-requires full-ids-requires tick-requires hand-check-requires returns)
+tick-spec = tie.close (tie.spec is-sound-requires full-ids-requires on-values-requires returns)

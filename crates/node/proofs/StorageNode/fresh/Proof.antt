@@ -5,7 +5,7 @@ use Rattle.node.proofs.StorageNode.fresh.Statement.{statement}
 use Rattle.node.proofs.StorageNode.fresh.Tie as tie
 use Rattle.node.proofs.StorageNode.fresh.Reads as reads
 use Rattle.node.proofs.StorageNode.fresh.Lts as lts
-use Rattle.nodestate.proofs.change.fresh.Reads as fresh-reads
+use Rattle.node_state.proofs.change.fresh.Reads as fresh-reads
 
 -- src/lib.rt:59:13
 fresh-requires : tie.Need-fresh-requires

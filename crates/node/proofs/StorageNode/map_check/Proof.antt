@@ -12,7 +12,7 @@ map-check-requires : tie.Need-map-check-requires
 map-check-requires c κs = search needs
 
 returns : tie.Need-returns
-returns c = cc
+returns c = rw (c .map-check .ensures, c .before .is-empty .ensures, c .before .before .lent-number .ensures)
 
 pub map-check-spec : {M : Type 1} → statement M
 map-check-spec = tie.close (tie.spec lent-number-requires is-empty-requires map-check-requires returns)

@@ -6,8 +6,8 @@ use Rattle.node.proofs.StorageNode.next.Tie as tie
 use Rattle.node.proofs.StorageNode.next.Reads as reads
 use Rattle.node.proofs.StorageNode.next.Lts as lts
 use Rattle.node.proofs.lent_number.Reads as lent-number-reads
-use Rattle.nodenext.proofs.next_dirty.Reads as next-dirty-reads
-use Rattle.searching.proofs.search_row.Reads as search-row-reads
+use Rattle.node_ask.proofs.next.next_dirty.Reads as next-dirty-reads
+use Rattle.map_summary.proofs.searching.search_row.Reads as search-row-reads
 
 -- src/lib.rt:352:13
 lent-number-requires : tie.Need-lent-number-requires

@@ -1,7 +1,8 @@
-use Rattle.node.proofs.Lent.{lent-clear}
+use Rattle.laws_node.proofs.Lent.{lent-clear}
 use native.Mathlib.Omega.{arith}
 use mathlib.Core.Path.{_≡_, refl, sym, ap, _∙_}
 use borrow.Author.Needs.{needs}
+use Rattle.node.specs.Face.{came}
 use Rattle.node.proofs.StorageNode.take_part.Statement.{statement}
 use Rattle.node.proofs.StorageNode.take_part.Tie as tie
 
@@ -33,7 +34,7 @@ returns c =
     let w = c .before .before .before .before .before .before .before .before .before .before .before .before .take-part .ensures in
     let i = c .before .before .before .before .before .before .before .before .before .before .before .before .before .is-clean .ensures in
     let b = c .before .before .before .before .before .before .before .before .before .before .before .before .before .before .lent-number .ensures in
-    (rw (f .0, w, b, i), (rw (f .1 .0, w, b, i), rw (k, f .1 .1, w, b, i)))
+    record { answer = ap came (rw (f .0, w, b, i)); mapIs = rw (f .1 .0, w, b, i); stagingIs = rw (k, f .1 .1, w, b, i) }
 
 pub take-part-spec : {M : Type 1} → statement M
 take-part-spec =

@@ -1,3 +1,0 @@
-pub mod Messages
-pub mod Added
-pub mod Instance

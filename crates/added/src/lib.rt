@@ -1,1 +1,0 @@
-// No code: the leg that extend adds, with honest nodes.

@@ -1,0 +1,2 @@
+pub mod AuditorLaws
+pub mod BatchesLaws

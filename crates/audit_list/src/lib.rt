@@ -1,0 +1,3 @@
+// A lent list of records walked, and batches of it.
+pub mod auditor;
+pub mod batches;

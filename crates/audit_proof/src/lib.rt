@@ -1,0 +1,1 @@
+// No code: which logs are accepted, and that those of our own client are.

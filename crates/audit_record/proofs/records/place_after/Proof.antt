@@ -1,0 +1,19 @@
+use Rattle.audit_record.specs.Records.{placeAfter}
+use borrow.Author.Tests.{lt-ltb, le-ltb}
+use borrow.Author.Needs.{needs}
+use Rattle.audit_record.proofs.records.place_after.Statement.{statement}
+use Rattle.audit_record.proofs.records.place_after.Tie as tie
+
+add-result : tie.Need-add-result
+add-result c = search needs
+
+returns : tie.Need-returns
+unfolding placeAfter
+returns c = simp (lt-ltb _ _ (c .if1 .taken))
+
+returns-2 : tie.Need-returns-2
+unfolding placeAfter
+returns-2 c = simp (le-ltb _ _ (c .if1 .left))
+
+pub place-after-spec : {M : Type 1} → statement M
+place-after-spec = tie.close (tie.spec add-result returns returns-2)

@@ -1,0 +1,3 @@
+// Log records, and the journal of our own client.
+pub mod journal;
+pub mod records;

@@ -1,6 +1,0 @@
-pub mod Begin
-pub mod Course
-pub mod Demand3
-pub mod Since
-pub mod Instance
-pub mod Version

@@ -1,0 +1,4 @@
+// Join, extend, enable, maintenance.
+pub mod enables;
+pub mod extending;
+pub mod joins;

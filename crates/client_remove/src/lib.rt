@@ -1,0 +1,3 @@
+// Remove, and the awaited answers.
+pub mod answers;
+pub mod removal;

@@ -1,0 +1,3 @@
+// The state rules tested; what breaks a row of empty answers.
+pub mod breaking;
+pub mod rules;

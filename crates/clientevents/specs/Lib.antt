@@ -1,4 +1,0 @@
-pub mod Events
-pub mod Demand1
-pub mod Reached
-pub mod Unique

@@ -1,2 +1,0 @@
-pub mod Inverse
-mod Laws

@@ -1,6 +1,0 @@
-pub mod Either
-pub mod Writes
-pub mod Fills
-pub mod Maps
-pub mod Arrival
-pub mod Instance

@@ -1,1 +1,0 @@
-// No code: which events of a node may change places, and where the order is seen.

@@ -1,0 +1,3 @@
+pub mod DifferencesLaws
+pub mod DumpsLaws
+pub mod Places

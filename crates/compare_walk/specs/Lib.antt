@@ -1,0 +1,4 @@
+pub mod Differences
+pub mod DifferencesLaws
+pub mod Dumps
+pub mod DumpsLaws

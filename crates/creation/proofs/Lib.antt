@@ -1,3 +1,0 @@
-pub mod Past
-pub mod Creation
-pub mod Worked

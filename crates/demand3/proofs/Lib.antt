@@ -1,3 +1,0 @@
-pub mod Demand
-pub mod Heard
-pub mod Instance

@@ -1,1 +1,0 @@
-// No code: demand 3, both halves as one theorem.

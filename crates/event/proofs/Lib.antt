@@ -1,0 +1,2 @@
+pub mod ClientCalled
+pub mod NodeCalled

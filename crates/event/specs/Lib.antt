@@ -1,0 +1,2 @@
+pub mod OfClient
+pub mod OfNode

@@ -1,0 +1,3 @@
+// The two questions to a node, over maps lent in part.
+pub mod ask;
+pub mod lending;

@@ -1,0 +1,4 @@
+pub mod Alike
+pub mod Fills
+pub mod Laws
+pub mod Spelt

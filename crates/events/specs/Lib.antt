@@ -1,4 +1,0 @@
-pub mod Events
-pub mod Demand1
-pub mod Demand2
-pub mod Said

@@ -1,1 +1,0 @@
-// No code: the client's events as one type, and what holds of all of them.

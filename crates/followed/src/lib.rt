@@ -1,1 +1,0 @@
-// No code: a history that keeps the premises of C-15, followed by computing.

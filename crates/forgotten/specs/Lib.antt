@@ -1,2 +1,0 @@
-pub mod Premises
-pub mod Forgotten

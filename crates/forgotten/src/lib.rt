@@ -1,1 +1,0 @@
-// No code: no missed chunk is forgotten, proved of every history that keeps the premises.

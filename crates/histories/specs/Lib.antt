@@ -1,2 +1,0 @@
-pub mod World
-pub mod History

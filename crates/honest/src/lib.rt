@@ -1,1 +1,0 @@
-// No code: a recovery run among honest nodes, the second half of demand 3.

@@ -1,9 +1,0 @@
-pub mod Ids
-pub mod Rosters
-pub mod Changes
-pub mod Pools
-pub mod Runs
-pub mod Links
-pub mod Joins
-pub mod Tried
-pub mod Records

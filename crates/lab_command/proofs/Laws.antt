@@ -1,0 +1,17 @@
+-- When a line is passed over.
+use Prim.Native.Nat.{ℕ, _<_}
+use mathlib.Core.Path.{_≡_, refl}
+use mathlib.Core.Bool.{true}
+use mathlib.Core.List.{List, [], _∷_}
+use native.Mathlib.Omega.{arith}
+use lib.ListN.{length, getD}
+use lib.Dec.{eqb}
+use Rattle.lab_command.specs.Commands.{passedOver}
+
+pub passed-empty : (s : List ℕ) → length s ≡ 0 → passedOver s ≡ true
+passed-empty [] h = refl
+passed-empty (b ∷ s) h = absurd (omega arith)
+
+pub passed-first : (s : List ℕ) → 0 < length s → passedOver s ≡ eqb (getD s 0 0) 35
+passed-first [] h = absurd (omega arith)
+passed-first (b ∷ s) h = refl

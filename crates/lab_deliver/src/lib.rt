@@ -1,0 +1,3 @@
+// Messages to their nodes, and the answers back.
+pub mod delivery;
+pub mod post;

@@ -1,0 +1,3 @@
+pub mod ClientLent
+pub mod Fetched
+pub mod NodeLent

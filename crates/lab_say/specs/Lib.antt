@@ -1,0 +1,4 @@
+pub mod NodeLine
+pub mod Row
+pub mod Say
+pub mod Text

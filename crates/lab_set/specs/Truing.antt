@@ -1,0 +1,20 @@
+-- A row's six words made true of a map: what a byte that is put into a node's map does to that node's summaries.
+use mathlib.Core.List.{List}
+use Prim.Native.Nat.{ℕ, _+_, _*_}
+use lib.Dec.{ltb}
+use lib.ListN.{getD, set}
+use Rattle.laws_words.specs.Words.{pick}
+use Rattle.laws_words.specs.Loops.{runAt}
+use Rattle.rules_base.specs.Limits.{mapBytes}
+use Rattle.rules_base.specs.Summary.{summariesOf}
+use Rattle.event_ask.specs.Lending.{part}
+use Rattle.lab_state.specs.declared.Lab.{Lab}
+use Rattle.lab_state.specs.Bench.{nodeAt, withNode}
+
+-- member m's six words those of the map, the others as they were; there is no member past 15
+unfoldable pub rowTrued : ℕ → List ℕ → List ℕ → List ℕ
+rowTrued m xs words = pick (ltb m 16) (runAt (λ j ws. set ws (6 * m + j) (getD (summariesOf xs) (6 * m + j) 0)) 6 0 words) words
+
+-- the same at node n of the lab, whose maps are xs; there is no node past 15
+unfoldable pub trued : Lab → ℕ → ℕ → List ℕ → Lab
+trued l n m xs = withNode l n (record { node = nodeAt l n .node; summaries = rowTrued m (part xs n mapBytes) (nodeAt l n .summaries) })

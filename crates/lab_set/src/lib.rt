@@ -1,0 +1,3 @@
+// Maps and summaries set by a command.
+pub mod arranging;
+pub mod truing;

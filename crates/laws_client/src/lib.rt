@@ -1,0 +1,1 @@
+// No code: laws about the client's rules, each stated once. Nothing here is to be believed.

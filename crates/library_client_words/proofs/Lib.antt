@@ -1,0 +1,3 @@
+pub mod ClientInverse
+mod Laws
+pub mod PoolInverse

@@ -1,0 +1,3 @@
+pub mod ClientWords
+pub mod Inverse
+pub mod PoolWords

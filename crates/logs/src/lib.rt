@@ -1,1 +1,0 @@
-// No code: which logs the auditor accepts, and what it names otherwise.

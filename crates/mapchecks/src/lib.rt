@@ -1,1 +1,0 @@
-// No code: what map check comes to over a history of events.

@@ -1,3 +1,0 @@
-pub mod Puts
-pub mod Rows
-pub mod Laws

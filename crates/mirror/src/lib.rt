@@ -1,1 +1,0 @@
-// No code: the client's pool seen as the simplified one.

@@ -1,1 +1,0 @@
-// No code: nodes seen as those of the simplified pool.

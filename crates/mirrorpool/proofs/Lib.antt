@@ -1,3 +1,0 @@
-pub mod Joins
-pub mod Writes
-pub mod Extends

@@ -1,1 +1,0 @@
-// No code: joins, the hand enable, writes, syncs and extend as courses of the simplified pool.

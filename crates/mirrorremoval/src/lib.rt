@@ -1,1 +1,0 @@
-// No code: removals as courses of the simplified pool.

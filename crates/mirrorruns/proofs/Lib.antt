@@ -1,3 +1,0 @@
-pub mod Enters
-pub mod Normal
-pub mod Answers

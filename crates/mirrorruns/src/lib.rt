@@ -1,1 +1,0 @@
-// No code: answers in a run as courses of the simplified pool.

@@ -1,1 +1,0 @@
-// No code: the client and its nodes seen as the simplified pool, whatever happens to them.

@@ -1,0 +1,3 @@
+// A map given, and a map taken.
+pub mod hand;
+pub mod serve;

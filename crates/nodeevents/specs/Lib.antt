@@ -1,6 +1,0 @@
-pub mod Tests
-pub mod Demand1
-pub mod Demand2
-pub mod Unique
-pub mod Said
-pub mod Summaries

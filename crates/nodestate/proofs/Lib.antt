@@ -1,4 +1,0 @@
-pub mod Laws
-pub mod Tables
-pub mod Valid
-pub mod Passed

@@ -1,5 +1,0 @@
-pub mod States
-pub mod Change
-pub mod StateRules
-pub mod Table
-pub mod Turns

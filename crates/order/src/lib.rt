@@ -1,1 +1,0 @@
-// No code: what it means that a refusal is the first of document 01's table that applies.

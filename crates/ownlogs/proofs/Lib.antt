@@ -1,5 +1,0 @@
-pub mod Turns
-pub mod Alike
-pub mod Own
-pub mod Instance
-pub mod Lab

@@ -1,3 +1,0 @@
-pub mod Alike
-pub mod Own
-pub mod Lab

@@ -1,1 +1,0 @@
-// No code: the log that our own client writes is accepted.

@@ -1,3 +1,0 @@
-pub mod Clean
-pub mod Joined
-pub mod Part

@@ -1,3 +1,0 @@
-pub mod Kept
-pub mod Steps
-pub mod Worked

@@ -1,0 +1,16 @@
+pub mod Chunk
+pub mod Empty
+pub mod Fill
+pub mod Limits
+pub mod Map
+pub mod Mend
+pub mod MendLaws
+pub mod Order
+pub mod Parts
+pub mod Refusals
+pub mod Scan
+pub mod Search
+pub mod SearchLaws
+pub mod Sets
+pub mod Summary
+pub mod SummaryLaws

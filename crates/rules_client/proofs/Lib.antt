@@ -1,0 +1,5 @@
+pub mod Unique
+pub mod WorkedEvents
+pub mod WorkedRemoval
+pub mod WorkedRules
+pub mod WorkedWrites

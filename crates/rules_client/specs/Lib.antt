@@ -1,0 +1,13 @@
+pub mod Answers
+pub mod Client
+pub mod ClientEvents
+pub mod Enables
+pub mod Events
+pub mod Extend
+pub mod Joins
+pub mod Links
+pub mod MapCheck
+pub mod Removal
+pub mod Remove
+pub mod Unique
+pub mod Writes

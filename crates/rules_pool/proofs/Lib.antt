@@ -1,0 +1,2 @@
+pub mod WorkedRules
+pub mod WorkedRun

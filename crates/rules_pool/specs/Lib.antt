@@ -1,0 +1,13 @@
+pub mod Breaking
+pub mod Cases
+pub mod Changes
+pub mod Exit
+pub mod Jobs
+pub mod Past
+pub mod Recovery
+pub mod Run
+pub mod Session
+pub mod Sessions
+pub mod StateRules
+pub mod Still
+pub mod Table

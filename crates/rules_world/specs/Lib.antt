@@ -1,0 +1,4 @@
+pub mod History
+pub mod Station
+pub mod Together
+pub mod Whole

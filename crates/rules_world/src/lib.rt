@@ -1,0 +1,1 @@
+// No code: one client with its nodes, and the histories of such a pool.

@@ -1,5 +1,0 @@
-pub mod Spans
-pub mod Among
-pub mod First
-pub mod Looks
-pub mod Laws

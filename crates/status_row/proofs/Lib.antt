@@ -1,0 +1,3 @@
+pub mod DescriptorsLaws
+pub mod ReaderLaws
+pub mod WriterLaws

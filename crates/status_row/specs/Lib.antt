@@ -1,0 +1,4 @@
+pub mod Descriptors
+pub mod Reading
+pub mod Volume
+pub mod Writing

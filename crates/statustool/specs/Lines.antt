@@ -1,8 +1,0 @@
--- What the tool says of a refusal.
-use mathlib.Core.List.{List, [], _∷_}
-use Prim.Native.Nat.{ℕ}
-use Rattle.text.specs.Bytes.{bytes}
-use Rattle.text.specs.Ink.{decimal}
-
-unfoldable pub refusedLine : ℕ → List (List ℕ)
-refusedLine n = bytes "refused " ∷ decimal n ∷ (10 ∷ []) ∷ []

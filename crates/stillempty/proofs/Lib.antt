@@ -1,4 +1,0 @@
-pub mod Rows
-pub mod Calm
-pub mod Arrivals
-pub mod StillEmpty

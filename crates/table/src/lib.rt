@@ -1,1 +1,0 @@
-// No code: the starred rows of the tester's table.

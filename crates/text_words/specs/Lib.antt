@@ -1,0 +1,3 @@
+pub mod Fetching
+pub mod Lines
+pub mod Names

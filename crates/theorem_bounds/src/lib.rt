@@ -1,0 +1,1 @@
+// No code: how long a recovery run lasts.

@@ -1,0 +1,1 @@
+// No code: what holds of all of the client's events.

@@ -1,0 +1,3 @@
+pub mod Creation
+pub mod Past
+pub mod Worked

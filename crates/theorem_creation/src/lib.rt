@@ -1,0 +1,1 @@
+// No code: the creation hole is closed.

@@ -1,0 +1,12 @@
+pub mod Arrives
+pub mod Client
+pub mod Extends
+pub mod Ground
+pub mod Hand
+pub mod Joins
+pub mod Own
+pub mod Refused
+pub mod Removes
+pub mod Tells
+pub mod Theorem
+pub mod Writes

@@ -1,0 +1,2 @@
+pub mod Forgotten
+pub mod Premises

@@ -1,0 +1,1 @@
+// No code: no missed chunk is forgotten.

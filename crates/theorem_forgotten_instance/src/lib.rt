@@ -1,0 +1,1 @@
+// No code: a history that meets the premises.

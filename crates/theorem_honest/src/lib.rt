@@ -1,0 +1,1 @@
+// No code: a recovery run with honest nodes, whole.

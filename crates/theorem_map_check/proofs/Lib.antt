@@ -1,0 +1,9 @@
+pub mod Arrivals
+pub mod Calm
+pub mod Clearing
+pub mod Dues
+pub mod Node
+pub mod Rows
+pub mod Steps
+pub mod StillEmpty
+pub mod StillRows

@@ -1,0 +1,4 @@
+pub mod Checks
+pub mod Node
+pub mod StillEmpty
+pub mod Watched

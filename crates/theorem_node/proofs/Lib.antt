@@ -1,0 +1,11 @@
+pub mod Arrival
+pub mod Demand1
+pub mod Demand2
+pub mod Either
+pub mod Fills
+pub mod Maps
+pub mod Parts
+pub mod Received
+pub mod Said
+pub mod Summaries
+pub mod Writes

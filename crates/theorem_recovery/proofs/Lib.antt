@@ -1,0 +1,4 @@
+pub mod Added
+pub mod Demand
+pub mod Heard
+pub mod Messages

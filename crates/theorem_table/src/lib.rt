@@ -1,0 +1,1 @@
+// No code: the tester's table.
