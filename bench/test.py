@@ -3,7 +3,6 @@
   python3 -m bench.test        with kept answers; the program is compiled for it, not proved (some seconds, once), and asked a few lines
   python3 -m bench.test keep   runs the lab on the small histories that are tried here, and keeps its answers in bench/test.kept
   python3 -m bench.test real   the same tests with the lab itself, and what needs too many answers to be kept: a thousand histories of each kind
-  python3 -m bench.test dialogue   a dialogue with the lab itself, line by line over a pipe
 
 The kept answers are the proved program's, of small histories with the looks that the scripts put between their commands. The large ones are crates/lab/stdin and crates/lab/stdout, which
 the gate compares with what the program writes.
@@ -1009,16 +1008,15 @@ def written_out(step):
 
 def main():
     mode = sys.argv[1] if len(sys.argv) == 2 else "kept" if len(sys.argv) == 1 else ""
-    if mode not in ("kept", "keep", "real", "dialogue"):
+    if mode not in ("kept", "keep", "real"):
         sys.exit(__doc__)
-    if mode == "dialogue":
-        return try_dialogue(build.command("lab"))
     lab = Lab(mode)
     for test in (try_language, try_reading, try_fitting, try_driver, try_large_check, try_errors, try_messages, try_disagreement, try_ticks, try_columns, try_by_poke, try_writes):
         test()
     for test in (try_chance, try_generate, try_turns, try_expect, try_log, try_slips, try_why, try_spread, try_many):
         test()
     try_dialogue([sys.executable, "-c", AT_ONCE])
+    try_dialogue(build.command("lab"))
     try_cells(mode)
     for test in (try_check, try_update, try_trace, try_cover, try_questions, try_chart, try_guide, try_page, try_page_of_pokes):
         test(lab)

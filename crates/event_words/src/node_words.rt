@@ -103,7 +103,7 @@ pub fn pack(n: Node) -> [u64; 32]
 }
 
 // Any 32 words give a state.
-fn unpack(ws: [u64; 32]) -> Node
+pub fn unpack(ws: [u64; 32]) -> Node
     ensures { λ r. ⌜ r ≡ unpacked ws ⌝ }
 {
     let kept = [

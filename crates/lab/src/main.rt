@@ -1,14 +1,12 @@
 // A history from standard input, its answers on standard output: one line for each command.
 pub mod obeying;
 
-ghost use Prim.Native.Nat.{_<_};
 use crate::obeying::Obeyed;
 use audit_record::journal::Journal;
 use lab_form::Command;
 use lab_say_line::Said;
 use lab_state::Lab;
 use rules_client::Check;
-use rules_node::Node;
 use rules_pool::Pool;
 use text_words::fetching::Cur;
 use text_words::fetching::Got;
@@ -24,13 +22,18 @@ pub struct Stand {
 
 fn main() {
     let mut own = [0u8; 8192];
+    let mut states = [[0u64; 32]; 16];
+    let mut sums = [[0u64; 96]; 16];
     let mut maps = [0u8; 131072];
     let mut stagings = [0u8; 131072];
     let mut buf = [0u8; 4096];
     let mut line = [0u8; 256];
     let mut out = [0u8; 32768];
+    lab_places::arrange_states(Command::Pool(false, 4096), &mut states);
     run_all(
         &mut own,
+        &mut states,
+        &mut sums,
         &mut maps,
         &mut stagings,
         &mut buf,
@@ -42,6 +45,8 @@ fn main() {
 // From the first line of standard input to its end. The turns are counted so that the loop ends whatever is read; no run uses them up.
 pub fn run_all(
     own: &mut [u8],
+    states: &mut [[u64; 32]],
+    sums: &mut [[u64; 96]],
     maps: &mut [u8],
     stagings: &mut [u8],
     buf: &mut [u8],
@@ -51,7 +56,7 @@ pub fn run_all(
     let mut s = begin();
     let mut turns = u64::MAX;
     while turns > 0 && s.go {
-        s = turn(s, own, maps, stagings, buf, line, out);
+        s = turn(s, own, states, sums, maps, stagings, buf, line, out);
         turns -= 1;
     }
 }
@@ -72,75 +77,113 @@ fn begin() -> Stand {
 fn turn(
     s: Stand,
     own: &mut [u8],
+    states: &mut [[u64; 32]],
+    sums: &mut [[u64; 96]],
     maps: &mut [u8],
     stagings: &mut [u8],
     buf: &mut [u8],
     line: &mut [u8],
     out: &mut [u8],
 ) -> Stand {
-    let cur = s.cur;
-    let l = s.lab;
-    let j = s.log;
-    let c = text_words::fetching::fetch(cur, buf, line);
-    step(l, j, c, s.at, line, own, maps, stagings, out)
+    let t = take(s, buf, line, out);
+    let c = command_of(t, line);
+    obeyed(t, c, own, states, sums, maps, stagings, out)
 }
 
-// The command of what was read, obeyed.
-fn step(
-    l: Lab,
-    j: Journal,
-    c: Cur,
-    at: usize,
-    line: &[u8],
+// A line that is passed over ends here.
+fn obeyed(
+    s: Stand,
+    c: Command,
     own: &mut [u8],
+    states: &mut [[u64; 32]],
+    sums: &mut [[u64; 96]],
     maps: &mut [u8],
     stagings: &mut [u8],
     out: &mut [u8],
 ) -> Stand {
-    let d = obeying::obey(l, j, command_of(c, line), own, maps, stagings);
-    answer(d, c, at, own, maps, stagings, out)
+    let none = is_passed(c);
+    if none {
+        return onward(s, out);
+    }
+    step(s, c, own, states, sums, maps, stagings, out)
 }
 
-// What is said of it, written.
+// More of the line is taken. What is answered so far is written before more is read: whoever waits for it may send the next line only then.
+fn take(mut s: Stand, buf: &mut [u8], line: &mut [u8], out: &mut [u8]) -> Stand {
+    let cur = s.cur;
+    let at = s.at;
+    s.at = settled(cur, at, out);
+    s.cur = text_words::fetching::fetch(cur, buf, line);
+    s
+}
+
+fn settled(c: Cur, at: usize, out: &mut [u8]) -> usize {
+    if c.pos < c.end {
+        return at;
+    }
+    flush(at, out)
+}
+
+fn is_passed(c: Command) -> bool {
+    let Command::Passed = c else {
+        return false;
+    };
+    true
+}
+
+// The command obeyed, and what is said of it written.
+fn step(
+    s: Stand,
+    m: Command,
+    own: &mut [u8],
+    states: &mut [[u64; 32]],
+    sums: &mut [[u64; 96]],
+    maps: &mut [u8],
+    stagings: &mut [u8],
+    out: &mut [u8],
+) -> Stand {
+    let l = s.lab;
+    let j = s.log;
+    let d = obeying::obey(l, j, m, own, states, sums, maps, stagings);
+    answer(s, d, own, states, maps, stagings, out)
+}
+
 fn answer(
+    s: Stand,
     d: Obeyed,
-    c: Cur,
-    at: usize,
     own: &[u8],
+    states: &[[u64; 32]],
     maps: &[u8],
     stagings: &[u8],
     out: &mut [u8],
 ) -> Stand {
+    let at = write_line(d, s.at, own, states, maps, stagings, out);
+    onward(after(s, d, at), out)
+}
+
+fn after(mut s: Stand, d: Obeyed, at: usize) -> Stand {
     let l = d.lab;
     let j = d.log;
-    let s = d.said;
-    let to = write_line(
-        s,
-        pool_of(l),
-        check_of(l),
-        node_of(l, s),
-        at,
-        own,
-        maps,
-        stagings,
-        out,
-    );
-    onward(l, j, c, to, out)
+    s.lab = l;
+    s.log = j;
+    s.at = at;
+    s
 }
 
 fn write_line(
-    s: Said,
-    p: Pool,
-    k: Check,
-    n: Node,
+    d: Obeyed,
     at: usize,
     own: &[u8],
+    states: &[[u64; 32]],
     maps: &[u8],
     stagings: &[u8],
     out: &mut [u8],
 ) -> usize {
+    let l = d.lab;
+    let s = d.said;
+    let n = lab_places::state_in(number_of(s), states);
     let to = room(at, out);
-    let to = lab_say_line::put_line(out, to, s, p, k, n);
+    let to = lab_say_line::put_line(out, to, s, pool_of(l), check_of(l), n);
     row_line(to, s, own, maps, stagings, out)
 }
 
@@ -163,22 +206,6 @@ fn check_of(l: Lab) -> Check {
 }
 
 // The node that a command went to or looks at; the first where there is none.
-fn node_of(l: Lab, s: Said) -> Node {
-    let i = place_of(s);
-    let n = l.nodes[i];
-    n.node
-}
-
-fn place_of(s: Said) -> usize
-    ensures { λ r. ⌜ r < 16 ⌝ }
-{
-    let n = number_of(s);
-    if 15 < n {
-        return 0;
-    }
-    n as usize
-}
-
 fn number_of(s: Said) -> u64 {
     match s {
         Said::Node(n) => n,
@@ -190,7 +217,8 @@ fn number_of(s: Said) -> u64 {
 }
 
 // The line's command; a line that goes on has none yet.
-fn command_of(c: Cur, line: &[u8]) -> Command {
+fn command_of(s: Stand, line: &[u8]) -> Command {
+    let c = s.cur;
     let k = c.kind;
     let Got::Part = k else {
         return lab_command::reading::to_command(c.len, line);
@@ -199,31 +227,20 @@ fn command_of(c: Cur, line: &[u8]) -> Command {
 }
 
 // The line goes on, the next one begins, or all that is left is written.
-fn onward(l: Lab, j: Journal, c: Cur, at: usize, out: &mut [u8]) -> Stand {
+fn onward(mut s: Stand, out: &mut [u8]) -> Stand {
+    let c = s.cur;
     let k = c.kind;
     match k {
-        Got::Part => Stand {
-            lab: l,
-            log: j,
-            cur: c,
-            at: at,
-            go: true,
-        },
-        Got::Whole => Stand {
-            lab: l,
-            log: j,
-            cur: text_words::fetching::fresh(c),
-            at: at,
-            go: true,
-        },
-        Got::End => Stand {
-            lab: l,
-            log: j,
-            cur: c,
-            at: flush(at, out),
-            go: false,
-        },
+        Got::Part => {}
+        Got::Whole => {
+            s.cur = text_words::fetching::fresh(c);
+        }
+        Got::End => {
+            s.at = flush(s.at, out);
+            s.go = false;
+        }
     }
+    s
 }
 
 // Writes what stands in out up to at.

@@ -2,156 +2,190 @@
 use audit_record::journal::Journal;
 use client::Client;
 use event::Event;
-use event::NodeEvent;
 use event::Question;
 use event_ask::ask::Finding;
-use lab_deliver::delivery::Reported;
+use lab_deliver::delivery::Task;
 use lab_form::Command;
 use lab_form::Which;
 use lab_say_line::Said;
 use lab_state::Lab;
-use rules_pool::Answer;
+use rules_client::Check;
+use rules_node::Answer;
 use rules_pool::Roster;
 use rules_pool::Sent;
+use rules_pool::Told;
 
-// The lab after a command, its log, and what is said.
+// The lab after a command, its log, what is said, and the messages that are not awaited.
 pub struct Obeyed {
     pub lab: Lab,
     pub log: Journal,
     pub said: Said,
+    pub told: Told,
 }
 
+// What follows at the client: its event, or nothing but what is said.
+pub enum Then {
+    Event(Event),
+    Said(Said),
+}
+
+// A question to a node; to 16, which is none, where nothing is asked.
+pub struct Asking {
+    pub to: u64,
+    pub question: Question,
+}
+
+// What the nodes answered, and what the one that was asked found.
+pub struct Came {
+    pub answer: Answer,
+    pub finding: Finding,
+}
+
+// One after the other, each idle where the command does not ask for it: what the nodes are told, what a node is asked, what sets the lab up, the client's event, and the messages that come of it.
 pub(crate) fn obey(
     l: Lab,
     j: Journal,
     c: Command,
     own: &mut [u8],
+    states: &mut [[u64; 32]],
+    sums: &mut [[u64; 96]],
     maps: &mut [u8],
     stagings: &mut [u8],
 ) -> Obeyed {
-    match c {
-        Command::Client(e) => client_event(l, j, e, own, maps, stagings),
-        Command::Node(n, e) => node_event(l, j, n, e, maps, stagings),
-        Command::Take(n, m) => take(l, j, n, m, maps, stagings),
-        Command::Deliver => deliver(l, j, own, maps, stagings),
-        Command::Ask(n, q) => ask(l, j, n, q, maps, stagings),
-        Command::DeliverCheck => deliver_check(l, j, own, maps, stagings),
-        _ => arrange(l, j, c, own, maps, stagings),
-    }
+    let t = nodes_turn(l, j, c, own, states, sums, maps, stagings);
+    let next = lab_state::arrange(l, c);
+    client_turn(next, log_after(j, c), t, own, states, sums, maps, stagings)
 }
 
-fn client_event(
+fn nodes_turn(
     l: Lab,
     j: Journal,
-    e: Event,
+    c: Command,
     own: &mut [u8],
+    states: &mut [[u64; 32]],
+    sums: &mut [[u64; 96]],
     maps: &mut [u8],
     stagings: &mut [u8],
-) -> Obeyed {
-    let before = l.client;
+) -> Then {
+    let n = serve(l, c, states, sums, maps, stagings);
+    let a = n.answer;
+    let f = n.finding;
+    arrange(c, own, states, sums, maps, stagings);
+    then_of(l, j, c, a, f)
+}
+
+fn serve(
+    l: Lab,
+    c: Command,
+    states: &mut [[u64; 32]],
+    sums: &mut [[u64; 96]],
+    maps: &mut [u8],
+    stagings: &mut [u8],
+) -> Came {
     let lent = l.lent;
-    let o = lab_lend::client_event::client_event(before, lent, e, own, maps);
-    let a = o.answer;
-    let c = o.client;
-    let log = audit_record::journal::enter(j, e, a, roster_of(c));
-    match a {
-        Answer::Refused(n) => Obeyed {
-            lab: l,
-            log: log,
-            said: Said::Refused(n),
+    let a = lab_deliver::delivery::run(task_of(l, c), l.cut, lent, states, sums, maps, stagings);
+    let f = ask(asking_of(l, c), l, states, sums, maps, stagings);
+    Came {
+        answer: a,
+        finding: f,
+    }
+}
+
+fn client_turn(
+    l: Lab,
+    j: Journal,
+    t: Then,
+    own: &mut [u8],
+    states: &mut [[u64; 32]],
+    sums: &mut [[u64; 96]],
+    maps: &mut [u8],
+    stagings: &mut [u8],
+) -> Obeyed {
+    let o = client_part(l, j, t, own, maps);
+    let told = o.told;
+    let lent = l.lent;
+    lab_deliver::delivery::tell_all(told, lent, states, sums, maps, stagings);
+    o
+}
+
+fn task_of(l: Lab, c: Command) -> Task {
+    let m = l.awaited;
+    match c {
+        Command::Node(n, e) => lab_deliver::delivery::telling(n, e),
+        Command::Take(n, m) => lab_deliver::delivery::taking(n, m),
+        Command::Deliver => lab_deliver::delivery::sending(m),
+        _ => lab_deliver::delivery::nothing(),
+    }
+}
+
+fn asking_of(l: Lab, c: Command) -> Asking {
+    match c {
+        Command::Ask(n, q) => Asking { to: n, question: q },
+        Command::DeliverCheck => Asking {
+            to: lab_deliver::delivery::check_asked(check_of(l)),
+            question: Question::MapCheck,
         },
-        Answer::Done(sent) => accepted(l, log, c, sent, maps, stagings),
+        _ => Asking {
+            to: Client::MEMBERS,
+            question: Question::MapCheck,
+        },
     }
 }
 
-fn roster_of(c: Client) -> Roster {
-    let p = c.pool;
-    p.roster
-}
-
-// The messages that are not awaited go to their nodes where auto is on.
-fn accepted(
+fn ask(
+    a: Asking,
     l: Lab,
-    j: Journal,
-    c: Client,
-    sent: Sent,
-    maps: &mut [u8],
-    stagings: &mut [u8],
-) -> Obeyed {
-    let awaited = sent.awaited;
-    let told = sent.told;
-    let k = lab_state::after(l, c, awaited, sent.number);
-    let next = lab_deliver::delivery::tell_auto(k, told, maps, stagings);
-    Obeyed {
-        lab: next,
-        log: j,
-        said: Said::Client(sent),
+    states: &[[u64; 32]],
+    sums: &[[u64; 96]],
+    maps: &[u8],
+    stagings: &[u8],
+) -> Finding {
+    let q = a.question;
+    let lent = l.lent;
+    lab_deliver::delivery::ask(a.to, q, lent, states, sums, maps, stagings)
+}
+
+fn check_of(l: Lab) -> Check {
+    let c = l.client;
+    c.check
+}
+
+// a: what the nodes answered. f: what a node found.
+fn then_of(l: Lab, j: Journal, c: Command, a: Answer, f: Finding) -> Then {
+    match c {
+        Command::Client(e) => Then::Event(e),
+        Command::Node(n, e) => Then::Said(node_said(n, a)),
+        Command::Take(n, m) => Then::Said(node_said(n, a)),
+        Command::Deliver => delivered(l, a),
+        Command::Ask(n, q) => Then::Said(found_said(n, f)),
+        Command::DeliverCheck => checked(check_of(l), f),
+        _ => Then::Said(said_of(j, c)),
     }
 }
 
-fn node_event(
-    l: Lab,
-    j: Journal,
-    n: u64,
-    e: NodeEvent,
-    maps: &mut [u8],
-    stagings: &mut [u8],
-) -> Obeyed {
-    let r = lab_deliver::delivery::node_event(l, n, e, maps, stagings);
-    let next = r.lab;
-    let a = r.answer;
-    Obeyed {
-        lab: next,
-        log: j,
-        said: node_said(n, a),
-    }
-}
-
-// Node n takes node m's map, part by part; what is said is the last one's.
-fn take(l: Lab, j: Journal, n: u64, m: u64, maps: &mut [u8], stagings: &mut [u8]) -> Obeyed {
-    let r = lab_deliver::delivery::take(l, n, m, maps, stagings);
-    let next = r.lab;
-    let a = r.answer;
-    Obeyed {
-        lab: next,
-        log: j,
-        said: node_said(n, a),
-    }
-}
-
-fn node_said(n: u64, a: rules_node::Answer) -> Said {
-    match a {
-        rules_node::Answer::Refused(why) => Said::Refused(why),
-        rules_node::Answer::Done => Said::Node(n),
-        rules_node::Answer::Version(v) => Said::Node(n),
-    }
-}
-
-// The awaited message to its node, and the node's answer to the client.
-fn deliver(l: Lab, j: Journal, own: &mut [u8], maps: &mut [u8], stagings: &mut [u8]) -> Obeyed {
+// The client gets the answer to the awaited message.
+fn delivered(l: Lab, a: Answer) -> Then {
     let m = l.awaited;
     let none = client_state::state::is_nothing(m);
     if none {
-        return Obeyed {
-            lab: l,
-            log: j,
-            said: Said::Idle,
-        };
+        return Then::Said(Said::Idle);
     }
-    let number = l.number as u64;
-    let r = lab_deliver::delivery::deliver(l, m, maps, stagings);
-    let next = r.lab;
-    let a = r.reply;
-    client_event(next, j, Event::Answer(number, a), own, maps, stagings)
+    Then::Event(Event::Answer(l.number as u64, lab_deliver::post::reply_of(a)))
 }
 
-// What node n answers to a question.
-fn ask(l: Lab, j: Journal, n: u64, q: Question, maps: &[u8], stagings: &[u8]) -> Obeyed {
-    let f = lab_deliver::delivery::ask(l, n, q, maps, stagings);
-    Obeyed {
-        lab: l,
-        log: j,
-        said: found_said(n, f),
+// And that of the lowest due member to a map check.
+fn checked(k: Check, f: Finding) -> Then {
+    if k.due == 0 {
+        return Then::Said(Said::Idle);
+    }
+    Then::Event(lab_deliver::delivery::check_event(k, lab_deliver::delivery::check_asked(k), f))
+}
+
+fn node_said(n: u64, a: Answer) -> Said {
+    match a {
+        Answer::Refused(why) => Said::Refused(why),
+        Answer::Done => Said::Node(n),
+        Answer::Version(v) => Said::Node(n),
     }
 }
 
@@ -163,41 +197,73 @@ fn found_said(n: u64, f: Finding) -> Said {
     }
 }
 
-// Map check to the node of the lowest due member, and its answer to the client.
-fn deliver_check(
-    l: Lab,
-    j: Journal,
-    own: &mut [u8],
-    maps: &mut [u8],
-    stagings: &mut [u8],
-) -> Obeyed {
-    let r = lab_deliver::delivery::deliver_check(l, maps, stagings);
-    match r {
-        Reported::Nobody => Obeyed {
+fn client_part(l: Lab, j: Journal, t: Then, own: &mut [u8], maps: &[u8]) -> Obeyed {
+    match t {
+        Then::Said(s) => Obeyed {
             lab: l,
             log: j,
-            said: Said::Idle,
+            said: s,
+            told: Told::Nothing,
         },
-        Reported::Event(e) => client_event(l, j, e, own, maps, stagings),
+        Then::Event(e) => client_event(l, j, e, own, maps),
     }
 }
 
-// A line that sets the lab up, or looks at it.
+fn client_event(l: Lab, j: Journal, e: Event, own: &mut [u8], maps: &[u8]) -> Obeyed {
+    let before = l.client;
+    let lent = l.lent;
+    let o = lab_lend::client_event::client_event(before, lent, e, own, maps);
+    let a = o.answer;
+    let c = o.client;
+    let log = audit_record::journal::enter(j, e, a, roster_of(c));
+    answered(l, log, c, a)
+}
+
+fn answered(l: Lab, log: Journal, c: Client, a: rules_pool::Answer) -> Obeyed {
+    match a {
+        rules_pool::Answer::Refused(n) => Obeyed {
+            lab: l,
+            log: log,
+            said: Said::Refused(n),
+            told: Told::Nothing,
+        },
+        rules_pool::Answer::Done(sent) => accepted(l, log, c, sent),
+    }
+}
+
+fn roster_of(c: Client) -> Roster {
+    let p = c.pool;
+    p.roster
+}
+
+// The messages that are not awaited go to their nodes where auto is on.
+fn accepted(l: Lab, j: Journal, c: Client, sent: Sent) -> Obeyed {
+    let awaited = sent.awaited;
+    let told = sent.told;
+    Obeyed {
+        lab: lab_state::after(l, c, awaited, sent.number),
+        log: j,
+        said: Said::Client(sent),
+        told: told_if(l.auto, told),
+    }
+}
+
+fn told_if(auto: bool, t: Told) -> Told {
+    if auto { t } else { Told::Nothing }
+}
+
+// A line that sets the maps and the nodes up.
 fn arrange(
-    l: Lab,
-    j: Journal,
     c: Command,
     own: &mut [u8],
+    states: &mut [[u64; 32]],
+    sums: &mut [[u64; 96]],
     maps: &mut [u8],
     stagings: &mut [u8],
-) -> Obeyed {
-    arrange_maps(c, own, maps, stagings);
-    let next = lab_state::arrange(l, c);
-    Obeyed {
-        lab: arrange_words(next, c, maps),
-        log: log_after(j, c),
-        said: said_of(j, c),
-    }
+) {
+    lab_places::arrange_states(c, states);
+    lab_places::arrange_summaries(c, sums);
+    arrange_maps(c, own, sums, maps, stagings);
 }
 
 // A new pool's log is empty.
@@ -208,27 +274,29 @@ fn log_after(j: Journal, c: Command) -> Journal {
     audit_record::journal::fresh()
 }
 
-// A byte in a node's map: the six words of its row are made true of it.
-fn arrange_words(l: Lab, c: Command, maps: &[u8]) -> Lab {
-    match c {
-        Command::Byte(w, i, v) => true_words(l, w, i, maps),
-        _ => l,
-    }
-}
-
-fn true_words(l: Lab, w: Which, i: u64, maps: &[u8]) -> Lab {
-    match w {
-        Which::Client => l,
-        Which::Node(n) => lab_set::truing::true_row(l, n, i / 512, maps),
-        Which::Staging(n) => l,
-    }
-}
-
-fn arrange_maps(c: Command, own: &mut [u8], maps: &mut [u8], stagings: &mut [u8]) {
+fn arrange_maps(
+    c: Command,
+    own: &mut [u8],
+    sums: &mut [[u64; 96]],
+    maps: &mut [u8],
+    stagings: &mut [u8],
+) {
     match c {
         Command::Pool(sync, chunks) => lab_set::arranging::zero_all(own, maps, stagings),
-        Command::Byte(w, i, v) => lab_set::arranging::store(w, i, v, own, maps, stagings),
+        Command::Byte(w, i, v) => {
+            lab_set::arranging::store(w, i, v, own, maps, stagings);
+            lab_set::truing::true_row(row_place(w), i / 512, sums, maps)
+        }
         _ => {}
+    }
+}
+
+// A byte in a node's map: the six words of its row are made true of it. 16, no node's, for the other maps.
+fn row_place(w: Which) -> u64 {
+    match w {
+        Which::Client => Client::MEMBERS,
+        Which::Node(n) => n,
+        Which::Staging(n) => Client::MEMBERS,
     }
 }
 

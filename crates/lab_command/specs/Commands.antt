@@ -1,6 +1,6 @@
 -- A line of a history, its newline cut off, to its command.
 use Prim.Native.Nat.{ℕ}
-use mathlib.Core.Bool.{Bool, true, _&&_}
+use mathlib.Core.Bool.{Bool, true, _&&_, _||_}
 use mathlib.Core.List.{List, [], _∷_}
 use lib.ListN.{length}
 use lib.Dec.{ltb, eqb}
@@ -74,10 +74,13 @@ unfoldable pub meaning : Line → Command
 meaning l =
     clientEvents (formOf l) (checkEvents (formOf l) (searchEvents (formOf l) (wholeEvents (formOf l) (transferEvents (formOf l) (serviceEvents (formOf l) (storeEvents (formOf l) (stores (formOf l) (looks (formOf l) (pokes (formOf l) (fields (formOf l) (checks (formOf l) (words (formOf l) Command.Unreadable))))))))))))
 
--- An empty line, and one that begins with # (35), is passed over.
+-- An empty line is passed over, and one that begins with # (35), a comment, or with > (62), an answer that is expected.
+abbrev pub marks : ℕ → Bool
+marks b = eqb b 35 || eqb b 62
+
 abbrev pub passedOver : List ℕ → Bool
 passedOver [] = true
-passedOver (b ∷ s) = eqb b 35
+passedOver (b ∷ s) = marks b
 
 -- The command of a line. One longer than 255 bytes is unreadable.
 unfoldable pub commandOf : List ℕ → Command

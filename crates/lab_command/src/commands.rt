@@ -1,6 +1,6 @@
 // A line of a history to the command that it is.
 ghost use mathlib.Core.Path.{_≡_};
-ghost use Rattle.lab_command.specs.Commands.{looks as Commands·looks, stores as Commands·stores, pokes as Commands·pokes, fields as Commands·fields, checks as Commands·checks, words as Commands·words, meaning, commandOf};
+ghost use Rattle.lab_command.specs.Commands.{marks, looks as Commands·looks, stores as Commands·stores, pokes as Commands·pokes, fields as Commands·fields, checks as Commands·checks, words as Commands·words, meaning, commandOf};
 use lab_form::Command;
 use lab_form::Form;
 use lab_form::Which;
@@ -138,6 +138,13 @@ fn parse(l: Line) -> Command
     crate::events::client_events(f, crate::events::check_events(f, e))
 }
 
+// What a line that is passed over begins with: # for a comment, > for an answer that is expected.
+fn is_mark(b: u8) -> bool
+    ensures { λ r. ⌜ r ≡ marks b ⌝ }
+{
+    (b == 35) | (b == 62)
+}
+
 // A line, its newline cut off, to its command. A line longer than 255 bytes is none.
 pub fn read(s: &[u8]) -> Command
     ensures { λ r. ⌜ r ≡ commandOf (now (s .entry)) ⌝ }
@@ -145,7 +152,9 @@ pub fn read(s: &[u8]) -> Command
     if s.len() == 0 {
         return Command::Passed;
     }
-    if s[0] == 35 {
+    let b = s[0];
+    let over = is_mark(b);
+    if over {
         return Command::Passed;
     }
     if 255 < s.len() {

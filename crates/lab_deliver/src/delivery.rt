@@ -1,109 +1,118 @@
-// Messages to their nodes: a node's event, those that are not awaited, a map in parts, the awaited message with its answer, and map check with its own.
+// Messages to their nodes: a node's event, those that are not awaited, a map in parts, the awaited message, and questions. The nodes stand in their places, and their maps beside them.
 ghost use mathlib.Core.Path.{_≡_};
 ghost use Rattle.laws_words.specs.Words.{pick};
-ghost use Rattle.lab_deliver.specs.Post.{replyOf};
-ghost use Rattle.lab_deliver.specs.Delivery.{whole, answerAt, ranAt, dueAt, toldBelow, outcome, lengthAt, accepted as Delivery·accepted, takenAt, givenAt, sentAt, passedAt, goesOn, mapPassed, mapTaken, mapSent, ranBy, delivered, replyTo, foundAt, foundEmpty, checkDelivered};
+ghost use Rattle.lab_deliver.specs.Delivery.{whole, answerAt, ranAt, noLetter, firstOf, secondOf, dueAt, toldBelow, outcome, lengthAt, accepted as Delivery·accepted, passedAt, goesOn, mapPassed, nothing as Delivery·nothing, telling as Delivery·telling, taking as Delivery·taking, sending as Delivery·sending, ranBy, foundAt, foundEmpty, checkAsked, checkAnswer};
 use crate::post::Due;
 use crate::post::Errand;
-use client::Client;
 use event::Event;
 use event::NodeEvent;
 use event::Question;
 use event_ask::ask::Finding;
-use lab_state::Lab;
+use event_ask::lending::Lent;
+use rules_client::Check;
 use rules_node::Answer;
 use rules_pool::Message;
-use rules_pool::Reply;
 use rules_pool::Told;
 
-pub struct Ran {
-    pub lab: Lab,
-    pub answer: Answer,
-}
-
 // The event of node n.
-pub fn node_event(mut l: Lab, n: u64, e: NodeEvent, maps: &mut [u8], stagings: &mut [u8]) -> Ran
-    ensures { λ r. ⌜ r .answer ≡ answerAt n e (whole l (now (maps .entry)) (now (stagings .entry))) ⌝ }
-    ensures { λ r. ⌜ whole (r .lab) (now (maps .exit)) (now (stagings .exit)) ≡ ranAt n e (whole l (now (maps .entry)) (now (stagings .entry))) ⌝ }
+fn node_event(
+    n: u64,
+    e: NodeEvent,
+    lent: Lent,
+    states: &mut [[u64; 32]],
+    sums: &mut [[u64; 96]],
+    maps: &mut [u8],
+    stagings: &mut [u8],
+) -> Answer
+    ensures { λ r. ⌜ r ≡ answerAt n e (whole lent (now (states .entry)) (now (sums .entry)) (now (maps .entry)) (now (stagings .entry))) ⌝ }
+    ensures { λ _. ⌜ whole lent (now (states .exit)) (now (sums .exit)) (now (maps .exit)) (now (stagings .exit)) ≡ ranAt n e (whole lent (now (states .entry)) (now (sums .entry)) (now (maps .entry)) (now (stagings .entry))) ⌝ }
 {
     if 15 < n {
-        return Ran {
-            lab: l,
-            answer: Answer::Refused(3),
-        };
+        return Answer::Refused(3);
     }
-    let i = n as usize;
-    let was = l.nodes[i];
-    let lent = l.lent;
+    let was = lab_places::node_in(n, states, sums);
     let out = lab_lend::node_event::node_event(was, n, lent, e, maps, stagings);
-    let next = out.node;
     let answer = out.answer;
-    l.nodes[i] = next;
-    Ran {
-        lab: l,
-        answer: answer,
+    let next = out.node;
+    let v = next.node;
+    let words = next.summaries;
+    lab_places::put_state(n, v, states);
+    lab_places::put_summaries(n, words, sums);
+    answer
+}
+
+// An event that goes to a node; to 16, which is none, where there is no event to go.
+pub struct Letter {
+    pub to: u64,
+    pub event: NodeEvent,
+}
+
+fn no_letter() -> Letter
+    ensures { λ r. ⌜ r ≡ noLetter ⌝ }
+{
+    Letter {
+        to: map_numbers::refusals::MEMBERS,
+        event: NodeEvent::MapGetVer,
     }
 }
 
-// One message to node i; nobody waits for its answer.
-fn hand(l: Lab, e: NodeEvent, i: u64, maps: &mut [u8], stagings: &mut [u8]) -> Lab
-    ensures { λ r. ⌜ whole r (now (maps .exit)) (now (stagings .exit)) ≡ ranAt i e (whole l (now (maps .entry)) (now (stagings .entry))) ⌝ }
-{
-    let r = node_event(l, i, e, maps, stagings);
-    r.lab
-}
-
-// What node i gets.
-fn tell(l: Lab, d: Due, i: u64, maps: &mut [u8], stagings: &mut [u8]) -> Lab
-    ensures { λ r. ⌜ whole r (now (maps .exit)) (now (stagings .exit)) ≡ dueAt d i (whole l (now (maps .entry)) (now (stagings .entry))) ⌝ }
+// What node i gets first, and then.
+fn first_of(d: Due, i: u64) -> Letter
+    ensures { λ r. ⌜ r ≡ firstOf d i ⌝ }
 {
     match d {
-        Due::Nothing => l,
-        Due::One(e) => hand(l, e, i, maps, stagings),
-        Due::Two(e, f) => {
-            let k = hand(l, e, i, maps, stagings);
-            hand(k, f, i, maps, stagings)
-        }
+        Due::Nothing => no_letter(),
+        Due::One(e) => Letter { to: i, event: e },
+        Due::Two(e, f) => Letter { to: i, event: e },
     }
+}
+
+fn second_of(d: Due, i: u64) -> Letter
+    ensures { λ r. ⌜ r ≡ secondOf d i ⌝ }
+{
+    match d {
+        Due::Nothing => no_letter(),
+        Due::One(e) => no_letter(),
+        Due::Two(e, f) => Letter { to: i, event: f },
+    }
+}
+
+// What node i gets; nobody waits for its answers.
+fn tell(
+    d: Due,
+    i: u64,
+    lent: Lent,
+    states: &mut [[u64; 32]],
+    sums: &mut [[u64; 96]],
+    maps: &mut [u8],
+    stagings: &mut [u8],
+)
+    ensures { λ _. ⌜ whole lent (now (states .exit)) (now (sums .exit)) (now (maps .exit)) (now (stagings .exit)) ≡ dueAt d i (whole lent (now (states .entry)) (now (sums .entry)) (now (maps .entry)) (now (stagings .entry))) ⌝ }
+{
+    let a = first_of(d, i);
+    let e = a.event;
+    node_event(a.to, e, lent, states, sums, maps, stagings);
+    let b = second_of(d, i);
+    let f = b.event;
+    node_event(b.to, f, lent, states, sums, maps, stagings);
 }
 
 // Each message that is not awaited goes to its node.
-fn tell_all(l: Lab, t: Told, maps: &mut [u8], stagings: &mut [u8]) -> Lab
-    ensures { λ r. ⌜ whole r (now (maps .exit)) (now (stagings .exit)) ≡ toldBelow t 16 (whole l (now (maps .entry)) (now (stagings .entry))) ⌝ }
+pub fn tell_all(
+    t: Told,
+    lent: Lent,
+    states: &mut [[u64; 32]],
+    sums: &mut [[u64; 96]],
+    maps: &mut [u8],
+    stagings: &mut [u8],
+)
+    ensures { λ _. ⌜ whole lent (now (states .exit)) (now (sums .exit)) (now (maps .exit)) (now (stagings .exit)) ≡ toldBelow t 16 (whole lent (now (states .entry)) (now (sums .entry)) (now (maps .entry)) (now (stagings .entry))) ⌝ }
 {
-    let mut now = l;
     let mut i: u64 = 0;
-    while i < Client::MEMBERS {
+    while i < map_numbers::refusals::MEMBERS {
         let d = crate::post::told_to(t, i);
-        now = tell(now, d, i, maps, stagings);
+        tell(d, i, lent, states, sums, maps, stagings);
         i += 1;
-    }
-    now
-}
-
-// The same where auto is on.
-pub fn tell_auto(l: Lab, t: Told, maps: &mut [u8], stagings: &mut [u8]) -> Lab
-    ensures { λ r. ⌜ whole r (now (maps .exit)) (now (stagings .exit)) ≡ pick (l .auto) (toldBelow t 16 (whole l (now (maps .entry)) (now (stagings .entry)))) (whole l (now (maps .entry)) (now (stagings .entry))) ⌝ }
-{
-    if l.auto {
-        return tell_all(l, t, maps, stagings);
-    }
-    l
-}
-
-pub struct Replied {
-    pub lab: Lab,
-    pub reply: Reply,
-}
-
-fn said(r: Ran) -> Replied
-    ensures { λ s. ⌜ (s .lab ≡ r .lab) × (s .reply ≡ replyOf (r .answer)) ⌝ }
-{
-    let l = r.lab;
-    let a = r.answer;
-    Replied {
-        lab: l,
-        reply: crate::post::reply_of(a),
     }
 }
 
@@ -136,49 +145,38 @@ fn accepted(a: Answer) -> bool
     }
 }
 
-// The receiver takes the part.
-fn take_part(l: Lab, w: Way, offset: u64, maps: &mut [u8], stagings: &mut [u8]) -> Ran
-    ensures { λ r. ⌜ outcome r (now (maps .exit)) (now (stagings .exit)) ≡ takenAt w offset (whole l (now (maps .entry)) (now (stagings .entry))) ⌝ }
+// Node n where it is to do its part; else none.
+fn place_if(does: bool, n: u64) -> u64
+    ensures { λ r. ⌜ r ≡ pick does n 16 ⌝ }
+{
+    if does {
+        n
+    } else {
+        map_numbers::refusals::MEMBERS
+    }
+}
+
+// Where it is given, the source gives the part; unless it refuses, the receiver takes it.
+fn pass_part(
+    w: Way,
+    offset: u64,
+    lent: Lent,
+    states: &mut [[u64; 32]],
+    sums: &mut [[u64; 96]],
+    maps: &mut [u8],
+    stagings: &mut [u8],
+) -> Answer
+    ensures { λ r. ⌜ outcome r (whole lent (now (states .exit)) (now (sums .exit)) (now (maps .exit)) (now (stagings .exit))) ≡ passedAt w offset (whole lent (now (states .entry)) (now (sums .entry)) (now (maps .entry)) (now (stagings .entry))) ⌝ }
 {
     let n = length_at(w.cut, offset);
-    node_event(
-        l,
-        w.receiver,
-        NodeEvent::TakePart(offset, n, w.source),
-        maps,
-        stagings,
-    )
-}
-
-// The source gives the part.
-fn give_part(l: Lab, w: Way, offset: u64, maps: &mut [u8], stagings: &mut [u8]) -> Ran
-    ensures { λ r. ⌜ outcome r (now (maps .exit)) (now (stagings .exit)) ≡ givenAt w offset (whole l (now (maps .entry)) (now (stagings .entry))) ⌝ }
-{
-    let n = length_at(w.cut, offset);
-    node_event(l, w.source, NodeEvent::GivePart(offset, n), maps, stagings)
-}
-
-// The source gives the part, and the receiver takes it.
-fn send_part(l: Lab, w: Way, offset: u64, maps: &mut [u8], stagings: &mut [u8]) -> Ran
-    ensures { λ r. ⌜ outcome r (now (maps .exit)) (now (stagings .exit)) ≡ sentAt w offset (whole l (now (maps .entry)) (now (stagings .entry))) ⌝ }
-{
-    let r = give_part(l, w, offset, maps, stagings);
-    let a = r.answer;
-    let good = accepted(a);
-    if good {
-        let given = r.lab;
-        return take_part(given, w, offset, maps, stagings);
-    }
-    r
-}
-
-fn pass_part(l: Lab, w: Way, offset: u64, maps: &mut [u8], stagings: &mut [u8]) -> Ran
-    ensures { λ r. ⌜ outcome r (now (maps .exit)) (now (stagings .exit)) ≡ passedAt w offset (whole l (now (maps .entry)) (now (stagings .entry))) ⌝ }
-{
-    if w.given {
-        return send_part(l, w, offset, maps, stagings);
-    }
-    take_part(l, w, offset, maps, stagings)
+    let give = NodeEvent::GivePart(offset, n);
+    let take = NodeEvent::TakePart(offset, n, w.source);
+    let giver = place_if(w.given, w.source);
+    let a = node_event(giver, give, lent, states, sums, maps, stagings);
+    let on = !w.given | accepted(a);
+    let taker = place_if(on, w.receiver);
+    let b = node_event(taker, take, lent, states, sums, maps, stagings);
+    if on { b } else { a }
 }
 
 // Whether another part comes.
@@ -189,86 +187,120 @@ fn goes_on(a: Answer, offset: u64) -> bool
 }
 
 // The parts from offset 0 on, until all are taken or one is refused. A part has at least one byte, so there are no more than 8,192.
-fn pass_map(l: Lab, w: Way, maps: &mut [u8], stagings: &mut [u8]) -> Ran
-    ensures { λ r. ⌜ outcome r (now (maps .exit)) (now (stagings .exit)) ≡ mapPassed w (whole l (now (maps .entry)) (now (stagings .entry))) ⌝ }
+fn pass_map(
+    w: Way,
+    lent: Lent,
+    states: &mut [[u64; 32]],
+    sums: &mut [[u64; 96]],
+    maps: &mut [u8],
+    stagings: &mut [u8],
+) -> Answer
+    ensures { λ r. ⌜ outcome r (whole lent (now (states .exit)) (now (sums .exit)) (now (maps .exit)) (now (stagings .exit))) ≡ mapPassed w (whole lent (now (states .entry)) (now (sums .entry)) (now (maps .entry)) (now (stagings .entry))) ⌝ }
 {
-    let mut now = Ran {
-        lab: l,
-        answer: Answer::Done,
-    };
+    let mut a = Answer::Done;
     let mut offset: u64 = 0;
     let mut turns: u64 = 8192;
     while turns > 0 {
-        let a = now.answer;
         let on = goes_on(a, offset);
         if !on {
             break;
         }
-        let before = now.lab;
-        now = pass_part(before, w, offset, maps, stagings);
+        a = pass_part(w, offset, lent, states, sums, maps, stagings);
         offset += length_at(w.cut, offset);
         turns -= 1;
     }
-    now
+    a
 }
 
-// Node n takes node m's map.
-pub fn take(l: Lab, n: u64, m: u64, maps: &mut [u8], stagings: &mut [u8]) -> Ran
-    ensures { λ r. ⌜ outcome r (now (maps .exit)) (now (stagings .exit)) ≡ mapTaken n m (whole l (now (maps .entry)) (now (stagings .entry))) ⌝ }
+// What is asked of the nodes. given: whether the source of a map gives it.
+pub struct Task {
+    pub errand: Errand,
+    pub given: bool,
+}
+
+pub fn nothing() -> Task
+    ensures { λ r. ⌜ r ≡ Delivery·nothing ⌝ }
 {
-    let w = Way {
+    Task {
+        errand: Errand::Nothing,
         given: false,
-        source: m,
-        receiver: n,
-        cut: l.cut,
-    };
-    pass_map(l, w, maps, stagings)
-}
-
-// The source gives its map, and the receiver takes it.
-fn send(l: Lab, source: u64, receiver: u64, maps: &mut [u8], stagings: &mut [u8]) -> Ran
-    ensures { λ r. ⌜ outcome r (now (maps .exit)) (now (stagings .exit)) ≡ mapSent source receiver (whole l (now (maps .entry)) (now (stagings .entry))) ⌝ }
-{
-    let w = Way {
-        given: true,
-        source: source,
-        receiver: receiver,
-        cut: l.cut,
-    };
-    pass_map(l, w, maps, stagings)
-}
-
-fn run(l: Lab, e: Errand, maps: &mut [u8], stagings: &mut [u8]) -> Ran
-    ensures { λ r. ⌜ outcome r (now (maps .exit)) (now (stagings .exit)) ≡ ranBy e (whole l (now (maps .entry)) (now (stagings .entry))) ⌝ }
-{
-    match e {
-        Errand::Nothing => Ran {
-            lab: l,
-            answer: Answer::Refused(3),
-        },
-        Errand::Event(n, event) => node_event(l, n, event, maps, stagings),
-        Errand::Map(source, receiver) => send(l, source, receiver, maps, stagings),
     }
 }
 
-// The awaited message goes to its node, and what it answers comes back.
-pub fn deliver(l: Lab, m: Message, maps: &mut [u8], stagings: &mut [u8]) -> Replied
-    ensures { λ r. ⌜ r .reply ≡ replyTo m (whole l (now (maps .entry)) (now (stagings .entry))) ⌝ }
-    ensures { λ r. ⌜ whole (r .lab) (now (maps .exit)) (now (stagings .exit)) ≡ delivered m (whole l (now (maps .entry)) (now (stagings .entry))) ⌝ }
+// An event of node n.
+pub fn telling(n: u64, e: NodeEvent) -> Task
+    ensures { λ r. ⌜ r ≡ Delivery·telling n e ⌝ }
 {
-    said(run(l, crate::post::errand_of(m), maps, stagings))
+    Task {
+        errand: Errand::Event(n, e),
+        given: true,
+    }
+}
+
+// Node n takes node m's map.
+pub fn taking(n: u64, m: u64) -> Task
+    ensures { λ r. ⌜ r ≡ Delivery·taking n m ⌝ }
+{
+    Task {
+        errand: Errand::Map(m, n),
+        given: false,
+    }
+}
+
+// The awaited message goes to its node: of a map the source gives it, and the receiver takes it.
+pub fn sending(m: Message) -> Task
+    ensures { λ r. ⌜ r ≡ Delivery·sending m ⌝ }
+{
+    Task {
+        errand: crate::post::errand_of(m),
+        given: true,
+    }
+}
+
+// The task carried out, its maps in parts as long as cut says; what is answered last.
+pub fn run(
+    t: Task,
+    cut: u64,
+    lent: Lent,
+    states: &mut [[u64; 32]],
+    sums: &mut [[u64; 96]],
+    maps: &mut [u8],
+    stagings: &mut [u8],
+) -> Answer
+    ensures { λ r. ⌜ outcome r (whole lent (now (states .exit)) (now (sums .exit)) (now (maps .exit)) (now (stagings .exit))) ≡ ranBy (t .errand) (t .given) cut (whole lent (now (states .entry)) (now (sums .entry)) (now (maps .entry)) (now (stagings .entry))) ⌝ }
+{
+    let e = t.errand;
+    match e {
+        Errand::Nothing => Answer::Refused(3),
+        Errand::Event(n, event) => node_event(n, event, lent, states, sums, maps, stagings),
+        Errand::Map(source, receiver) => {
+            let w = Way {
+                given: t.given,
+                source: source,
+                receiver: receiver,
+                cut: cut,
+            };
+            pass_map(w, lent, states, sums, maps, stagings)
+        }
+    }
 }
 
 // What node n answers to a question; nothing changes.
-pub fn ask(l: Lab, n: u64, q: Question, maps: &[u8], stagings: &[u8]) -> Finding
-    ensures { λ r. ⌜ r ≡ foundAt n q (whole l (now (maps .entry)) (now (stagings .entry))) ⌝ }
+pub fn ask(
+    n: u64,
+    q: Question,
+    lent: Lent,
+    states: &[[u64; 32]],
+    sums: &[[u64; 96]],
+    maps: &[u8],
+    stagings: &[u8],
+) -> Finding
+    ensures { λ r. ⌜ r ≡ foundAt n q (whole lent (now (states .entry)) (now (sums .entry)) (now (maps .entry)) (now (stagings .entry))) ⌝ }
 {
     if 15 < n {
         return Finding::Refused(3);
     }
-    let i = n as usize;
-    let node = l.nodes[i];
-    let lent = l.lent;
+    let node = lab_places::node_in(n, states, sums);
     event_ask::ask::ask(node, n, lent, q, maps, stagings)
 }
 
@@ -282,24 +314,17 @@ fn found_empty(f: Finding) -> bool
     }
 }
 
-// What comes of a map check: the client's event, where a member is due.
-pub enum Reported {
-    Nobody,
-    Event(Event),
+// Whom a map check asks: the lowest due member; 16, none, where nobody is due.
+pub fn check_asked(k: Check) -> u64
+    ensures { λ r. ⌜ r ≡ checkAsked k ⌝ }
+{
+    map_numbers::sets::lowest(k.due as u64)
 }
 
-// The node of the lowest due member is asked, and the client gets its answer under the last tick's number.
-pub fn deliver_check(l: Lab, maps: &[u8], stagings: &[u8]) -> Reported
-    ensures { λ r. ⌜ r ≡ checkDelivered (whole l (now (maps .entry)) (now (stagings .entry))) ⌝ }
+// What the client gets of member m's finding, under the last tick's number.
+pub fn check_event(k: Check, m: u64, f: Finding) -> Event
+    ensures { λ r. ⌜ r ≡ checkAnswer k m f ⌝ }
 {
-    let c = l.client;
-    let k = c.check;
-    let due = k.due as u64;
-    if due == 0 {
-        return Reported::Nobody;
-    }
-    let m = map_numbers::sets::lowest(due);
-    let f = ask(l, m, Question::MapCheck, maps, stagings);
     let empty = found_empty(f);
-    Reported::Event(Event::CheckAnswer(k.tick as u64, m, empty))
+    Event::CheckAnswer(k.tick as u64, m, empty)
 }

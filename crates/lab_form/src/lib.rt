@@ -15,7 +15,7 @@ pub enum Which {
     Staging(u64),
 }
 
-// Passed: an empty line, or one that begins with #. Pool: sync, chunks. Cut: how long the parts are of a map that is taken or sent. Take: a node, and the one whose
+// Passed: an empty line, or one that begins with # or >. Pool: sync, chunks. Cut: how long the parts are of a map that is taken or sent. Take: a node, and the one whose
 // map it takes, part by part. Ask: a node, and what it is asked. DeliverCheck: the node of the lowest due member is asked for its check, and the client gets the answer. Row: the
 // dirty chunks of a member. Look, LookNode: the further fields of the client, of a node. Byte: place, value. Summary: a node, which word of its summaries, value. The rest is put into the
 // client's state or a node's, unchecked. Record: the record of the client's last event. PokeSession: id, record. PokeNode: node, state, store, create, members, version, transfer. PokeGot: node,

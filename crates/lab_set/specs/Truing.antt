@@ -8,13 +8,12 @@ use Rattle.laws_words.specs.Loops.{runAt}
 use Rattle.rules_base.specs.Limits.{mapBytes}
 use Rattle.rules_base.specs.Summary.{summariesOf}
 use Rattle.event_ask.specs.Lending.{part}
-use Rattle.lab_state.specs.declared.Lab.{Lab}
-use Rattle.lab_state.specs.Bench.{nodeAt, withNode}
+use Rattle.lab_places.specs.Places.{summariesAt}
 
 -- member m's six words those of the map, the others as they were; there is no member past 15
 unfoldable pub rowTrued : ℕ → List ℕ → List ℕ → List ℕ
 rowTrued m xs words = pick (ltb m 16) (runAt (λ j ws. set ws (6 * m + j) (getD (summariesOf xs) (6 * m + j) 0)) 6 0 words) words
 
--- the same at node n of the lab, whose maps are xs; there is no node past 15
-unfoldable pub trued : Lab → ℕ → ℕ → List ℕ → Lab
-trued l n m xs = withNode l n (record { node = nodeAt l n .node; summaries = rowTrued m (part xs n mapBytes) (nodeAt l n .summaries) })
+-- the same in place n of the nodes' summaries, whose maps are xs; there is no place past the last
+unfoldable pub trued : List (List ℕ) → ℕ → ℕ → List ℕ → List (List ℕ)
+trued ss n m xs = set ss n (rowTrued m (part xs n mapBytes) (summariesAt ss n))

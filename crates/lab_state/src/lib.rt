@@ -1,17 +1,13 @@
-// The lab's bench: one client with its map, sixteen nodes each with its map and its staging map, and what a command does to them. The maps are lent by the
+// The lab's bench: one client, what is lent of the maps, and what a command does to them. The nodes stand in their places (crate places), and the maps beside them, all lent by the
 // program: the client's 8,192 bytes, and 16 times 8,192 for the nodes' maps and for their staging maps.
 ghost use mathlib.Core.Path.{_≡_};
 ghost use lib.ListN.{set};
-ghost use Rattle.lab_state.specs.Bench.{freshBelow, freshLab, withAuto, withCut, withLent, awaiting, stillAwaiting, afterEvent, arranged, lentBy, withRoster, rosterOf, withCheck, checkOf, pokeVersion, pokeCount, pokeMembers, pokeChunks, pokeWritten, pokeAssembled, pokeTick, pokeDue, pokeOnce, pokeSession, nodeStateOf, transferOf, pokeNode, gotTo, pokedGot, pokeGot, pokeSummary};
+ghost use Rattle.lab_state.specs.Bench.{freshLab, withAuto, withCut, withLent, awaiting, stillAwaiting, afterEvent, arranged, lentBy, withRoster, rosterOf, withCheck, checkOf, pokeVersion, pokeCount, pokeMembers, pokeChunks, pokeWritten, pokeAssembled, pokeTick, pokeDue, pokeOnce, pokeSession};
 use client::Client;
 use event_ask::lending::Lent;
 use lab_form::Command;
 use lab_form::Which;
-use map_summary::summaries::Summaries;
-use node::StorageNode;
 use rules_client::Check;
-use rules_node::Node;
-use rules_node::Transfer;
 use rules_pool::Job;
 use rules_pool::Message;
 use rules_pool::Past;
@@ -22,7 +18,6 @@ use rules_pool::Session;
 // lent: how many bytes of each map are lent. cut: how long the parts are of a map that is taken or sent. awaited, number: the awaited message as it was sent.
 pub struct Lab {
     pub client: Client,
-    pub nodes: [StorageNode; 16],
     pub lent: Lent,
     pub auto: bool,
     pub cut: u64,
@@ -35,7 +30,7 @@ pub fn fresh(sync: bool, chunks: u64) -> Lab
     ensures { λ r. ⌜ r ≡ freshLab sync chunks ⌝ }
 {
     let c = Client::fresh(sync, chunks);
-    let all = StorageNode::MAP_BYTES as u64;
+    let all = map_numbers::refusals::MAP_BYTES as u64;
     let lent = Lent {
         own: all,
         maps: [all; 16],
@@ -43,27 +38,12 @@ pub fn fresh(sync: bool, chunks: u64) -> Lab
     };
     Lab {
         client: c,
-        nodes: fresh_nodes(chunks),
         lent: lent,
         auto: false,
         cut: map_whole::parts::PART_BYTES,
         awaited: Message::Nothing,
         number: 0,
     }
-}
-
-fn fresh_nodes(chunks: u64) -> [StorageNode; 16]
-    ensures { λ r. ⌜ r ≡ freshBelow chunks 16 ⌝ }
-{
-    let n = StorageNode::fresh(0, chunks);
-    let mut all = [n; 16];
-    let mut i: u64 = 0;
-    while i < Client::MEMBERS {
-        let at = i as usize;
-        all[at] = StorageNode::fresh(i, chunks);
-        i += 1;
-    }
-    all
 }
 
 // The lab after an accepted client event: the awaited message is the one sent, the one before while a job is in hand, or none.
@@ -94,11 +74,9 @@ fn renewed(l: Lab, awaited: Message, number: u32) -> Lab
     ensures { λ r. ⌜ r ≡ awaiting l awaited number ⌝ }
 {
     let c = l.client;
-    let nodes = l.nodes;
     let lent = l.lent;
     Lab {
         client: c,
-        nodes: nodes,
         lent: lent,
         auto: l.auto,
         cut: l.cut,
@@ -121,9 +99,9 @@ pub fn arrange(l: Lab, c: Command) -> Lab
         Command::PokeChunks(v) => poke_chunks(l, v),
         Command::PokeMembers(v) => poke_members(l, v),
         Command::PokeSession(id, s) => poke_session(l, id, s),
-        Command::PokeNode(n, s, st, cr, m, v, t) => poke_node(l, n, s, st, cr, m, v, t),
-        Command::PokeGot(n, got) => poke_got(l, n, got),
-        Command::Summary(n, i, v) => poke_summary(l, n, i, v),
+        Command::PokeNode(n, s, st, cr, m, v, t) => l,
+        Command::PokeGot(n, got) => l,
+        Command::Summary(n, i, v) => l,
         Command::PokeWritten(v) => poke_written(l, v),
         Command::PokeAssembled(v) => poke_assembled(l, v),
         Command::PokeTick(v) => poke_tick(l, v),
@@ -339,151 +317,4 @@ fn poke_session(l: Lab, id: u64, s: Session) -> Lab
     let ro = roster_of(l);
     let changed = client_state::roster::store(ro, id, s);
     with_roster(l, changed)
-}
-
-// A node's state put in, unchecked. Own id, chunk count and kept chunks stay.
-fn poke_node(
-    mut l: Lab,
-    n: u64,
-    state: u64,
-    store: bool,
-    create: bool,
-    members: u64,
-    version: u64,
-    transfer: u64,
-) -> Lab
-    ensures { λ r. ⌜ r ≡ pokeNode l n state store create members version transfer ⌝ }
-{
-    if 15 < n {
-        return l;
-    }
-    let i = n as usize;
-    let was = l.nodes[i];
-    let v = was.node;
-    let words = was.summaries;
-    let kept = v.kept;
-    let changed = Node {
-        id: v.id,
-        chunks: v.chunks,
-        state: state_of(state),
-        store: store,
-        create: create,
-        members: members,
-        version: version,
-        kept: kept,
-        held: v.held,
-        transfer: transfer_of(transfer),
-    };
-    l.nodes[i] = StorageNode {
-        node: changed,
-        summaries: words,
-    };
-    l
-}
-
-fn state_of(x: u64) -> rules_node::State
-    ensures { λ r. ⌜ r ≡ nodeStateOf x ⌝ }
-{
-    if x == 0 {
-        return rules_node::State::Empty;
-    }
-    if x == 1 {
-        return rules_node::State::Registered;
-    }
-    if x == 2 {
-        return rules_node::State::Created;
-    }
-    if x == 3 {
-        return rules_node::State::Normal;
-    }
-    rules_node::State::NoIo
-}
-
-fn transfer_of(x: u64) -> Transfer
-    ensures { λ r. ⌜ r ≡ transferOf x ⌝ }
-{
-    if x == 0 {
-        return Transfer::Nothing;
-    }
-    if x == 1 {
-        return Transfer::InHand(0);
-    }
-    Transfer::InHand(map_numbers::refusals::MAP_BYTES as u64)
-}
-
-// Of the transfer in hand at a node, if any, so many bytes are taken. Unchecked; the rest stays.
-fn poke_got(mut l: Lab, n: u64, got: u64) -> Lab
-    ensures { λ r. ⌜ r ≡ pokeGot l n got ⌝ }
-{
-    if 15 < n {
-        return l;
-    }
-    let i = n as usize;
-    let was = l.nodes[i];
-    let v = was.node;
-    let words = was.summaries;
-    let changed = with_got(v, got);
-    l.nodes[i] = StorageNode {
-        node: changed,
-        summaries: words,
-    };
-    l
-}
-
-// A word of a node's summaries put in, unchecked; there are 96.
-fn poke_summary(mut l: Lab, n: u64, i: u64, v: u64) -> Lab
-    ensures { λ r. ⌜ r ≡ pokeSummary l n i v ⌝ }
-{
-    if 15 < n {
-        return l;
-    }
-    let at = n as usize;
-    let was = l.nodes[at];
-    let node = was.node;
-    let words = was.summaries;
-    l.nodes[at] = StorageNode {
-        node: node,
-        summaries: with_word(words, i, v),
-    };
-    l
-}
-
-fn with_word(mut words: Summaries, i: u64, v: u64) -> Summaries
-    ensures { λ r. ⌜ r ≡ set words i v ⌝ }
-{
-    if 95 < i {
-        return words;
-    }
-    let at = i as usize;
-    words[at] = v;
-    words
-}
-
-fn with_got(v: Node, got: u64) -> Node
-    ensures { λ r. ⌜ r ≡ pokedGot v got ⌝ }
-{
-    let state = v.state;
-    let kept = v.kept;
-    let transfer = v.transfer;
-    Node {
-        id: v.id,
-        chunks: v.chunks,
-        state: state,
-        store: v.store,
-        create: v.create,
-        members: v.members,
-        version: v.version,
-        kept: kept,
-        held: v.held,
-        transfer: got_to(transfer, got),
-    }
-}
-
-fn got_to(t: Transfer, got: u64) -> Transfer
-    ensures { λ r. ⌜ r ≡ gotTo t got ⌝ }
-{
-    match t {
-        Transfer::Nothing => Transfer::Nothing,
-        Transfer::InHand(bytes) => Transfer::InHand(got),
-    }
 }

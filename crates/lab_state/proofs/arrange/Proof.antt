@@ -60,20 +60,11 @@ poke-session-requires c κs = search needs
 enum-known-c-10 : tie.Need-enum-known-c-10
 enum-known-c-10 c = search needs
 
-poke-node-requires : tie.Need-poke-node-requires
-poke-node-requires c κs = search needs
-
 enum-known-c-11 : tie.Need-enum-known-c-11
 enum-known-c-11 c = search needs
 
-poke-got-requires : tie.Need-poke-got-requires
-poke-got-requires c κs = search needs
-
 enum-known-c-12 : tie.Need-enum-known-c-12
 enum-known-c-12 c = search needs
-
-poke-summary-requires : tie.Need-poke-summary-requires
-poke-summary-requires c κs = search needs
 
 enum-known-c-13 : tie.Need-enum-known-c-13
 enum-known-c-13 c = search needs
@@ -172,13 +163,13 @@ returns-9 : tie.Need-returns-9
 returns-9 c = rw (c .before .before .c9 .given .1) (c .poke-session .ensures)
 
 returns-10 : tie.Need-returns-10
-returns-10 c = rw (c .before .before .c10 .given .1) (c .poke-node .ensures)
+returns-10 c = rw (c .before .c10 .given .1) refl
 
 returns-11 : tie.Need-returns-11
-returns-11 c = rw (c .before .before .c11 .given .1) (c .poke-got .ensures)
+returns-11 c = rw (c .before .c11 .given .1) refl
 
 returns-12 : tie.Need-returns-12
-returns-12 c = rw (c .before .before .c12 .given .1) (c .poke-summary .ensures)
+returns-12 c = rw (c .before .c12 .given .1) refl
 
 returns-13 : tie.Need-returns-13
 returns-13 c = rw (c .before .before .c13 .given .1) (c .poke-written .ensures)
@@ -257,11 +248,8 @@ arrange-spec =
     enum-known-c-9
     poke-session-requires
     enum-known-c-10
-    poke-node-requires
     enum-known-c-11
-    poke-got-requires
     enum-known-c-12
-    poke-summary-requires
     enum-known-c-13
     poke-written-requires
     enum-known-c-14

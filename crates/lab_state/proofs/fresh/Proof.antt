@@ -7,12 +7,9 @@ use Rattle.lab_state.proofs.fresh.Tie as tie
 fresh-requires : tie.Need-fresh-requires
 fresh-requires c κs = search needs
 
-fresh-nodes-requires : tie.Need-fresh-nodes-requires
-fresh-nodes-requires c κs = search needs
-
 returns : tie.Need-returns
 unfolding freshLab
-returns c = rw (c .before .fresh .ensures, c .fresh-nodes .ensures) refl
+returns c = rw (c .fresh .ensures) refl
 
 pub fresh-spec : {M : Type 1} → statement M
-fresh-spec = tie.close (tie.spec fresh-requires fresh-nodes-requires returns)
+fresh-spec = tie.close (tie.spec fresh-requires returns)

@@ -1,5 +1,5 @@
 use borrow.Author.Needs.{needs}
-use mathlib.Core.Path.{_≡_, refl, sym, _∙_, ap}
+use mathlib.Core.Path.{_≡_, refl}
 use Prim.Native.Nat.{_-_, _≤_}
 use native.Mathlib.Numerals.{add-one}
 use native.Mathlib.Omega.{arith}
@@ -9,14 +9,14 @@ use Rattle.lab_deliver.proofs.delivery.tell_all.Statement.{statement}
 use Rattle.lab_deliver.proofs.delivery.tell_all.Tie as tie
 
 abbrev Inv-loop : tie.InvT-loop
-Inv-loop t maps₀ stagings₀ now₀ i₀ maps stagings now i = (i ≤ 16) × (length maps ≡ length maps₀) × (length stagings ≡ length stagings₀) × (whole now maps stagings ≡ toldBelow t i (whole now₀ maps₀ stagings₀))
+Inv-loop t lent states₀ sums₀ maps₀ stagings₀ i₀ states sums maps stagings i = (i ≤ 16) × (length states ≡ length states₀) × (length sums ≡ length sums₀) × (length maps ≡ length maps₀) × (length stagings ≡ length stagings₀) × (whole lent states sums maps stagings ≡ toldBelow t i (whole lent states₀ sums₀ maps₀ stagings₀))
 
 abbrev μ-loop : tie.MeasureT-loop
-μ-loop t maps₀ stagings₀ now₀ i₀ maps stagings now i = 16 - i
+μ-loop t lent states₀ sums₀ maps₀ stagings₀ i₀ states sums maps stagings i = 16 - i
 
 loop-holds : tie.Need-loop-holds Inv-loop μ-loop
 unfolding toldBelow
-loop-holds c = (search needs, refl, refl, refl)
+loop-holds c = (search needs, refl, refl, refl, refl, refl)
 
 told-to-requires : tie.Need-told-to-requires Inv-loop μ-loop
 told-to-requires c κs = search needs
@@ -33,8 +33,8 @@ loop-less c = search needs
 loop-again : tie.Need-loop-again Inv-loop μ-loop
 unfolding toldBelow
 loop-again c =
-    let v = c .before .before .before .before .before .before .before .before .before .loop in
-    (search needs, search needs, search needs, rw (add-one, ← v .inv .3, ← c .before .before .before .before .before .before .before .told-to .ensures) (c .before .before .before .before .tell .ensures))
+    let v = c .before .before .before .before .before .before .before .before .before .before .before .before .before .loop in
+    (search needs, search needs, search needs, search needs, search needs, rw (add-one, ← v .inv .5, ← c .before .before .before .before .before .before .before .before .before .before .before .told-to .ensures) (c .before .before .before .before .before .before .tell .ensures))
 
 same-length : tie.Need-same-length Inv-loop μ-loop
 same-length c = search needs
@@ -42,8 +42,14 @@ same-length c = search needs
 same-length-2 : tie.Need-same-length-2 Inv-loop μ-loop
 same-length-2 c = search needs
 
+same-length-3 : tie.Need-same-length-3 Inv-loop μ-loop
+same-length-3 c = search needs
+
+same-length-4 : tie.Need-same-length-4 Inv-loop μ-loop
+same-length-4 c = search needs
+
 returns : tie.Need-returns Inv-loop μ-loop
-returns c = let v = c .before .loop in let e : v .i ≡ 16 = omega arith in rw e at (v .inv .3)
+returns c = let v = c .before .loop in let e : v .i ≡ 16 = omega arith in rw e at (v .inv .5)
 
 pub tell-all-spec : {M : Type 1} → statement M
 tell-all-spec =
@@ -59,4 +65,6 @@ tell-all-spec =
     loop-again
     same-length
     same-length-2
+    same-length-3
+    same-length-4
     returns)
