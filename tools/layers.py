@@ -111,10 +111,15 @@ def made():
     return uses
 
 
+def ordered(uses, times):
+    """By room, in each lowest first and the slowest check first; the place of each."""
+    depth = depths(uses)
+    return {c: i for i, c in enumerate(sorted(uses, key=lambda c: (ROOMS.index(room_of(c)), depth[c], -times.get(c, 0), c)))}
+
+
 def text_of(uses):
     """crates.txt."""
-    depth, times = depths(uses), seconds()
-    order = {c: i for i, c in enumerate(sorted(uses, key=lambda c: (ROOMS.index(room_of(c)), depth[c], -times.get(c, 0), c)))}
+    order = ordered(uses, seconds())
     out, room = [HEAD], None
     for c in order:
         if room_of(c) != room:
@@ -138,7 +143,7 @@ def first_line(crate):
 def table(uses):
     """The table of crates, each with the first line of its code."""
     out, room = [START, "|---|---|\n"], None
-    for c in re.findall(r"(?m)^(\w+):", text_of(uses)):
+    for c in ordered(uses, {}):
         if room_of(c) != room:
             room = room_of(c)
             may = ", ".join("`%s`" % (r + "*" if r.endswith("_") else r) for r in room[2].split())
