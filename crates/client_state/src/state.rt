@@ -1,5 +1,4 @@
-// The compute client's types, and the tests on one session record. A value that no event can make is made impossible by its type where that is cheap;
-// what is left is tested by the state rules.
+// The tests on one session record, and the named changes of one.
 ghost use mathlib.Core.Path.{_≡_};
 ghost use Rattle.rules_pool.specs.Past.{noPast, inService, pastWritten, pastTakenOver, pastKept};
 ghost use Rattle.rules_pool.specs.Session.{isFree, isCreated, isNormal, isFailed, isLink, isCut, isReconnecting, isRemoving, isDelete, isDeleting, isOwed, isTold, candidate, newSession, moved, flagged, marked, isNothing};

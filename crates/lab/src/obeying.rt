@@ -5,6 +5,7 @@ use event::Event;
 use event::Question;
 use event_ask::ask::Finding;
 use lab_deliver::delivery::Task;
+use lab_deliver::heard::Heard;
 use lab_form::Command;
 use lab_form::Which;
 use lab_say_line::Said;
@@ -152,33 +153,25 @@ fn check_of(l: Lab) -> Check {
 
 // a: what the nodes answered. f: what a node found.
 fn then_of(l: Lab, j: Journal, c: Command, a: Answer, f: Finding) -> Then {
+    let m = l.awaited;
+    let number = l.number as u64;
     match c {
         Command::Client(e) => Then::Event(e),
         Command::Node(n, e) => Then::Said(node_said(n, a)),
         Command::Take(n, m) => Then::Said(node_said(n, a)),
-        Command::Deliver => delivered(l, a),
+        Command::Deliver => then_heard(lab_deliver::heard::to_awaited(m, number, a)),
         Command::Ask(n, q) => Then::Said(found_said(n, f)),
-        Command::DeliverCheck => checked(check_of(l), f),
+        Command::DeliverCheck => then_heard(lab_deliver::heard::to_check(check_of(l), f)),
         _ => Then::Said(said_of(j, c)),
     }
 }
 
-// The client gets the answer to the awaited message.
-fn delivered(l: Lab, a: Answer) -> Then {
-    let m = l.awaited;
-    let none = client_state::state::is_nothing(m);
-    if none {
-        return Then::Said(Said::Idle);
+// What the client hears is its event.
+fn then_heard(h: Heard) -> Then {
+    match h {
+        Heard::Nothing => Then::Said(Said::Idle),
+        Heard::Event(e) => Then::Event(e),
     }
-    Then::Event(Event::Answer(l.number as u64, lab_deliver::post::reply_of(a)))
-}
-
-// And that of the lowest due member to a map check.
-fn checked(k: Check, f: Finding) -> Then {
-    if k.due == 0 {
-        return Then::Said(Said::Idle);
-    }
-    Then::Event(lab_deliver::delivery::check_event(k, lab_deliver::delivery::check_asked(k), f))
 }
 
 fn node_said(n: u64, a: Answer) -> Said {
@@ -244,12 +237,8 @@ fn accepted(l: Lab, j: Journal, c: Client, sent: Sent) -> Obeyed {
         lab: lab_state::after(l, c, awaited, sent.number),
         log: j,
         said: Said::Client(sent),
-        told: told_if(l.auto, told),
+        told: lab_deliver::heard::told_if(l.auto, told),
     }
-}
-
-fn told_if(auto: bool, t: Told) -> Told {
-    if auto { t } else { Told::Nothing }
 }
 
 // A line that sets the maps and the nodes up.

@@ -1,4 +1,4 @@
-// A storage node's types, the tests on its state, and the named changes that its events are made of.
+// The tests on a storage node's state, the named changes that its events are made of, and how a turn is put together.
 pub mod change;
 pub mod state_rules;
 pub mod states;

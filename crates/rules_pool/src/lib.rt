@@ -1,4 +1,5 @@
-// The client's types, and the rules below its events: sessions, runs, the state rules, the one exit; the rules are in specs/.
+// The client's types, and the rules below its events: sessions, runs, the state rules, the one exit; the rules are in specs/. A value that no event can make is made impossible by its
+// type where that is cheap; what is left is tested by the state rules.
 use rules_base::Op;
 
 // What a set of ids is made of. Present: has a session. Maintained: flagged. Owed: REMOVING, and LEAVE_POOL is owed. Told: POOL_INFO goes there; Later: and the id is above the given one. Strays: of the set, no
