@@ -3,7 +3,8 @@
   ./audit [FILE]    `accepted N` (N records), or `record K`: the first that is not so; no FILE, or -: standard input
   ./audit --prove   proves the program
 
-Where the record's line is no record, standard error says why. Exit status: 0 accepted, 1 `record K`, 2 where the file can't be read or a word is wrong.
+Standard error says why: what is wrong with a line that is no record; of one that is, which number is another by the rules, or with which number they refuse its event: the lab, asked the
+same events (docs/HISTORIES.md). Exit status: 0 accepted, 1 `record K`, 2 where the file can't be read or a word is wrong.
 """
 import itertools
 import os
@@ -15,9 +16,29 @@ import sys
 import tempfile
 
 from programs.build import Wrong, command, standard_input
+from programs.refusals import number_of, why
 
-FIELDS = 8
-LAST_KIND = 15
+NAMES = ("sequence", "kind", "member", "set", "number", "version", "count", "causes")
+FIELDS = len(NAMES)
+MOST_ASKED = 200000  # records that the lab is asked for a reason: some seconds
+EVENTS = {  # each kind as a line of a history, of the record's member, set and number and of the awaited message's number
+    1: "join_create {member}",
+    2: "join_assemble {member} {set} {number}",
+    3: "enable {member}",
+    4: "maintenance {member}",
+    5: "link_down {member}",
+    6: "store_check {member}",
+    7: "remove {member} 0",
+    8: "remove {member} 1",
+    9: "write {number} {set}",
+    10: "try",
+    11: "answer {awaited} 1 0",
+    12: "answer {awaited} 2 {number}",
+    13: "answer {awaited} 0 0",
+    14: "rejoin {member}",
+    15: "extend",
+}
+LAST_KIND = len(EVENTS)
 LONGEST = 255
 MOST = 2**64 - 1
 
@@ -52,6 +73,29 @@ def reason(number, line):
     return "no kind has the number %d" % int(words[1]) if not 1 <= int(words[1]) <= LAST_KIND else ""
 
 
+def by_the_rules(records):
+    """What the rules say of the last of these records, those before it being as they say: a refusal in words, or the numbers that are others."""
+    lab = subprocess.Popen(command("lab"), stdin=subprocess.PIPE, stdout=subprocess.PIPE, text=True, bufsize=1)
+
+    def ask(line):
+        lab.stdin.write(line + "\n")
+        lab.stdin.flush()
+        return lab.stdout.readline().rstrip("\n")
+
+    with lab:
+        ask("pool 0 4096")
+        awaited, answer = 0, ""
+        for record in records:
+            answer = ask(EVENTS[record[1]].format(awaited=awaited, **dict(zip(NAMES, record))))
+            sent = re.search(r" #(\d+)", answer)
+            awaited = int(sent.group(1)) if sent else awaited
+        if number_of(answer):
+            return why(number_of(answer))
+        said = [int(word) for word in ask("record").split()[1:]]
+    other = ["%s %d, the rules say %d" % (name, got, meant) for name, got, meant in zip(NAMES, records[-1], said) if got != meant]
+    return "; ".join(other)
+
+
 def opened(path):
     """The log as a file that can be read twice: a pipe is read to its end first."""
     try:
@@ -80,8 +124,11 @@ def work(words):
         return 0
     number = int(re.match(r"record (\d+)", answer).group(1))
     log.seek(start)
-    line = next(itertools.islice(log, number - 1, None), b"").rstrip(b"\n")
+    lines = [line.rstrip(b"\n") for line in itertools.islice(log, max(0, number - MOST_ASKED), number)]
+    line = lines[-1] if lines else b""
     found = reason(number, line)
     sys.stdout.flush()
-    print("audit: record %d: %s%.80s" % (number, found + ": " if found else "not what the rules say: ", line.decode("utf-8", "replace")), file=sys.stderr)
+    if not found and number <= MOST_ASKED:
+        found = by_the_rules([[int(word) for word in one.split()] for one in lines])
+    print("audit: record %d: %s: %.80s" % (number, found or "not what the rules say", line.decode("utf-8", "replace")), file=sys.stderr)
     return 1
