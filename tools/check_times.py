@@ -24,7 +24,7 @@ EARLIER = [
 ]
 
 # Measured apart: from nothing and alone on two cores.
-FIRST_ANSWER = ""
+FIRST_ANSWER = "The first answer of `./lab` in a fresh clone: below 20 seconds, by the program compiled without proof. The proved lab from nothing (`RT_JOBS=4 rt check lab`, 45 crates): 12 minutes and 5 seconds, 17.5 minutes of CPU time; the last five crates stand one on the other."
 
 
 def lines(crate, folder, ending):
