@@ -14,8 +14,11 @@ import sys
 from tools.crates import ROOT, graph
 
 PAGE = os.path.join(ROOT, "docs", "TRUST.md")
+BESIDES = "For a program or the library, the definitions of its own crates besides: what a line, a descriptor, a log record or a word means."
 START, END = "| layer | files | lines, comments and imports with them |\n", "\n## What the definitions were compared with"
-LAYERS = ["rules", "theorem", "client", "node", "event", "map", "text", "lab", "status", "compare", "library", "audit"]  # by what the crates' names begin with; what must be believed first
+RULES = ["rules", "theorem", "client", "node"]  # by what the crates' names begin with: what must be believed of the rules, and the faces
+PROGRAMS = ["event", "map", "text", "lab", "status", "compare", "library", "audit"]  # besides, for a program or the library
+LAYERS = RULES + PROGRAMS
 LAWS = ("laws_", "model_")  # crates of laws: what they say is proved of the others; only the definitions named in the table change what a contract or statement means
 STATED = ("rules_", "theorem_", "status_proof", "audit_proof", "compare_", "audit_list", "map_versions", "map_summary", "event_words", "library_")  # crates with statements in specs/
 
@@ -135,8 +138,9 @@ def row(layer, files, seen, crates, by_name):
 def table(files, seen):
     rows = [START, "|---|---|---|\n"]
     rows.append(row("words of the laws", files, seen, LAWS, True))
-    for layer in LAYERS:
-        rows.append(row(layer, files, seen, (layer,), False))
+    rows += [row(layer, files, seen, (layer,), False) for layer in RULES]
+    rows += ["\n", BESIDES, "\n\n", START, "|---|---|---|\n"]
+    rows += [row(layer, files, seen, (layer,), False) for layer in PROGRAMS]
     return "".join(rows)
 
 
