@@ -166,10 +166,13 @@ def compiled(name, changed):
 
 # Proved.
 
+WAITED = 1.4  # the last crates stand one on the other, and one processor is idle: 12 minutes for the lab on two
+
+
 def minutes(names):
     """How long a proof from nothing takes on this machine, by the times of the last whole run of the gate."""
     times = seconds()
-    count = math.ceil(sum(times.get(crate, 0) for crate in made_of(names, graph())) / 60 / cores())
+    count = math.ceil(WAITED * sum(times.get(crate, 0) for crate in made_of(names, graph())) / 60 / cores())
     return "%d minute%s" % (count, "" if count == 1 else "s")
 
 
