@@ -11,8 +11,6 @@ is told of on standard error, and the others are checked; so is one that passed 
 Exit status: 0 all passed, 1 some differ, 2 some could not be checked.
 """
 import argparse
-import difflib
-import re
 import shlex
 import shutil
 from typing import NamedTuple
@@ -53,33 +51,6 @@ def parts_of(words):
         else:
             parts[-1].append(w)
     return parts
-
-
-def pieces(line):
-    """An answer's words, each message as one of them; without what is left open."""
-    first, *sent = re.split(r" ?\| ", line)
-    return [w for w in words_of(first) if w != OPEN] + ["| " + " ".join(w for w in part.split() if w != OPEN) for part in sent]
-
-
-def piece_name(piece):
-    """What is the same in a piece that is expected and the one that came in its place: a field's name, a message's name and node."""
-    return " ".join(piece.split()[:3]) if piece.startswith("| ") else piece.partition("=")[0]
-
-
-def how(expected, answer):
-    """Where an answer is not as expected: what was expected and what came in its place, or None for either, pair by pair; nothing where it fits."""
-    if fits(expected, answer):
-        return []
-    wanted, came = pieces(expected), pieces(answer)
-    if wanted[:1] != came[:1] and not expected.startswith(OPEN):
-        return [(expected, answer)]  # taken and not refused, refused with another number, or a look that shows another thing
-    part, found = OPEN in expected.split(), []
-    for kind, a, b, c, d in difflib.SequenceMatcher(None, [piece_name(w) for w in wanted], [piece_name(w) for w in came], False).get_opcodes():
-        if kind == "equal":
-            found += [(w, v) for w, v in zip(wanted[a:b], came[c:d]) if w != v and not (part and v.startswith(w + " "))]
-        else:
-            found += [(w, None) for w in wanted[a:b]] + ([] if part else [(None, v) for v in came[c:d]])
-    return found or [(expected, answer)]  # the same words, in another order
 
 
 def renewed(expected, answer):

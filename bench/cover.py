@@ -8,13 +8,11 @@ Where several columns are the same command: a write is `all reached` where it re
 that is not NORMAL it can be both; an answer's number is the awaited one or, with nothing awaited, the one last awaited, and any other is `another number`; `our set` is the pool's
 member set or, with no member yet, the id alone; `the root's bit clear` is any word of the node's summaries that disagrees with its map, which refusal 18 tells.
 A file that is missing or is no history is told of on standard error, and the others are counted. Exit status: 0, or 2 where one was left out.
-
-On the page (--html) a pair that occurs leads to a history and line where it does, one that never does to the command that makes one.
-Two runs are compared by their summaries: --summary writes what occurs, a line each, and --since SUMMARY says what is new since that one was written, and what was lost.
 """
 import argparse
 import collections
 import functools
+import html
 import sys
 from typing import NamedTuple
 
@@ -283,45 +281,31 @@ ACCEPTED = 0  # among the numbers of refusals
 class Cover:
     def __init__(self):
         self.pairs = collections.defaultdict(collections.Counter)  # (table, row, column): how often with which number
-        self.texts = {}   # of each file that a place is in, its lines
-        self.places = {}  # the same and the number: where it first occurs, line and file; of several files the earliest line, to which the way is shortest
         self.numbers = {"client": collections.Counter(), "node": collections.Counter()}
         self.files = self.histories = self.commands = self.client_events = self.node_events = self.handed = self.unreadable = 0
 
-    def add(self, steps, file=""):
+    def add(self, steps):
         self.files += 1
         self.histories += bool(steps) and steps[0].command.text.split()[0] != "pool"
         self.commands += len(steps)
         for step in steps:
             self.histories += step.answer == "done" and step.command.read.form.name == "pool"
             self.unreadable += step.answer == UNREADABLE
-            place = step.command.at, file
             if step.event:
-                self.client(step, place)
+                self.client(step)
             for event in step.nodes:
-                self.node(event, place)
-
-    def count(self, pair, number, place):
-        self.pairs[pair][number] += 1
-        self.found(pair + (number,), place)
-
-    def found(self, key, place):
-        if key not in self.places or place < self.places[key]:
-            self.places[key] = place
+                self.node(event)
 
     def merge(self, other):
         """Counts what another has counted, too."""
         for pair, counts in other.pairs.items():
             self.pairs[pair].update(counts)
-        self.texts.update(other.texts)
-        for key, place in other.places.items():
-            self.found(key, place)
         for side, counts in other.numbers.items():
             self.numbers[side].update(counts)
         for name in ("files", "histories", "commands", "client_events", "node_events", "handed", "unreadable"):
             setattr(self, name, getattr(self, name) + getattr(other, name))
 
-    def client(self, step, place=(0, "")):
+    def client(self, step):
         self.client_events += 1
         number = number_of(step.answer)
         self.numbers["client"][number] += 1
@@ -331,9 +315,9 @@ class Cover:
             event = Met(numbers, pool=pool, id=min(i, 16), dirty=step.dirty)
             met |= {(row, column) for column, meant in CLIENT_COLUMNS[name] if meant(event)}
         for row, column in met:
-            self.count((CLIENT_TABLES[pool.sync], row, column), number, place)
+            self.pairs[CLIENT_TABLES[pool.sync], row, column][number] += 1
 
-    def node(self, event, place=(0, "")):
+    def node(self, event):
         self.node_events += 1
         self.handed += not event.own
         number = number_of(event.answer)
@@ -341,7 +325,7 @@ class Cover:
         met = Met(event.read.numbers, id=event.node, node=event.before, dirty=event.dirty, answer=event.answer)
         for column, meant in NODE_COLUMNS[event.read.form.name]:
             if meant(met):
-                self.count((NODE_TABLE, node_row(event.before), column), number, place)
+                self.pairs[NODE_TABLE, node_row(event.before), column][number] += 1
 
 
 # What there is to say.
@@ -371,11 +355,6 @@ def never(cover, table):
         if columns:
             found[row] = columns
     return found
-
-
-def cell_name(table, row, column):
-    """A cell as a person types it: `./lab --generate --cell` takes it."""
-    return " / ".join((table, row, column))
 
 
 def having(word):
@@ -465,67 +444,78 @@ def row_lines(cover, table, row):
     return head + ["| %s | %s | %s |" % ((column,) + counted(cover, table, row, column)) for column in there]
 
 
-MAKE_ONE = 'A history that leads to one: ./lab --generate --cell "TABLE / STATE / EVENT", as they are named here.'
-
-
-def text(cover, brief=False, compared=None):
+def text(cover, brief=False):
     every = tables(cover)
     out = ["# Which states met which events", ""] + head(cover) + ["", "| pairs of docs/MATRIX.md | there are | occur | no event brings about |", "|---|---|---|---|"]
     out += ["| %s | %d | %d | %d |" % ((t.name,) + share(cover, t)) for t in every]
     out += ["", "## Refusals", "", "| number | client | node | given for |", "|---|---|---|---|"]
     out += ["| %d | %s | %s | %s |" % (n, cover.numbers["client"][n] or "-", cover.numbers["node"][n] or "-", why) for n, why in REFUSALS.items()]
-    out += ["", "Never: %s." % missing_words(cover), "", "## Pairs that never occur", "", MAKE_ONE]
+    out += ["", "Never: %s." % missing_words(cover), "", "## Pairs that never occur"]
     for t in every:
         out += ["", "**%s**" % t.name, ""] + never_lines(cover, t)
     by_poke = poke_lines(cover, every)
     out += ["", "**By poke**: %s" % BY_POKE, ""] + ["- " + line for line in by_poke] if by_poke else []
-    out += since_lines(compared) if compared else []
     for t in [] if brief else every:
         out += ["", "## " + t.name] + [line for row in t.rows for line in row_lines(cover, t, row)]
     return "\n".join(out) + "\n"
 
 
-# Two runs: what occurs, a line each, which `diff` compares too.
-
-def outcome_words(number):
-    return "refused %d" % number if number else "accepted"
-
-
-def summary(cover):
-    """Every pair that occurs with what was answered, sorted."""
-    return sorted(" / ".join((table, row.words, column, outcome_words(number))) for table, row, column, number in cover.places)
-
-
-class Since(NamedTuple):
-    """Against an earlier summary: what is new, what was lost."""
-    name: str
-    new: list
-    lost: list
-
-
-def earlier(path):
-    """The lines of a summary."""
-    try:
-        with open(path, encoding="utf-8") as f:
-            lines = {line.rstrip("\n") for line in f if line.strip()}
-    except (OSError, UnicodeDecodeError) as e:
-        raise Wrong("%s: %s" % (path, getattr(e, "strerror", None) or "it is no text"))
-    odd = [line for line in sorted(lines) if len(line.split(" / ")) != 4]
-    if odd:
-        raise Wrong("%s: no line of a summary (./lab --cover --summary writes one): %.80s" % (path, odd[0]))
-    return lines
+STYLE = """
+:root { color-scheme: light dark; --line: #8886; --never: #b3261e; --good: #1b6e3c; --ground: #fff; --text: #1c1c1c; }
+@media (prefers-color-scheme: dark) { :root { --never: #ff9c8f; --good: #7fd8a1; --ground: #161616; --text: #e8e8e8; } }
+body { font: 15px/1.45 system-ui, sans-serif; margin: 1rem auto; padding: 0 1rem; max-width: 110rem; background: var(--ground); color: var(--text); }
+.scroll { overflow: auto; max-height: 85vh; border: 1px solid var(--line); }
+table { border-collapse: collapse; font-size: 13px; }
+th, td { border: 1px solid var(--line); padding: .2rem .45rem; text-align: left; vertical-align: top; font-weight: normal; }
+thead th { position: sticky; top: 0; background: var(--ground); z-index: 1; min-width: 5.5rem; }
+tbody th, thead th:first-child { position: sticky; left: 0; background: var(--ground); min-width: 8rem; }
+thead th:first-child { z-index: 2; }
+td b { color: var(--good); }
+td.never { color: var(--never); }
+td.other { opacity: .75; }
+td small { display: block; white-space: nowrap; font-size: 12px; }
+"""
 
 
-def since(cover, path, before):
-    now = set(summary(cover))
-    return Since(path, sorted(now - before), sorted(before - now))
+def cell(cover, table, row, k, column):
+    counter = cover.pairs.get((table.name, row, column))
+    if counter:
+        accepted = "<b>%d</b>" % counter[ACCEPTED] if counter[ACCEPTED] else ""
+        return "<td>%s%s</td>" % (accepted, "".join("<small>refused %d: %d</small>" % (n, counter[n]) for n in sorted(counter) if n != ACCEPTED))
+    if not is_asked(table, row, k):
+        return "<td></td>"
+    return '<td class="other">by poke</td>' if only_by_poke(table.name, row.words, column) else '<td class="never">never</td>'
 
 
-def since_lines(found):
-    out = ["", "## Since %s" % found.name]
-    for words, those in (("New", found.new), ("Lost", found.lost)):
-        out += ["", "**%s**: %d" % (words, len(those)), ""] + ["- " + line for line in those]
-    return out
+def listed(lines):
+    return ["<ul>"] + ["<li>%s</li>" % html.escape(line) for line in lines] + ["</ul>"] if lines else []
+
+
+def table_of(title, heads, rows):
+    """A table that scrolls by itself, also by keys. Rows: the words at the left, and the cells."""
+    title = html.escape(title)
+    out = ["<h2>%s</h2>" % title, '<div class="scroll" tabindex="0" role="region" aria-label="%s">' % title, "<table>"]
+    out.append("<thead><tr>%s</tr></thead><tbody>" % "".join('<th scope="col">%s</th>' % html.escape(words) for words in heads))
+    out += ['<tr><th scope="row">%s</th>%s</tr>' % (html.escape(words), cells) for words, cells in rows]
+    return out + ["</tbody></table></div>"]
+
+
+def page(cover):
+    every = tables(cover)
+    out = ["<!DOCTYPE html>", '<html lang="en">', '<meta charset="utf-8">', '<meta name="viewport" content="width=device-width, initial-scale=1">',
+           "<title>Which states met which events</title>", "<style>%s</style>" % STYLE, "<main>", "<h1>Which states met which events</h1>"]
+    out += ["<p>%s</p>" % html.escape(line) for line in head(cover)]
+    out += listed(["%s: of %d pairs %d occur; %d of the others no event brings about" % ((t.name,) + share(cover, t)) for t in every])
+    out.append("<p>Refusal numbers that never occur: %s.</p>" % html.escape(missing_words(cover)))
+    out.append("<p>In a cell: how often <b>accepted</b>, and how often refused with which number. By poke: %s. * in no table of docs/MATRIX.md.</p>" % BY_POKE)
+    out += listed(poke_lines(cover, every))
+    for t in every:
+        rows = [(column + ("" if k < t.known[1] else " *"), "".join(cell(cover, t, row, k, column) for row in t.rows)) for k, column in enumerate(t.columns)]
+        out += table_of(t.name, ["event"] + [r.words + ("" if r.known else " *") for r in t.rows], rows)
+    counts = cover.numbers
+    out += table_of("Refusals", ["number", "client", "node", "given for"],
+                    [(str(n), "<td>%d</td><td>%d</td><td>%s</td>" % (counts["client"][n], counts["node"][n], html.escape(why))) for n, why in REFUSALS.items()])
+    return "\n".join(out + ["</main>", "</html>"]) + "\n"
 
 
 def arguments(words):
@@ -534,26 +524,16 @@ def arguments(words):
     form = parser.add_mutually_exclusive_group()
     form.add_argument("--html", action="store_true", help="one page for a browser, with nothing to load, instead of text")
     form.add_argument("--brief", action="store_true", help="only what never occurs, without the tables")
-    form.add_argument("--summary", action="store_true", help="what occurs, a line for each pair and answer: for --since, or for diff")
-    parser.add_argument("--since", metavar="SUMMARY", help="say also what is new since this summary, and what was lost")
-    parser.add_argument("--pages", metavar="DIR", help="with --html: write the pages (./lab --page) of the histories that pairs lead to into that folder, and link to them")
     parser.add_argument("--unreadable", action="store_true", help="count lines that are no command, and go on")
-    given = parser.parse_args(words)
-    if given.pages is not None and not given.html:
-        parser.error("--pages goes with --html")
-    if given.summary and given.since:
-        parser.error("--summary is what --since is given; diff compares two of them")
-    return given
+    return parser.parse_args(words)
 
 
 def covered(things, run, unreadable):
     """What some files cover, by two runs of the program for all, and what is wrong with those that are left out."""
     histories = loaded(things, unreadable)
-    found, good = Cover(), [h for h in histories if not isinstance(h, Wrong)]
-    for history, steps in zip(good, trace(good, run)):
-        found.add(steps, history.name)
-    there = {file for _, file in found.places.values()}
-    found.texts = {h.name: h.lines for h in good if h.name in there}
+    found = Cover()
+    for steps in trace([h for h in histories if not isinstance(h, Wrong)], run):
+        found.add(steps)
     return found, [h for h in histories if isinstance(h, Wrong)]
 
 
@@ -568,22 +548,12 @@ def parts(given, run):
 
 def cover(words, run=None, write=sys.stdout.write, wrong=complain):
     given = arguments(words)
-    found, status, before = Cover(), 0, earlier(given.since) if given.since else None
+    found, status = Cover(), 0
     for some, errors in parts(given, run):
         found.merge(some)
         for error in errors:
             wrong(error)
             status = 2
     if found.files:
-        write(said(found, given, None if before is None else since(found, given.since, before), run or run_lab))
+        write(page(found) if given.html else text(found, given.brief))
     return status
-
-
-def said(found, given, compared, run):
-    """What was asked for."""
-    if given.summary:
-        return "".join(line + "\n" for line in summary(found))
-    if not given.html:
-        return text(found, given.brief, compared)
-    from bench import cover_page  # it rests on this module
-    return cover_page.page(found, compared, cover_page.write_pages(found, given.pages, run) if given.pages else {})

@@ -7,18 +7,14 @@ The same kind and seed give the same histories on every machine; the first ones 
 
 Each history leads to a cell of docs/MATRIX.md, a state and an event, and goes on from there; the cells come in turn. So `./lab --cover` of a thousand histories of a kind leaves no pair
 out that can occur in it (docs/LAB.md says which can't).
-
-  --cell "Node / NORMAL / fault"   the one history that leads to this cell and ends with its event: by events alone where they lead there, else with the state put in; the names are
-                                   those of `./lab --cover`, which says this command for each cell that is never met
 """
 import argparse
-import difflib
 import functools
 import os
 import sys
 
 from bench.check import rewritten
-from bench.cover import CLIENT_TABLES, FIRST, NODE_TABLE, NOT_EMPTY, SECOND, SESSION_ROWS, cell_name, only_by_poke
+from bench.cover import CLIENT_TABLES, FIRST, NODE_TABLE, NOT_EMPTY, SECOND, SESSION_ROWS, only_by_poke
 from bench.driver import DELETE, DISASSEMBLE, NORMAL, Chance, Driver, set_of
 from bench.history import CLIENT, DELIVER, FORMS, NODE, Wrong, answers_to, parse, read, run_lab, store, whole
 from bench.spread import spread
@@ -155,9 +151,9 @@ MISSED = ("register_add 7 4", "join_assemble", "enable1 4 7", "write 3 6 4", "le
 FINDS = ("next dirty chunk", "map check")
 
 
-def node_cell(d, row, column, after=TO_EMPTY):
+def node_cell(d, row, column):
     event = SEARCHES.get(column) or lines_of(matrix.NODE_EVENTS)[column]
-    for line in [*(MISSED if column in FINDS else ()), *NODE_WAYS[row], event, *after]:
+    for line in [*(MISSED if column in FINDS else ()), *NODE_WAYS[row], event, *TO_EMPTY]:
         d.say("node %d %s" % (HERE, line))
 
 
@@ -379,61 +375,16 @@ def histories(kind, seed, count):
     return (history(kind, seed, k) for k in range(1, count + 1))
 
 
-# One cell.
-
-@functools.lru_cache(maxsize=None)
-def cell_names():
-    """Every cell of the matrix by its name, with its table, state and event."""
-    found = {}
-    for what, row, column in MATRIX:
-        table = CLIENT_TABLES[what[1]] if what[0] == "client" else NODE_TABLE
-        found[cell_name(table, row, column)] = what, row, column
-    return found
-
-
-def cell_of(name):
-    """The cell with this name."""
-    if name not in cell_names():
-        near = difflib.get_close_matches(name, cell_names(), n=1, cutoff=0)[0]
-        raise Wrong('no cell is named "%s"; one is "TABLE / STATE / EVENT", as --cover writes it; meant is perhaps "%s"' % (name, near))
-    return cell_names()[name]
-
-
-def cell_history(name):
-    """The lines that lead to a cell, its event the last: by events, or by what is put in where none lead there."""
-    what, row, column = cell = cell_of(name)
-    table = CLIENT_TABLES[what[1]] if what[0] == "client" else NODE_TABLE
-    chance, title = Chance("cell", cell_name(table, row, column)), ["# %s" % cell_name(table, row, column)]
-    why = only_by_poke(table, row, column)
-    if why:
-        pool, lines = put_in(chance, cell)
-        return title + ["# The state is put in: %s." % why, pool] + lines
-    d = Driver(chance, range(4), what[1] if what[0] == "client" else 0, 64)
-    d.say("pool %d %d", d.sync, d.chunks)
-    d.say("auto 1")
-    if what[0] == "client":
-        client_cell(d, row, column, [BESIDE, 2])
-    else:
-        node_cell(d, row, column, after=())
-    return title + d.lines
-
-
 # What is typed.
 
 def arguments(words):
     parser = argparse.ArgumentParser(prog="./lab --generate", description=__doc__, formatter_class=argparse.RawDescriptionHelpFormatter)
-    parser.add_argument("kind", metavar="KIND", nargs="?", choices=sorted(KINDS), help="system, wide or hostile")
-    parser.add_argument("seed", metavar="SEED", nargs="?", type=whole, help="a whole number: another one, other histories")
-    parser.add_argument("count", metavar="COUNT", nargs="?", type=whole, help="how many")
-    parser.add_argument("--cell", metavar="CELL", help="instead of the three: the history that leads to this cell of docs/MATRIX.md")
+    parser.add_argument("kind", metavar="KIND", choices=sorted(KINDS), help="system, wide or hostile")
+    parser.add_argument("seed", metavar="SEED", type=whole, help="a whole number: another one, other histories")
+    parser.add_argument("count", metavar="COUNT", type=whole, help="how many")
     parser.add_argument("--expect", action="store_true", help="write the lab's answers in, as `>` lines (for ./lab --check)")
     parser.add_argument("--into", metavar="DIR", help="a file for each, KIND-SEED-K.history in that folder, instead of all on standard output")
-    given = parser.parse_args(words)
-    if given.cell is not None and (given.kind is not None or given.into is not None):
-        parser.error("--cell makes one history, on standard output: it goes with --expect alone")
-    if given.cell is None and given.count is None:
-        parser.error("KIND SEED COUNT, or --cell CELL")
-    return given
+    return parser.parse_args(words)
 
 
 def with_answers(made, run):
@@ -457,10 +408,6 @@ def expecting(given, run):
 
 def generate(words, run=None, write=sys.stdout.write):
     given = arguments(words)
-    if given.cell is not None:
-        lines = cell_history(given.cell)
-        write("\n".join(with_answers([lines], run or run_lab)[0] if given.expect else lines) + "\n")
-        return 0
     made = expecting(given, run) if given.expect else histories(given.kind, given.seed, given.count)
     if given.into is None:
         for lines in made:

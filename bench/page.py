@@ -1,25 +1,21 @@
 """A history as one page for a browser; `./lab --page FILE > page.html` runs it.
 
 The page holds everything: no network, no library. On it: the messages as a sequence chart, the client and its nodes; a slider over the commands; and at each command the pool, the sessions
-and nodes, and every row of the client's and the nodes' maps as a strip of dirty chunks, with what a transfer has put into staging below it. What the command changed is marked; an expected answer
-stands beside the one that came, and where they differ, how. Runs of commands that change nothing are folded.
-Commands have the numbers of their lines in the file: FILE:21, as --check writes it, opens at line 21, and page.html#L21 does in a browser; the address follows every step.
-Exit status: 0, or 2 where the file is missing, can't be read as a history or has no such line.
+and nodes, and every row of the client's and the nodes' maps as a strip of dirty chunks, with what a transfer has put into staging below it.
+Commands have the numbers of their lines in the file. Exit status: 0, or 2 where the file is missing or can't be read as a history.
 """
 import argparse
 import html
 import json
 import os
-import re
 import sys
+import textwrap
 
-from bench.check import how
-from bench.history import UNREADABLE, Wrong, is_number, load, messages, run_lab, whole
+from bench.history import UNREADABLE, Wrong, load, messages, run_lab
 from bench.trace import BY_HAND, FRESH_NODES, MEMBERS, ids, taken, trace
-from bench.words import answer_words, event_words, message_words, set_words
-from programs.refusals import REFUSALS
 
 TEMPLATE = os.path.join(os.path.dirname(os.path.abspath(__file__)), "page.html")
+WIDEST = 84  # letters of a comment on a line of the chart
 CLIENT = -1  # its place among those who send and receive
 SENT, AWAITED, ANSWERED, MAP = range(4)  # kinds of arrows
 STATES = {".": "", "C": "CREATED", "N": "NORMAL", "F": "FAILED", "R": "RECONNECTING", "X": "REMOVING"}
@@ -50,9 +46,7 @@ class Happened:
         _, kind, version = step.event.numbers
         said = ("failed (%s)" % last.answer, "good", "version %d" % version)[kind]
         self.arrows.append((last.node, [CLIENT], "#%d: %s" % (step.before.number, said), ANSWERED))
-        arrives = "%s arrives at node %s" % (message_words(message), message[1])
-        self.words += [arrives] + [event_words(e) for e in handed[:count]] if message[0] == "MAP_SEND" else ["%s: %s" % (arrives, answer_words(first.answer))]
-        self.words.append("answer #%d: %s" % (step.before.number, said))
+        self.words += ["%s arrives" % " ".join(message)] + ["node %d: %s" % (e.node, told(e)) for e in handed[:count]] + ["answer #%d: %s" % (step.before.number, said)]
         return handed[count:]
 
     def checked(self, step, event):
@@ -60,7 +54,7 @@ class Happened:
         tick, _, empty = step.event.numbers
         said = "tick %d: %s" % (tick, "empty" if empty else "not empty")
         self.arrows.append((event.node, [CLIENT], said, ANSWERED))
-        self.words += [event_words(event), "answer to " + said]
+        self.words += ["node %d: %s" % (event.node, told(event)), "answer to " + said]
 
     def sent(self, step, handed):
         """The messages of an accepted event: those that say the same to several nodes as one. Where they were handed over at once, with what the nodes said to them."""
@@ -69,24 +63,21 @@ class Happened:
             to, said = int(words[1]), ""
             if handed and not number and words[0] not in BY_HAND:
                 said = handed.pop(0).answer
-            told_to, answers = same.setdefault((message_words(words), number), ([], []))
+            told_to, answers = same.setdefault((" ".join([words[0]] + words[2:]), number), ([], []))
             told_to.append(to)
             answers.append((to, said))
         for (text, number), (told_to, answers) in same.items():
+            refused = "; ".join("%d: %s" % a for a in answers if a[1].startswith("refused"))
             text += " #" + number if number else ""
-            refused = grouped(answers)
-            self.arrows.append((CLIENT, told_to, text + (" (%s)" % "; ".join("%s: %s" % a for a in refused) if refused else ""), AWAITED if number else SENT))
-            took = "; ".join("%s: %s" % (who, answer_words(said)) for who, said in refused) or ("taken" if answers[0][1] else "")
-            self.words.append("%s to %s%s" % (text, "node %d" % told_to[0] if len(told_to) == 1 else set_words(sum(1 << n for n in told_to)), ": " + took if took else ""))
+            self.arrows.append((CLIENT, told_to, text + (" (%s)" % refused if refused else ""), AWAITED if number else SENT))
+            took = refused or ("taken" if answers[0][1] else "")
+            self.words.append("%s to %s%s" % (text, " ".join(map(str, told_to)), ": " + took if took else ""))
 
 
-def grouped(answers):
-    """Of what nodes said, the refusals: who gave each, one node or a set."""
-    found = {}
-    for to, said in answers:
-        if said.startswith("refused"):
-            found.setdefault(said, []).append(to)
-    return [(str(those[0]) if len(those) == 1 else set_words(sum(1 << n for n in those)), said) for said, those in found.items()]
+def told(event):
+    """What a node made of an event, in words."""
+    line = " ".join([event.read.form.name] + [str(n) for n in event.read.numbers[1:]])
+    return "%s: %s" % (line, "taken" if taken(event.answer) else event.answer)
 
 
 def boxes(step):
@@ -116,13 +107,13 @@ def session_words(pool, i):
 
 def names(number):
     """A set in words."""
-    return set_words(number) if number else "none"
+    return " ".join(map(str, ids(number))) or "none"
 
 
 def awaited_words(pool):
     if not pool.awaited:
         return "nothing"
-    return "%s, at node %s #%d" % (message_words(pool.awaited), pool.awaited[1], pool.number)
+    return "%s #%d" % (" ".join(pool.awaited), pool.number)
 
 
 def pool_of(pool):
@@ -171,18 +162,13 @@ def titles(history):
     """The comments before each command, by its line."""
     found, last = {}, 0
     for c in history.commands:
-        found[c.at] = [line for line in history.lines[last : c.at - 1] if line.startswith("#")]
+        found[c.at] = [part for line in history.lines[last : c.at - 1] if line.startswith("#") for part in textwrap.wrap(line, WIDEST)]
         last = c.at
     return found
 
 
-def expected(c, answer):
-    """What is expected of a command, and where the answer differs from it; nothing where nothing is."""
-    return None if c.expected is None else [c.expected, how(c.expected, answer)]
-
-
-def picture(history, steps, opens=0):
-    """All that the page shows. Opens: the line that it opens at, 0 for the first."""
+def picture(history, steps):
+    """All that the page shows."""
     comments, nodes, rows, pools, commands, there, last = titles(history), Series(node_of(FRESH_NODES[0])), Series(""), [], [], set(), FRESH_NODES
     for k, step in enumerate(steps):
         c, happened = step.command, Happened(step)
@@ -198,49 +184,27 @@ def picture(history, steps, opens=0):
         if not pools or pools[-1] != now:
             pools.append(now)
         there |= {n for sender, to, _, _ in happened.arrows for n in [sender] + to} | set(nodes.of) | set(ids(step.after.members)) | {i for i in MEMBERS if step.after.letters[i] != "."}
-        unread = c.read if isinstance(c.read, str) else ""
-        commands.append([c.at, c.text, step.answer, len(pools) - 1, comments[c.at], happened.arrows, boxes(step), happened.words, expected(c, step.answer), unread])
-    return {"name": os.path.basename(history.name), "path": history.name, "line": opens, "refusals": REFUSALS, "nodes": sorted(there - {CLIENT}), "commands": commands, "pools": pools, "states": nodes.data(), "rows": rows.data()}
-
-
-def as_data(data):
-    """Data as they stand in a page: no `<` is left in them, so nothing in a history can end the script."""
-    return json.dumps(data, separators=(",", ":")).replace("<", "\\u003c")
-
-
-def filled(template, parts):
-    """A template with its parts in their places."""
-    return re.sub(r"\{\{(\w+)\}\}", lambda place: parts[place.group(1)], template).encode("ascii", "xmlcharrefreplace").decode("ascii")
+        commands.append([c.at, c.text, step.answer, len(pools) - 1, comments[c.at], happened.arrows, boxes(step), happened.words])
+    return {"name": os.path.basename(history.name), "nodes": sorted(there - {CLIENT}), "commands": commands, "pools": pools, "states": nodes.data(), "rows": rows.data()}
 
 
 def page(data):
+    """The template with the data in it. No `<` is left in the data, so nothing in a history can end the script."""
     with open(TEMPLATE, encoding="utf-8") as f:
-        return filled(f.read(), {"name": html.escape(data["name"]), "data": as_data(data)})
-
-
-def placed(word):
-    """The file that is named, and the line of it, 0 where none is: `mine/lost.history:21`, as --check writes it."""
-    path, _, line = word.rpartition(":")
-    return (path, int(line)) if path and is_number(line) and not os.path.exists(word) else (word, 0)
+        before, after = f.read().split("{{data}}")
+    text = json.dumps(data, separators=(",", ":")).replace("<", "\\u003c")
+    return before.replace("{{name}}", html.escape(data["name"])) + text + after
 
 
 def arguments(words):
     parser = argparse.ArgumentParser(prog="./lab --page", description=__doc__, formatter_class=argparse.RawDescriptionHelpFormatter)
-    parser.add_argument("file", metavar="FILE[:LINE]", help="a history; `-` is standard input")
-    parser.add_argument("--at", metavar="LINE", type=whole, help="open at the command on this line, the same as FILE:LINE")
-    given = parser.parse_args(words)
-    given.file, line = placed(given.file)
-    given.line = line if given.at is None else given.at
-    given.placed = given.at is not None or line > 0
-    return given
+    parser.add_argument("file", metavar="FILE", help="a history; `-` is standard input")
+    return parser.parse_args(words)
 
 
 def make(words, run=run_lab, write=sys.stdout.write):
-    given = arguments(words)
-    history = load(given.file)
+    history = load(arguments(words).file)
     if not history.commands:
         raise Wrong("%s: there is no command in it" % history.name)
-    if given.placed and not 1 <= given.line <= len(history.lines):
-        raise Wrong("%s: there is no line %d: it has %d" % (history.name, given.line, len(history.lines)))
-    write(page(picture(history, trace([history], run, rows=True)[0], given.line)))
+    write(page(picture(history, trace([history], run, rows=True)[0])))
     return 0

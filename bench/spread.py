@@ -13,14 +13,14 @@ QUIET = 1          # seconds before progress is shown
 class Progress:
     """How many of how many are done, on one line that is written over."""
 
-    def __init__(self, total, what, stream=None, who="lab"):
-        self.who, self.total, self.what, self.done, self.began, self.shown = who, total, what, 0, time.monotonic(), False
+    def __init__(self, total, what, stream=None):
+        self.total, self.what, self.done, self.began, self.shown = total, what, 0, time.monotonic(), False
         self.stream = sys.stderr if stream is None else stream
 
     def add(self, count):
         self.done += count
         if self.stream.isatty() and time.monotonic() - self.began >= QUIET:
-            self.stream.write("\r\033[K%s: %d of %d %s" % (self.who, self.done, self.total, self.what))
+            self.stream.write("\r\033[Klab: %d of %d %s" % (self.done, self.total, self.what))
             self.stream.flush()
             self.shown = True
 

@@ -1,6 +1,6 @@
-"""The gate's test of the bench around the lab (`./lab --check`, `--cover`, `--generate`, `--page`, `--rules`, `--against`, `--simulate`); it says nothing where all is well.
+"""The gate's test of the bench around the lab (`./lab --check`, `--cover`, `--generate`, `--page`); it says nothing where all is well.
 
-  python3 -m bench.test        with kept answers; the program is compiled for it, not proved (some seconds, once), and asked a few lines, and once for every cell of the matrix
+  python3 -m bench.test        with kept answers; the program is compiled for it, not proved (some seconds, once), and asked a few lines
   python3 -m bench.test keep   runs the lab on the small histories that are tried here, and keeps its answers in bench/test.kept
   python3 -m bench.test real   the same tests with the lab itself, and what needs too many answers to be kept: a thousand histories of each kind
 
@@ -9,6 +9,7 @@ the gate compares with what the program writes.
 """
 import contextlib
 import hashlib
+import html.parser
 import io
 import json
 import os
@@ -28,14 +29,10 @@ import bench.generate
 import bench.history
 import bench.log
 import bench.page
-import bench.rules
 import bench.spread
 import bench.trace
 import bench.why
-import bench.words
-from bench import test_against, test_simulate
 from bench.history import FORMS, UNREADABLE, Wrong, parse, read
-from bench.markup import Tags, faults
 from programs import build, refusals
 from tools import matrix
 from tools.crates import ROOT
@@ -379,7 +376,7 @@ def try_errors():
     with files(bytes=b"try\n> ok\nno \xff command\n") as paths:
         done = subprocess.run([os.path.join(ROOT, "lab"), "--check", paths[0]], stdin=subprocess.DEVNULL, stdout=subprocess.DEVNULL, stderr=subprocess.PIPE, env=dict(os.environ, LC_ALL="C", PYTHONUTF8="0"))
         same((done.returncode, b"lab: %s:3: no command: no \xff command\n" % paths[0].encode() in done.stderr), (2, True), "an error about bytes that are no text: %s" % done.stderr)
-    for what in ("--check", "--cover", "--generate", "--page", "--against", "--simulate", ""):
+    for what in ("--check", "--cover", "--generate", "--page", ""):
         done = subprocess.run([os.path.join(ROOT, "lab")] + [what] * bool(what) + ["--help"], stdin=subprocess.DEVNULL, stdout=subprocess.PIPE, universal_newlines=True)
         same((done.returncode, "./lab " + what in done.stdout), (0, True), "./lab %s --help" % what)
     wrong("a lab that dies", ["3 answers came to 4 commands"], lambda: bench.history.answers_to([["try", "try", "try"]], lambda text: ["done"] * 3))
@@ -690,10 +687,33 @@ def try_writes():
         same(", ".join(found), wanted, "the columns of a write that reached %d, for %d" % (reached, i))
 
 
+class Tags(html.parser.HTMLParser):
+    """The tags that are open, the texts by tag, and what a page would load."""
+
+    def __init__(self, text):
+        super().__init__()
+        self.open, self.texts, self.loads = [], {}, []
+        self.feed(text)
+        self.close()
+
+    def handle_starttag(self, tag, attrs):
+        self.loads += [value for name, value in attrs if name in ("src", "href", "action", "data")]
+        if tag not in ("meta", "input", "br", "link", "rect", "line", "path"):
+            self.open.append(tag)
+
+    def handle_endtag(self, tag):
+        same(tag, self.open.pop() if self.open else None, "a tag that is closed")
+
+    def handle_data(self, data):
+        self.texts.setdefault(self.open[-1] if self.open else "", []).append(data)
+
+
 def alone(text):
-    """The tags of a page that loads nothing, and whose links lead somewhere in it."""
-    same(faults(text), [], "what is wrong with a page")
-    return Tags(text)
+    """The tags of a page that loads nothing."""
+    tags = Tags(text)
+    same((tags.open, tags.loads), ([], []), "tags left open, and what a page loads")
+    same(re.findall(r"https?://(?!www\.w3\.org/2000/svg)[^ \"]*|@import|url\(|fetch\(|XMLHttpRequest|import\(", text), [], "what a page would load")
+    return tags
 
 
 def covered(lab, *words):
@@ -722,47 +742,9 @@ def try_cover(lab):
             same([found for found in part.split("\n") if found.split(" |")[0] == line.split(" |")[0]], [line], "the pair of %s in %s" % (row, table))
         brief = covered(lab, "--unreadable", "--brief", *paths)
         same((text.startswith(brief), "\n## Node\n" in brief), (True, False), "a brief cover")
-        try_cover_page(lab, paths)
-        try_since(lab, paths)
-
-
-def try_cover_page(lab, paths):
-    """Every cell of the matrix stands on the page and leads somewhere: to a line of a history that meets it, or to its command."""
-    text = covered(lab, "--unreadable", "--html", *paths)
-    page = alone(text)
-    same(page.texts["caption"], ["Client, non-sync pool", "Client, sync pool", "Node", "Refusals"], "the tables of a cover's page")
-    cells = [i for i in page.ids if re.match(r"c\d", i)]
-    same((len(cells), len(page.links)), (468 + 286 + 450, 468 + 286 + 450), "cells and links")
-    same(page.texts["em"].count("never") > 100 and "by poke" in page.texts["em"] and "12: 2" not in page.texts["em"], True, "cells that never occur")
-    data = page.data()
-    same(set(data["cells"]) <= set(cells) and set(data["whys"]) <= set(cells), True, "whether all that is led to is on the page")
-    names = [name for name, _ in data["files"]]
-    same(set(names) <= set(paths), True, "the files that cells lead to")
-    link_down = [column for column, *_ in matrix.client_events(2, 2)].index("link down")
-    normal = [row[0] for row in bench.cover.SESSION_ROWS[0]].index("NORMAL")
-    (number, count, file, line), *_ = data["cells"]["c0-%d-%d" % (normal, link_down)]
-    name, lines = data["files"][file]
-    same((number, count, lines[line - 1].split()[0]), (0, 3, "link_down"), "the line that a link down of a NORMAL session leads to: %s:%d" % (name, line))
-    same(all(len(lines) >= at for i in data["cells"].values() for _, _, f, at in i for lines in [data["files"][f][1]]), True, "whether every line is there")
-
-
-def try_since(lab, paths):
-    """A summary, and what is new and lost since another one."""
-    lines = covered(lab, "--unreadable", "--summary", *paths).split("\n")[:-1]
-    same((lines == sorted(lines), len(set(lines)) == len(lines), {len(line.split(" / ")) for line in lines}), (True, True, {4}), "the lines of a summary")
-    gone = "Node / NO_IO / fault / refused 9"
-    with tempfile.TemporaryDirectory() as folder:
-        before, odd = os.path.join(folder, "before"), os.path.join(folder, "odd")
-        for path, text in ((before, lines[1:] + [gone]), (odd, ["# Which states met which events"])):
-            with open(path, "w", encoding="utf-8") as f:
-                f.write("\n".join(text) + "\n")
-        brief = covered(lab, "--unreadable", "--brief", "--since", before, *paths)
-        same("## Since %s\n\n**New**: 1\n\n- %s\n\n**Lost**: 1\n\n- %s\n" % (before, lines[0], gone) in brief, True, "what is new and lost: %s" % brief[-300:])
-        page = covered(lab, "--unreadable", "--html", "--since", before, *paths)
-        same(len(re.findall(r'<td id="\S+" class="\w+ (?:new|lost)">', page)), 2, "the cells that are marked")
-        same(len(alone(page).links), 468 + 286 + 450 + 2, "links to them")
-        wrong("a summary that is none", ["no line of a summary"], lambda: bench.cover.cover(["--since", odd] + paths, no_lab, print))
-        wrong("a summary that is not there", ["No such file"], lambda: bench.cover.cover(["--since", odd + "x"] + paths, no_lab, print))
+        page = alone(covered(lab, "--unreadable", "--html", *paths))
+        same(page.texts["h2"], ["Client, non-sync pool", "Client, sync pool", "Node", "Refusals"], "the parts of a cover's page")
+        same(page.texts["td"].count("never") > 100 and "refused 12: 2" in page.texts["small"], True, "the cells of a cover's page")
 
 
 def try_questions(lab):
@@ -879,20 +861,6 @@ def try_generate():
     same({16, 2**63 - 34, 2**64 - 1} - hostile, set(), "hostile numbers")
 
 
-def try_one_cell(lab):
-    """Each cell has a history that leads to it and ends with its event, and no other line of what is typed is one's."""
-    names = bench.generate.cell_names()
-    histories = [parse(name, "\n".join(bench.generate.cell_history(name))) for name in names]
-    for name, steps in zip(names, bench.trace.trace(histories, lab)):
-        cover = bench.cover.Cover()
-        cover.add(steps[-1:])
-        same(name in {bench.cover.cell_name(table, row.words, column) for table, row, column in cover.pairs}, True, "whether the history of %s ends there: %s" % (name, steps[-1].answer))
-    wrong("a cell that is none", ["no cell is named", "Node / NORMAL / fault"], lambda: bench.generate.generate(["--cell", "Node / NORMAL / faults"]))
-    said = []
-    bench.generate.generate(["--cell", "Node / NORMAL / fault", "--expect"], lambda text: ["ok"] * text.count("\n"), said.append)
-    same("".join(said).split("\n")[-3:], ["node 1 fault", "> ok", ""], "a cell's history with its answers")
-
-
 def try_turns():
     """A thousand histories come to every cell that they can come to."""
     for kind, table in bench.generate.CELLS.items():
@@ -929,7 +897,9 @@ def drawn(lab, text, name="page"):
         said = []
         same(bench.page.make(paths, lab, said.append), 0, "the status of a page")
     page = "".join(said)
-    return alone(page).data()
+    tags = alone(page)
+    same(page.isascii(), True, "whether a page can be written in any encoding")
+    return json.loads(tags.texts["script"][0])
 
 
 def at(series, key, k):
@@ -937,103 +907,38 @@ def at(series, key, k):
     return series["values"][found[-1] if found else 0]
 
 
-def leg_lost():
-    return example("leg-lost") + "# </script><!-- a comment that would end the data\nrow 0 1\n"
-
-
 def try_page(lab):
-    text = leg_lost()
+    text = example("leg-lost") + "# </script><!-- a comment that would end the data\nrow 0 1\n"
     data = drawn(lab, text)
     lines = text.split("\n")
     same((data["name"], data["nodes"]), ("page.history", [0, 1]), "the name of a page and its nodes")
     same([c[:2] for c in data["commands"]], [[c.at, c.text] for c in parse("", text).commands], "commands and their lines")
-    same(data["commands"][0][4], ["# A leg is lost and comes back.", "# Two nodes make a pool of 64 chunks. Messages that are not awaited reach their nodes at once."], "comments")
+    same(data["commands"][0][4], ["# A leg is lost and comes back.", "# Two nodes make a pool of 64 chunks. Messages that are not awaited reach their", "nodes at once."], "comments")
     same(data["commands"][-1][4], ["# </script><!-- a comment that would end the data"], "a comment")
     place = {c[1]: k for k, c in enumerate(data["commands"])}
     delivers = [k for k, c in enumerate(data["commands"]) if c[1] == "deliver"]
     write, synced = place["write 7 1"], place["synced 1 7 0"]
-    marked = "MARK chunk 7 for {1}, version 2"
-    same(data["commands"][write][5:], [[[-1, [0], marked, 0]], [], [marked + " to node 0: taken"], None, ""], "a write")
-    same(data["commands"][place["write 5 3"]][5::2], [[[-1, [0, 1], "MARK chunk 5 for nobody, version 1", 0]], ["MARK chunk 5 for nobody, version 1 to {0 1}: taken"], ""], "a message to two nodes")
+    same(data["commands"][write][5:], [[[-1, [0], "MARK 7 2 2", 0]], [], ["MARK 7 2 2 to 0: taken"]], "a write")
+    same(data["commands"][place["write 5 3"]][5], [[-1, [0, 1], "MARK 5 0 1", 0]], "a message to two nodes")
     same(data["commands"][place["link_down 1"]][6], [[-1, "NF"]], "a session that changes")
-    same(data["commands"][delivers[1]][5], [[0, [1], "the map", 3], [1, [-1], "#2: good", 2], [-1, [1], "MAP_DONE, enabling, version 2, members {0 1} #3", 1]], "a map that is sent")
-    same(data["commands"][delivers[1]][7][:4], ["MAP_SEND for node 1 arrives at node 0", "node 0 gives its map: taken", "node 1 takes the map of node 0: taken", "answer #2: good"], "the same in words")
-    same(data["commands"][delivers[2]][7], ["MAP_DONE, enabling, version 2, members {0 1} arrives at node 1: taken", "answer #3: good"], "an answer in words")
+    same(data["commands"][delivers[1]][5], [[0, [1], "the map", 3], [1, [-1], "#2: good", 2], [-1, [1], "MAP_DONE 1 2 3 #3", 1]], "a map that is sent")
     same(data["commands"][delivers[2]][6], [[-1, "NN"], [1, "NORMAL"]], "a leg that is back")
     rows = data["rows"]
     same([at(rows, key, k) for k in (write - 1, write, delivers[1], delivers[2], synced) for key in ("client 1", "0 1", "1 1", "-2 1")],
          ["", "", "", ""] + ["7", "7", "", ""] + ["7", "7", "", "7"] + ["7", "7", "7", ""] + ["7", "", "", ""], "rows of the client, of both nodes, and of staging")
     pool, sessions, members, chunks = data["pools"][data["commands"][place["link_down 1"]][3]]
     same((dict(map(tuple, pool))["version"], sessions[:3], members, chunks), ("2", ["NORMAL", "FAILED (link)", ""], 3, 64), "the pool")
-    same([dict(map(tuple, data["pools"][data["commands"][k][3]][0]))["awaited"] for k in (delivers[0], delivers[2])], ["MAP_SEND for node 1, at node 0 #2", "nothing"], "what is awaited")
+    same([dict(map(tuple, data["pools"][data["commands"][k][3]][0]))["awaited"] for k in (delivers[0], delivers[2])], ["MAP_SEND 0 1 #2", "nothing"], "what is awaited")
     same([at(data["states"], "1", k)[0] for k in (0, place["node 1 register_create"], write, delivers[0], delivers[2])], ["EMPTY", "REGISTERED, marked create", "NORMAL", "NO_IO", "NORMAL"], "a node's states")
     same(lines[data["commands"][synced][0] - 1], "synced 1 7 0", "a command's line")
-
-
-EXPECTED = {"write 7 1": "ok .. sessions=NF .. acked=1", "row 0 1": "dirty 8", "link_down 1": "ok .. sessions=NN .. | MARK 0"}
-
-
-def try_page_at(lab):
-    """Where a page opens, what is expected in it, and how it differs."""
-    lines = []
-    for line in leg_lost().split("\n"):
-        lines += [line] + (["> " + EXPECTED[line]] if line in EXPECTED else [])
-    text = "\n".join(lines)
-    found = {c[1]: c[8] for c in drawn(lab, text)["commands"] if c[8]}
-    same(found, {"write 7 1": [EXPECTED["write 7 1"], []], "row 0 1": ["dirty 8", [["dirty 8", "clean"]]],
-                 "link_down 1": [EXPECTED["link_down 1"], [["sessions=NN", "sessions=NF"], ["| MARK 0", None]]]}, "what is expected, and how it differs")
-    with files(page=text) as paths:
-        for words, line in ((paths, 0), ([paths[0] + ":12"], 12), (paths + ["--at", "7"], 7)):
-            said = []
-            bench.page.make(words, lab, said.append)
-            same(alone("".join(said)).data()["line"], line, "the line that a page opens at: %s" % words)
-        for words in ([paths[0] + ":999"], paths + ["--at", "0"]):
-            wrong("a line that is not there", ["there is no line"], lambda: bench.page.make(words, no_lab, print))
-        wrong("a file that is not there", ["No such file"], lambda: bench.page.make([paths[0] + "x:3"], no_lab, print))
-
-
-def try_differences():
-    """How an answer differs from what is expected."""
-    came = "ok version=3 sessions=NN.............. job=none taken=3 | MARK 0 7 2 2 | MARK 1 7 2 2"
-    for expected, wanted in [
-        (came, []), ("ok .. sessions=NN", []), ("ok .. sessions=NF .. job=none", [("sessions=NF", "sessions=NN")]), ("refused 3", [("refused 3", came)]),
-        ("ok version=3 sessions=NN job=none taken=4 | MARK 0 7 2 2", [("taken=4", "taken=3"), (None, "| MARK 1 7 2 2")]), ("ok .. | MARK 0 7 2 3", [("| MARK 0 7 2 3", "| MARK 0 7 2 2")]),
-        ("ok .. | MARK 0 7", []), ("ok .. | MARK 2", [("| MARK 2", None)]), ("ok .. acked=1", [("acked=1", None)]), ("ok .. taken=3 .. job=none", [("job=none", None)]),
-    ]:
-        same(bench.check.how(expected, came), wanted, "how %s differs" % expected)
-        same(bench.check.fits(expected, came), not wanted, "whether %s fits" % expected)
-
-
-def try_faults():
-    """What is wrong with a page is seen."""
-    sound = '<html><p id="a">x<br></p><a href="#a">y</a><svg><path d="M0 0"/></svg></html>'
-    same(faults(sound), [], "a sound page")
-    for old, new in (("</p>", ""), ("#a", "#b"), ("#a", "other.html"), ("x<br>", "<p id='a'></p>"), ("x<br>", "<img src='x.png'></img>"), ("x<br>", "url(x)"), ("x<br>", "http://x"), ("x<br>", "\u2713")):
-        same(len(faults(sound.replace(old, new))) > 0, True, "whether %s in the place of %s is seen" % (new, old))
-
-
-def try_words():
-    """Every message that the lab writes can be said in words."""
-    for message, words in [
-        ("POOL_INFO 3 1 4", "POOL_INFO add-assemble of member 4"), ("MARK 0 7 2 2", "MARK chunk 7 for {1}, version 2"), ("CLEAR 0 1 7", "CLEAR chunk 7 for member 1"), ("MAP_CHECK 1 4", "MAP_CHECK of tick 4"),
-        ("FILL 0 2 1", "FILL every chunk for member 2, version 1"), ("MAP_DISABLE 2", "MAP_DISABLE"), ("ENABLE 1 0", "ENABLE 0"), ("ENABLE 1 1 5 3", "ENABLE 1, version 5, members {0 1}"),
-        ("MAP_READY 1 1", "MAP_READY, keep"), ("MAP_SEND 0 1", "MAP_SEND for node 1"), ("MAP_DONE 1 0 5 7", "MAP_DONE, version 5, members {0-2}"), ("MAP_GET_VER 2", "MAP_GET_VER"),
-        ("LAST_IO 2 0", "LAST_IO_TO_MAP, chosen 0"), ("LEAVE 1 1", "LEAVE_POOL, disassemble"),
-    ]:
-        same(bench.words.message_words(message.split()), words, "the words of %s" % message)
-    same([bench.words.set_words(n) for n in (0, 1, 3, 7, 65535, 0b1101110)], ["nobody", "{0}", "{0 1}", "{0-2}", "{0-15}", "{1-3 5 6}"], "sets in words")
-    named = set(bench.trace.HANDED) | {"MAP_SEND", "ENABLE", "LEAVE"}
-    same(set(bench.words.MESSAGES), named, "the messages that are said in words")
 
 
 def try_page_of_pokes(lab):
     data = drawn(lab, HIDDEN)
     delivers = [c for c in data["commands"] if c[1] == "deliver"]
     same(delivers[1][5], [[0, [-1], "#2: failed (refused 9)", 2], [-1, [1], "MAP_DISABLE", 0]], "a map that is not given")
-    same([c for c in data["commands"] if c[1] == "write 5 3"][0][5], [[-1, [0, 1], "MARK chunk 5 for nobody, version 1 (1: refused 9)", 0]], "a mark that a node refuses")
-    same([c for c in data["commands"] if c[1] == "write 5 3"][0][7], ["MARK chunk 5 for nobody, version 1 to {0 1}: 1: refused 9: the transition, or at a node the state, is not allowed"], "the same in words")
-    same(data["commands"][-1][2:9], [UNREADABLE, len(data["pools"]) - 1, [], [], [], [], None], "a line that the lab does not read")
-    same(bool(data["commands"][-1][9]), True, "whether it says why")
+    same([c for c in data["commands"] if c[1] == "write 5 3"][0][5], [[-1, [0, 1], "MARK 5 0 1 (1: refused 9)", 0]], "a mark that a node refuses")
+    same(data["commands"][-1][2:], [UNREADABLE, len(data["pools"]) - 1, [], [], [], []], "a line that the lab does not read")
     data = drawn(lab, POKED)
     place, last = {c[1]: k for k, c in enumerate(data["commands"])}, len(data["commands"]) - 1
     same([at(data["states"], "3", place[c])[4] for c in ("poke_node 3 4 1 0 8 5 1", "poke_got 3 1024", "node 3 take_part 1024 1024 2", "node 3 map_ready 0")],
@@ -1045,33 +950,6 @@ def try_page_of_pokes(lab):
         series.put("x", k, value)
     same([at(series.data(), "x", k) for k in range(8)], ["", "", "", "b", "b", "b", "a", "a"], "values that change")
     same(series.of, {"x": [[3, 2], [6, 1]]}, "values that change twice at one command, or do not")
-
-
-# rules
-
-def try_rules():
-    """The page of the rules has every cell of the matrix, each with its rule; a refusal is given by a test of the definitions that are shown."""
-    said = []
-    same(bench.rules.make([], said.append), 0, "the status of the page of the rules")
-    data = alone("".join(said)).data()
-    cells = [cell for table in data["tables"].values() for cell in table["cells"].values()]
-    same((list(data["tables"]), len(cells)), ([*bench.cover.CLIENT_TABLES, bench.cover.NODE_TABLE], len(list(matrix.blocks()))), "the tables of the rules, and their cells")
-    for cell in cells:
-        answer, key = data["texts"][cell[0]], data["texts"][cell[5]]
-        rule = data["rules"][key]
-        number = refusals.number_of(answer)
-        tests = [d for d in rule["definitions"] if not number or re.search(r"\btest %d " % number, data["definitions"][d][2])]
-        same((bool(tests), bool(rule["sentences"])), (True, True), "whether a test of %s gives %s, and its sentence is there" % (key, answer))
-    same({data["texts"][cell[5]] for cell in cells}, set(data["rules"]), "the rules that are shown")
-    same({"%s %s" % (side, name) for side, rules in bench.rules.events().items() for name in rules}, set(data["rules"]), "the events that have a rule")
-    there = data["tables"]["Client, non-sync pool"]
-    place = "%d %d %d" % (there["besides"].index("beside a NORMAL session"), there["states"].index("NORMAL"), there["events"].index("write, 1 not reached"))
-    same(data["texts"][there["cells"][place][1]].split("\n"), ["session 1: FAILED (IO), was NORMAL", "version: 2, was 1", "NORMAL count: 1, was 2", "written: yes, was no", "empty once: none, was {1}",
-                                                           "acknowledged (1) or not (0): 1", "mark list: {1}", "sent to node 0: MARK chunk 5 for {1}, version 2"], "an answer in words")
-    there = data["tables"]["Node"]
-    place = "0 %d %d" % (there["states"].index("NO_IO, a map taken"), there["events"].index("MAP_DONE, enabling"))
-    same([data["texts"][k] for k in there["cells"][place][1:3]], ["state: NORMAL, was NO_IO\nversion: 5, was 4\ntransfer: none, was in hand, all bytes taken", "rows 0 1 2 staging's, 3 zeroed\nzeroed"], "a node's")
-    same(data["rules"]["client enable"]["definitions"][:2], ["rules_client: Enables.enable", "rules_client: Enables.enableRefusal"], "the definitions of a rule")
 
 
 # With the lab itself.
@@ -1135,15 +1013,12 @@ def main():
     lab = Lab(mode)
     for test in (try_language, try_reading, try_fitting, try_driver, try_large_check, try_errors, try_messages, try_disagreement, try_ticks, try_columns, try_by_poke, try_writes):
         test()
-    for test in (try_differences, try_faults, try_words, try_rules, try_chance, try_generate, try_turns, try_expect, try_log, try_slips, try_why, try_spread, try_many):
+    for test in (try_chance, try_generate, try_turns, try_expect, try_log, try_slips, try_why, try_spread, try_many):
         test()
     try_dialogue([sys.executable, "-c", AT_ONCE])
     try_dialogue(build.command("lab"))
-    try_one_cell(bench.history.run_lab)
-    test_against.run_all()
-    test_simulate.run_all()
     try_cells(mode)
-    for test in (try_check, try_update, try_trace, try_cover, try_questions, try_chart, try_guide, try_page, try_page_at, try_page_of_pokes):
+    for test in (try_check, try_update, try_trace, try_cover, try_questions, try_chart, try_guide, try_page, try_page_of_pokes):
         test(lab)
     if mode == "keep":
         same(build.is_proved("lab", build.sources_changed(["lab"])), True, "whether the lab is proved, whose answers are to be kept (./lab --prove)")

@@ -66,10 +66,10 @@ static inline bool hand_valid(const struct hand_pool *p)
 		if (p->session[i].state != H_RECONNECTING || p->session[i].maintenance) return false;
 		size++;
 	}
-	return p->taken <= 168 && p->taken + 3 * size - (uint64_t)p->step <= 168;
+	return p->taken <= 168 && p->taken + 3 * size - p->step <= 168;
 }
 
-static inline void hand_fail(struct hand_pool *p, uint64_t i, bool io)
+static inline void hand_fail(struct hand_pool *p, unsigned i, bool io)
 {
 	struct hand_session *s = &p->session[i];
 	bool was = s->state == H_NORMAL;

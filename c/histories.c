@@ -45,7 +45,7 @@ static void node_event(uint64_t n, uint64_t kind, uint64_t a, uint64_t b, uint64
 {
 	if (n > 15) {
 		memset(out, 0, MZK_NODE_OUT * sizeof *out);
-		out[MZK_A_REFUSAL] = MZK_R_ID;
+		out[MZK_REFUSAL] = MZK_R_ID;
 		return;
 	}
 	made(mzk_node_event(lab.node[n], lab.summaries[n], lab.map[n], lab.map_lent[n], lab.staging[n], lab.staging_lent[n], part, bytes, kind, a, b, c, out));
@@ -60,17 +60,17 @@ static void take_part(uint64_t n, uint64_t offset, uint64_t length, uint64_t giv
 	memset(part, 0, sizeof part);
 	if (length > sizeof part) length = sizeof part;
 	if (giver < 16 && offset < MZK_MAP_BYTES) memcpy(part, lab.map[giver] + offset, length < MZK_MAP_BYTES - offset ? length : MZK_MAP_BYTES - offset);
-	node_event(n, MZK_NE_TAKE_PART, offset, 0, 0, part, length, out);
+	node_event(n, MZK_N_TAKE_PART, offset, 0, 0, part, length, out);
 }
 
 /* A whole map in parts, until all are taken or one is refused; given: the giver is asked for each. */
 static void pass_map(int given, uint64_t giver, uint64_t receiver, uint64_t *out)
 {
-	out[MZK_A_ACCEPTED] = 1;
-	for (uint64_t at = 0; out[MZK_A_ACCEPTED] && at < MZK_MAP_BYTES; at += lab.cut) {
+	out[MZK_ACCEPTED] = 1;
+	for (uint64_t at = 0; out[MZK_ACCEPTED] && at < MZK_MAP_BYTES; at += lab.cut) {
 		uint64_t left = MZK_MAP_BYTES - at, length = lab.cut < left ? lab.cut : left;
-		if (given) node_plain(giver, MZK_NE_GIVE_PART, at, length, 0, out);
-		if (out[MZK_A_ACCEPTED]) take_part(receiver, at, length, giver, out);
+		if (given) node_plain(giver, MZK_N_GIVE_PART, at, length, 0, out);
+		if (out[MZK_ACCEPTED]) take_part(receiver, at, length, giver, out);
 	}
 }
 
@@ -80,13 +80,13 @@ static void tell(const uint64_t *t)
 	uint64_t out[MZK_NODE_OUT];
 	for (uint64_t i = 0; i < 16; i++) {
 		int to = t[1] >> i & 1;
-		if (t[0] == MZK_TOLD_MARKS && to) node_plain(i, MZK_NE_WRITE, t[2], t[3], t[4], out);
-		if (t[0] == MZK_TOLD_CLEARS && to) node_plain(i, MZK_NE_SYNCED, t[2], t[3], 0, out);
-		if (t[0] == MZK_TOLD_INFOS && to) node_plain(i, MZK_NE_POOL_INFO, t[2], t[3], 0, out);
-		if (t[0] == MZK_TOLD_DISABLE && t[1] == i) node_plain(i, MZK_NE_MAP_DISABLE, 0, 0, 0, out);
-		if (t[0] == MZK_TOLD_OFF && t[1] == i) node_plain(i, MZK_NE_ENABLE0, 0, 0, 0, out);
-		if (t[0] == MZK_TOLD_EXTENDED && to) node_plain(i, MZK_NE_POOL_INFO, MZK_INFO_ADD_CREATE, t[3], 0, out);
-		if (t[0] == MZK_TOLD_EXTENDED && (t[2] >> i & 1)) node_plain(i, MZK_NE_FILL, t[3], t[4], 0, out);
+		if (t[0] == MZK_TOLD_MARKS && to) node_plain(i, MZK_N_WRITE, t[2], t[3], t[4], out);
+		if (t[0] == MZK_TOLD_CLEARS && to) node_plain(i, MZK_N_SYNCED, t[2], t[3], 0, out);
+		if (t[0] == MZK_TOLD_INFOS && to) node_plain(i, MZK_N_POOL_INFO, t[2], t[3], 0, out);
+		if (t[0] == MZK_TOLD_DISABLE && t[1] == i) node_plain(i, MZK_N_MAP_DISABLE, 0, 0, 0, out);
+		if (t[0] == MZK_TOLD_OFF && t[1] == i) node_plain(i, MZK_N_ENABLE0, 0, 0, 0, out);
+		if (t[0] == MZK_TOLD_EXTENDED && to) node_plain(i, MZK_N_POOL_INFO, MZK_ADD_CREATE, t[3], 0, out);
+		if (t[0] == MZK_TOLD_EXTENDED && (t[2] >> i & 1)) node_plain(i, MZK_N_FILL, t[3], t[4], 0, out);
 	}
 }
 
@@ -94,23 +94,23 @@ static void tell(const uint64_t *t)
 static void enter(uint64_t kind, uint64_t a, uint64_t b, uint64_t c, const uint64_t *out)
 {
 	uint64_t *r = lab.record;
-	lab.has_record = out[MZK_A_ACCEPTED] && kind <= MZK_CE_EXTEND;
+	lab.has_record = out[MZK_ACCEPTED] && kind <= MZK_EXTEND;
 	if (!lab.has_record) return;
 	memset(r, 0, sizeof lab.record);
 	r[0] = ++lab.logged;
 	r[1] = kind;
 	switch (kind) {
-	case MZK_CE_WRITE: r[3] = b; r[4] = a; break;
-	case MZK_CE_TRY: case MZK_CE_ANSWER_GOOD: case MZK_CE_ANSWER_FAILED: break;
-	case MZK_CE_ANSWER_VERSION: r[4] = b; break;
-	case MZK_CE_EXTEND: r[2] = out[MZK_CA_OUTCOME_A]; break;
-	case MZK_CE_JOIN_ASSEMBLE: r[3] = b; r[4] = c; /* fallthrough */
+	case MZK_WRITE: r[3] = b; r[4] = a; break;
+	case MZK_TRY: case MZK_ANSWER_GOOD: case MZK_ANSWER_FAILED: break;
+	case MZK_ANSWER_VERSION: r[4] = b; break;
+	case MZK_EXTEND: r[2] = out[MZK_O_OUTCOME_A]; break;
+	case MZK_JOIN_ASSEMBLE: r[3] = b; r[4] = c; /* fallthrough */
 	default: r[2] = a;
 	}
-	r[5] = lab.client[MZK_CW_VERSION];
-	r[6] = lab.client[MZK_CW_COUNT];
+	r[5] = lab.client[MZK_C_VERSION];
+	r[6] = lab.client[MZK_C_COUNT];
 	for (unsigned i = 0; i < 16; i++) {
-		uint64_t s = lab.client[MZK_CW_SESSION + i] & MZK_SB_STATE;
+		uint64_t s = lab.client[MZK_C_SESSION + i] & MZK_S_STATE;
 		r[7] |= (uint64_t)(s == MZK_S_FAILED_LINK ? 1 : s == MZK_S_FAILED_IO ? 2 : 0) << 2 * i;
 	}
 }
@@ -122,12 +122,12 @@ static void client_event(uint64_t kind, uint64_t a, uint64_t b, uint64_t c, uint
 	made(mzk_client_event(lab.client, lab.own, lab.own_lent, other, of < 16 ? lab.map_lent[of] : 0, kind, a, b, c, out));
 	enter(kind, a, b, c, out);
 	put_client(stdout, lab.client, out);
-	if (!out[MZK_A_ACCEPTED]) return;
-	if (out[MZK_CA_AWAITED] != MZK_SENT_NOTHING || lab.client[MZK_CW_JOB] == MZK_JOB_NONE) {
-		memcpy(lab.awaited, out + MZK_CA_AWAITED, sizeof lab.awaited);
-		lab.number = out[MZK_CA_NUMBER];
+	if (!out[MZK_ACCEPTED]) return;
+	if (out[MZK_O_AWAITED] != MZK_SENT_NOTHING || lab.client[MZK_C_JOB] == MZK_JOB_NONE) {
+		memcpy(lab.awaited, out + MZK_O_AWAITED, sizeof lab.awaited);
+		lab.number = out[MZK_O_NUMBER];
 	}
-	if (lab.automatic) tell(out + MZK_CA_TOLD);
+	if (lab.automatic) tell(out + MZK_O_TOLD);
 }
 
 static void deliver(void)
@@ -135,18 +135,18 @@ static void deliver(void)
 	uint64_t out[MZK_NODE_OUT] = { 0 }, *m = lab.awaited;
 	switch (m[0]) {
 	case MZK_SENT_NOTHING: puts("idle"); return;
-	case MZK_SENT_GET_VERSION: node_plain(m[1], MZK_NE_MAP_GET_VER, 0, 0, 0, out); break;
-	case MZK_SENT_READY: node_plain(m[1], MZK_NE_MAP_READY, m[2], 0, 0, out); break;
+	case MZK_SENT_GET_VERSION: node_plain(m[1], MZK_N_MAP_GET_VER, 0, 0, 0, out); break;
+	case MZK_SENT_READY: node_plain(m[1], MZK_N_MAP_READY, m[2], 0, 0, out); break;
 	case MZK_SENT_SEND: pass_map(1, m[1], m[2], out); break;
-	case MZK_SENT_DONE: node_plain(m[1], MZK_NE_MAP_DONE, m[2], m[3], m[4], out); break;
-	case MZK_SENT_LAST_IO: node_plain(m[1], MZK_NE_LAST_IO, m[2], 0, 0, out); break;
-	case MZK_SENT_ENABLE: node_plain(m[1], MZK_NE_ENABLE1, m[2], m[3], 0, out); break;
-	case MZK_SENT_LEAVE: node_plain(m[1], MZK_NE_LEAVE, m[2] == 0, 0, 0, out); break;
-	case MZK_SENT_INFO: node_plain(m[1], MZK_NE_POOL_INFO, m[2], m[3], 0, out); break;
+	case MZK_SENT_DONE: node_plain(m[1], MZK_N_MAP_DONE, m[2], m[3], m[4], out); break;
+	case MZK_SENT_LAST_IO: node_plain(m[1], MZK_N_LAST_IO, m[2], 0, 0, out); break;
+	case MZK_SENT_ENABLE: node_plain(m[1], MZK_N_ENABLE1, m[2], m[3], 0, out); break;
+	case MZK_SENT_LEAVE: node_plain(m[1], MZK_N_LEAVE, m[2] == 0, 0, 0, out); break;
+	case MZK_SENT_INFO: node_plain(m[1], MZK_N_POOL_INFO, m[2], m[3], 0, out); break;
 	}
-	if (!out[MZK_A_ACCEPTED]) client_event(MZK_CE_ANSWER_FAILED, lab.number, 0, 0, 16);
-	else if (m[0] == MZK_SENT_GET_VERSION) client_event(MZK_CE_ANSWER_VERSION, lab.number, out[MZK_NA_VALUE], 0, 16);
-	else client_event(MZK_CE_ANSWER_GOOD, lab.number, 0, 0, 16);
+	if (!out[MZK_ACCEPTED]) client_event(MZK_ANSWER_FAILED, lab.number, 0, 0, 16);
+	else if (m[0] == MZK_SENT_GET_VERSION) client_event(MZK_ANSWER_VERSION, lab.number, out[MZK_O_VALUE], 0, 16);
+	else client_event(MZK_ANSWER_GOOD, lab.number, 0, 0, 16);
 }
 
 static void ask(uint64_t n, uint64_t kind, uint64_t a, uint64_t b, uint64_t *out)
@@ -156,18 +156,18 @@ static void ask(uint64_t n, uint64_t kind, uint64_t a, uint64_t b, uint64_t *out
 
 static void deliver_check(void)
 {
-	uint64_t out[MZK_NODE_OUT], due = lab.client[MZK_CW_DUE], m = 0;
+	uint64_t out[MZK_NODE_OUT], due = lab.client[MZK_C_DUE], m = 0;
 	if (!due) {
 		puts("idle");
 		return;
 	}
 	while (!(due >> m & 1)) m++;
-	ask(m, MZK_NQ_CHECK, 0, 0, out);
-	client_event(MZK_CE_CHECK_ANSWER, lab.client[MZK_CW_TICK], m, out[MZK_A_ACCEPTED] && out[MZK_NA_VALUE], 16);
+	ask(m, MZK_ASK_CHECK, 0, 0, out);
+	client_event(MZK_CHECK_ANSWER, lab.client[MZK_C_TICK], m, out[MZK_ACCEPTED] && out[MZK_O_VALUE], 16);
 }
 
 /* The six words of a row's summaries, made true of the map: 256 groups of 16 chunks, 16 groups of groups, the root. */
-static void true_row(uint64_t n, uint64_t m)
+static void true_row(unsigned n, unsigned m)
 {
 	uint64_t *w = lab.summaries[n] + 6 * m;
 	memset(w, 0, 6 * sizeof *w);
@@ -228,26 +228,26 @@ static int form(const char *pattern)
 }
 
 static const struct { const char *pattern; uint64_t kind; } client_forms[] = {
-	{ "join_create #", MZK_CE_JOIN_CREATE }, { "join_assemble # # #", MZK_CE_JOIN_ASSEMBLE }, { "enable #", MZK_CE_ENABLE }, { "maintenance #", MZK_CE_MAINTENANCE },
-	{ "link_down #", MZK_CE_LINK_DOWN }, { "store_check #", MZK_CE_STORE_CHECK }, { "rejoin #", MZK_CE_REJOIN }, { "try", MZK_CE_TRY }, { "extend", MZK_CE_EXTEND },
-	{ "tick", MZK_CE_TICK }, { "write # #", MZK_CE_WRITE },
+	{ "join_create #", MZK_JOIN_CREATE }, { "join_assemble # # #", MZK_JOIN_ASSEMBLE }, { "enable #", MZK_ENABLE }, { "maintenance #", MZK_MAINTENANCE },
+	{ "link_down #", MZK_LINK_DOWN }, { "store_check #", MZK_STORE_CHECK }, { "rejoin #", MZK_REJOIN }, { "try", MZK_TRY }, { "extend", MZK_EXTEND },
+	{ "tick", MZK_TICK }, { "write # #", MZK_WRITE },
 };
 
 /* flags: how many values the first number may have, 0 for any. */
 static const struct { const char *pattern; uint64_t kind, flags; } node_forms[] = {
-	{ "node # register_create", MZK_NE_REGISTER_CREATE, 0 }, { "node # register_add # #", MZK_NE_REGISTER_ADD, 0 }, { "node # unregister #", MZK_NE_UNREGISTER, 2 },
-	{ "node # join_create #", MZK_NE_JOIN_CREATE, 0 }, { "node # join_assemble", MZK_NE_JOIN_ASSEMBLE, 0 }, { "node # leave #", MZK_NE_LEAVE, 2 },
-	{ "node # enable1 # #", MZK_NE_ENABLE1, 0 }, { "node # enable0", MZK_NE_ENABLE0, 0 }, { "node # fault", MZK_NE_FAULT, 0 },
-	{ "node # write # # #", MZK_NE_WRITE, 0 }, { "node # synced # #", MZK_NE_SYNCED, 0 }, { "node # pool_info # #", MZK_NE_POOL_INFO, 4 },
-	{ "node # last_io #", MZK_NE_LAST_IO, 0 }, { "node # map_ready #", MZK_NE_MAP_READY, 2 }, { "node # give_part # #", MZK_NE_GIVE_PART, 0 },
-	{ "node # map_done # # #", MZK_NE_MAP_DONE, 2 }, { "node # map_disable", MZK_NE_MAP_DISABLE, 0 }, { "node # map_get_ver", MZK_NE_MAP_GET_VER, 0 },
-	{ "node # fill # #", MZK_NE_FILL, 0 },
+	{ "node # register_create", MZK_N_REGISTER_CREATE, 0 }, { "node # register_add # #", MZK_N_REGISTER_ADD, 0 }, { "node # unregister #", MZK_N_UNREGISTER, 2 },
+	{ "node # join_create #", MZK_N_JOIN_CREATE, 0 }, { "node # join_assemble", MZK_N_JOIN_ASSEMBLE, 0 }, { "node # leave #", MZK_N_LEAVE, 2 },
+	{ "node # enable1 # #", MZK_N_ENABLE1, 0 }, { "node # enable0", MZK_N_ENABLE0, 0 }, { "node # fault", MZK_N_FAULT, 0 },
+	{ "node # write # # #", MZK_N_WRITE, 0 }, { "node # synced # #", MZK_N_SYNCED, 0 }, { "node # pool_info # #", MZK_N_POOL_INFO, 4 },
+	{ "node # last_io #", MZK_N_LAST_IO, 0 }, { "node # map_ready #", MZK_N_MAP_READY, 2 }, { "node # give_part # #", MZK_N_GIVE_PART, 0 },
+	{ "node # map_done # # #", MZK_N_MAP_DONE, 2 }, { "node # map_disable", MZK_N_MAP_DISABLE, 0 }, { "node # map_get_ver", MZK_N_MAP_GET_VER, 0 },
+	{ "node # fill # #", MZK_N_FILL, 0 },
 };
 
 static const struct { const char *pattern; unsigned place; uint64_t limit; } poke_forms[] = {
-	{ "poke version #", MZK_CW_VERSION, UINT64_MAX }, { "poke count #", MZK_CW_COUNT, 65535 }, { "poke chunks #", MZK_CW_CHUNKS, 65535 },
-	{ "poke members #", MZK_CW_MEMBERS, 65535 }, { "poke written #", MZK_CW_WRITTEN, 1 }, { "poke assembled #", MZK_CW_ASSEMBLED, 1 },
-	{ "poke tick #", MZK_CW_TICK, UINT32_MAX }, { "poke due #", MZK_CW_DUE, 65535 }, { "poke once #", MZK_CW_ONCE, 65535 },
+	{ "poke version #", MZK_C_VERSION, UINT64_MAX }, { "poke count #", MZK_C_COUNT, 65535 }, { "poke chunks #", MZK_C_CHUNKS, 65535 },
+	{ "poke members #", MZK_C_MEMBERS, 65535 }, { "poke written #", MZK_C_WRITTEN, 1 }, { "poke assembled #", MZK_C_ASSEMBLED, 1 },
+	{ "poke tick #", MZK_C_TICK, UINT32_MAX }, { "poke due #", MZK_C_DUE, 65535 }, { "poke once #", MZK_C_ONCE, 65535 },
 };
 
 /* The line was obeyed by a line of output of its own. */
@@ -274,13 +274,13 @@ static int node_line(const uint64_t *x)
 	}
 	int check = form("node # map_check");
 	if (!check && !form("node # next # #")) return 0;
-	if (check) ask(x[1], MZK_NQ_CHECK, 0, 0, out);
-	else ask(x[1], MZK_NQ_NEXT, x[3], x[4], out);
-	if (!out[MZK_A_ACCEPTED]) printf("refused %" PRIu64 "\n", out[MZK_A_REFUSAL]);
+	if (check) ask(x[1], MZK_ASK_CHECK, 0, 0, out);
+	else ask(x[1], MZK_ASK_NEXT, x[3], x[4], out);
+	if (!out[MZK_ACCEPTED]) printf("refused %" PRIu64 "\n", out[MZK_REFUSAL]);
 	else {
 		put_node_state(stdout, lab.node[x[1]]);
-		if (check) printf(" empty=%" PRIu64 "\n", out[MZK_NA_VALUE]);
-		else if (out[MZK_NA_NUMBERED]) printf(" next=%" PRIu64 "\n", out[MZK_NA_VALUE]);
+		if (check) printf(" empty=%" PRIu64 "\n", out[MZK_O_VALUE]);
+		else if (out[MZK_O_NUMBERED]) printf(" next=%" PRIu64 "\n", out[MZK_O_VALUE]);
 		else puts(" next=none");
 	}
 	return 1;
@@ -293,10 +293,10 @@ static int client_line(const uint64_t *x)
 			client_event(client_forms[i].kind, x[1], x[2], x[3], 16);
 			return 1;
 		}
-	if (form("remove # #") && x[2] < 2) client_event(x[2] ? MZK_CE_REMOVE_DISASSEMBLE : MZK_CE_REMOVE_DELETE, x[1], 0, 0, 16);
-	else if (form("synced # # #") && x[3] < 16) client_event(MZK_CE_SYNCED, x[1], x[2], 0, x[3]);
-	else if (form("answer # # #") && x[2] < 3) client_event(x[2] == 0 ? MZK_CE_ANSWER_FAILED : x[2] == 1 ? MZK_CE_ANSWER_GOOD : MZK_CE_ANSWER_VERSION, x[1], x[3], 0, 16);
-	else if (form("check_answer # # #") && x[3] < 2) client_event(MZK_CE_CHECK_ANSWER, x[1], x[2], x[3], 16);
+	if (form("remove # #") && x[2] < 2) client_event(x[2] ? MZK_REMOVE_DISASSEMBLE : MZK_REMOVE_DELETE, x[1], 0, 0, 16);
+	else if (form("synced # # #") && x[3] < 16) client_event(MZK_SYNCED, x[1], x[2], 0, x[3]);
+	else if (form("answer # # #") && x[2] < 3) client_event(x[2] == 0 ? MZK_ANSWER_FAILED : x[2] == 1 ? MZK_ANSWER_GOOD : MZK_ANSWER_VERSION, x[1], x[3], 0, 16);
+	else if (form("check_answer # # #") && x[3] < 2) client_event(MZK_CHECK_ANSWER, x[1], x[2], x[3], 16);
 	else if (form("deliver")) deliver();
 	else if (form("deliver_check")) deliver_check();
 	else if (form("row client #") && x[2] < 16) put_row(stdout, lab.own, x[2]);
@@ -304,9 +304,9 @@ static int client_line(const uint64_t *x)
 	else if (form("staging # #") && x[1] < 16 && x[2] < 16) put_row(stdout, lab.staging[x[1]], x[2]);
 	else if (form("look")) {
 		const uint64_t *s = lab.client;
-		printf("look written=%" PRIu64 " assembled=%" PRIu64 " tick=%" PRIu64 " due=%" PRIu64 " once=%" PRIu64, s[MZK_CW_WRITTEN], s[MZK_CW_ASSEMBLED], s[MZK_CW_TICK], s[MZK_CW_DUE], s[MZK_CW_ONCE]);
+		printf("look written=%" PRIu64 " assembled=%" PRIu64 " tick=%" PRIu64 " due=%" PRIu64 " once=%" PRIu64, s[MZK_C_WRITTEN], s[MZK_C_ASSEMBLED], s[MZK_C_TICK], s[MZK_C_DUE], s[MZK_C_ONCE]);
 		printf(" link=%" PRIu64 " io=%" PRIu64 "\n", ids_with(s, 1u << MZK_S_FAILED_LINK, 0), ids_with(s, 1u << MZK_S_FAILED_IO, 0));
-	} else if (form("look #") && x[1] < 16) printf("look got=%" PRIu64 "\n", lab.node[x[1]][MZK_NW_GOT]);
+	} else if (form("look #") && x[1] < 16) printf("look got=%" PRIu64 "\n", lab.node[x[1]][MZK_N_GOT]);
 	else if (form("record")) {
 		fputs(lab.has_record ? "record" : "none", stdout);
 		for (int i = 0; i < 8 && lab.has_record; i++) printf(" %" PRIu64, lab.record[i]);
@@ -327,19 +327,19 @@ static int setting(const uint64_t *x)
 	if (form("poke session # # # # # #")) {
 		int flags = x[4] < 2 && x[5] < 2 && x[6] < 2 && x[7] < 2;
 		if (x[2] > 15 || x[3] > 6 || !flags || (x[3] != MZK_S_REMOVING && (x[6] || x[7])) || (!x[3] && (x[4] || x[5]))) return 0;
-		lab.client[MZK_CW_SESSION + x[2]] = x[3] + MZK_SB_MAINTENANCE * x[4] + MZK_SB_MARK * x[5] + MZK_SB_DISASSEMBLE * x[6] + MZK_SB_OWED * x[7];
+		lab.client[MZK_C_SESSION + x[2]] = x[3] + MZK_S_MAINTENANCE * x[4] + MZK_S_MARK * x[5] + MZK_S_DISASSEMBLE * x[6] + MZK_S_OWED * x[7];
 	} else if (form("poke_node # # # # # # #")) {
 		if (x[1] > 15 || x[2] > 4 || x[3] > 1 || x[4] > 1 || x[5] > 65535 || x[7] > 2) return 0;
 		uint64_t *s = lab.node[x[1]];
-		s[MZK_NW_STATE] = x[2];
-		s[MZK_NW_STORE] = x[3];
-		s[MZK_NW_CREATE] = x[4];
-		s[MZK_NW_MEMBERS] = x[5];
-		s[MZK_NW_VERSION] = x[6];
-		s[MZK_NW_TRANSFER] = x[7] != 0;
-		s[MZK_NW_GOT] = x[7] == 2 ? MZK_MAP_BYTES : 0;
+		s[MZK_N_STATE] = x[2];
+		s[MZK_N_STORE] = x[3];
+		s[MZK_N_CREATE] = x[4];
+		s[MZK_N_MEMBERS] = x[5];
+		s[MZK_N_VERSION] = x[6];
+		s[MZK_N_TRANSFER] = x[7] != 0;
+		s[MZK_N_GOT] = x[7] == 2 ? MZK_MAP_BYTES : 0;
 	} else if (form("poke_got # #") && x[1] < 16 && x[2] < 65536) {
-		if (lab.node[x[1]][MZK_NW_TRANSFER]) lab.node[x[1]][MZK_NW_GOT] = x[2];
+		if (lab.node[x[1]][MZK_N_TRANSFER]) lab.node[x[1]][MZK_N_GOT] = x[2];
 	} else if (form("summary # # #") && x[1] < 16 && x[2] < 96) lab.summaries[x[1]][x[2]] = x[3];
 	else if (form("byte client # #") && x[2] < MZK_MAP_BYTES && x[3] < 256) lab.own[x[2]] = (uint8_t)x[3];
 	else if (form("byte # # #") && x[1] < 16 && x[2] < MZK_MAP_BYTES && x[3] < 256) {

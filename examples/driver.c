@@ -22,8 +22,8 @@ static void done(uint64_t returned)
 static void said(uint64_t returned)
 {
 	done(returned);
-	const uint64_t *told = client.out + MZK_CA_TOLD;
-	for (unsigned i = 0; i < 2 && client.out[MZK_A_ACCEPTED]; i++) {
+	const uint64_t *told = client.out + MZK_O_TOLD;
+	for (unsigned i = 0; i < 2 && client.out[MZK_ACCEPTED]; i++) {
 		if (!(told[1] >> i & 1)) continue;
 		if (told[0] == MZK_TOLD_INFOS) done(mzk_n_pool_info(&node[i], told[2], told[3]));
 		if (told[0] == MZK_TOLD_MARKS) done(mzk_n_write(&node[i], told[2], told[3], told[4]));
@@ -39,13 +39,13 @@ static void node_said(unsigned i, uint64_t returned)
 }
 
 /* MAP_SEND: node `from` gives its map in parts, node `to` takes them; 1 where all were taken. */
-static int send_map(uint64_t from, uint64_t to)
+static int send_map(unsigned from, unsigned to)
 {
 	for (uint64_t at = 0; at < MZK_MAP_BYTES; at += MZK_PART_BYTES) {
 		done(mzk_n_give_part(&node[from], at, MZK_PART_BYTES));
-		if (!node[from].out[MZK_A_ACCEPTED]) return 0;
+		if (!node[from].out[MZK_ACCEPTED]) return 0;
 		done(mzk_n_take_part(&node[to], at, node[from].map + at, MZK_PART_BYTES));
-		if (!node[to].out[MZK_A_ACCEPTED]) return 0;
+		if (!node[to].out[MZK_ACCEPTED]) return 0;
 	}
 	return 1;
 }
@@ -53,17 +53,17 @@ static int send_map(uint64_t from, uint64_t to)
 /* The awaited message goes to its node, and the node's answer to the client. This run awaits MAP_READY, MAP_SEND and MAP_DONE. */
 static void deliver(void)
 {
-	uint64_t m[5], number = client.out[MZK_CA_NUMBER];
-	for (int i = 0; i < 5; i++) m[i] = client.out[MZK_CA_AWAITED + i];
+	uint64_t m[5], number = client.out[MZK_O_NUMBER];
+	for (int i = 0; i < 5; i++) m[i] = client.out[MZK_O_AWAITED + i];
 	int good = 0;
 	if (m[0] == MZK_SENT_READY) {
 		done(mzk_n_map_ready(&node[m[1]], m[2]));
-		good = node[m[1]].out[MZK_A_ACCEPTED] != 0;
+		good = node[m[1]].out[MZK_ACCEPTED] != 0;
 	} else if (m[0] == MZK_SENT_SEND) {
 		good = send_map(m[1], m[2]);
 	} else if (m[0] == MZK_SENT_DONE) {
 		done(mzk_n_map_done(&node[m[1]], m[2], m[3], m[4]));
-		good = node[m[1]].out[MZK_A_ACCEPTED] != 0;
+		good = node[m[1]].out[MZK_ACCEPTED] != 0;
 	}
 	said(good ? mzk_answer_good(&client, number) : mzk_answer_failed(&client, number));
 }

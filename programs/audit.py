@@ -1,9 +1,7 @@
 """./audit: a client's log against the rules (docs/AUDIT.md), a record a line, eight numbers with single spaces between them.
 
-  ./audit [FILE]          `accepted N` (N records), or `record K`: the first that is not so; no FILE, or -: standard input
-  ./audit --page [FILE]   the same as one page for a browser: the sessions over time, the first wrong record and what the rules say to it
-  ./audit --history [FILE]   its events, up to the first record that is not so, as a history for ./lab --page (docs/HISTORIES.md); what was found goes to standard error
-  ./audit --prove         proves the program
+  ./audit [FILE]    `accepted N` (N records), or `record K`: the first that is not so; no FILE, or -: standard input
+  ./audit --prove   proves the program
 
 Standard error says why: what is wrong with a line that is no record; of one that is, which number is another by the rules, or with which number they refuse its event: the lab, asked the
 same events (docs/HISTORIES.md). Exit status: 0 accepted, 1 `record K`, 2 where the file can't be read or a word is wrong.
@@ -17,14 +15,12 @@ import subprocess
 import sys
 import tempfile
 
-from bench.spread import Progress
-from programs.build import Wrong, command, say, standard_input
+from programs.build import Wrong, command, standard_input
 from programs.refusals import number_of, why
 
 NAMES = ("sequence", "kind", "member", "set", "number", "version", "count", "causes")
 FIELDS = len(NAMES)
 MOST_ASKED = 200000  # records that the lab is asked for a reason: some seconds
-STRIDE = 1000        # of them between two looks at the progress
 EVENTS = {  # each kind as a line of a history, of the record's member, set and number and of the awaited message's number
     1: "join_create {member}",
     2: "join_assemble {member} {set} {number}",
@@ -77,43 +73,27 @@ def reason(number, line):
     return "no kind has the number %d" % int(words[1]) if not 1 <= int(words[1]) <= LAST_KIND else ""
 
 
-FRESH = "pool 0 4096"  # what a log begins from
+def by_the_rules(records):
+    """What the rules say of the last of these records, those before it being as they say: a refusal in words, or the numbers that are others."""
+    lab = subprocess.Popen(command("lab"), stdin=subprocess.PIPE, stdout=subprocess.PIPE, text=True, bufsize=1)
 
+    def ask(line):
+        lab.stdin.write(line + "\n")
+        lab.stdin.flush()
+        return lab.stdout.readline().rstrip("\n")
 
-class Replay:
-    """The lab, asked the events of records one after the other, by lines of a history: what it answered to each, and the record that the last has by the rules, nothing where it is refused."""
-
-    def __init__(self, records):
-        self.lines, self.answers, self.record = [], [], []
-        with subprocess.Popen(command("lab"), stdin=subprocess.PIPE, stdout=subprocess.PIPE, text=True, bufsize=1) as lab:
-            ask(lab, FRESH)
-            awaited, progress = 0, Progress(len(records), "records", who="audit")
-            for record in records:
-                if len(self.answers) % STRIDE == STRIDE - 1:
-                    progress.add(STRIDE)
-                self.lines.append(EVENTS[record[1]].format(awaited=awaited, **dict(zip(NAMES, record))))
-                self.answers.append(ask(lab, self.lines[-1]))
-                sent = re.search(r" #(\d+)", self.answers[-1])
-                awaited = int(sent.group(1)) if sent else awaited
-            progress.clear()
-            if records and not number_of(self.answers[-1]):
-                self.record = [int(word) for word in ask(lab, "record").split()[1:]]
-
-    def other(self, record):
-        """What is other in a record than the last one's by the rules, in words."""
-        if number_of(self.answers[-1]):
-            return why(number_of(self.answers[-1]))
-        return "; ".join("%s %d, the rules say %d" % (name, got, meant) for name, got, meant in zip(NAMES, record, self.record) if got != meant)
-
-
-def ask(lab, line):
-    lab.stdin.write(line + "\n")
-    lab.stdin.flush()
-    return lab.stdout.readline().rstrip("\n")
-
-
-def numbers_of(lines):
-    return [[int(word) for word in line.split()] for line in lines]
+    with lab:
+        ask("pool 0 4096")
+        awaited, answer = 0, ""
+        for record in records:
+            answer = ask(EVENTS[record[1]].format(awaited=awaited, **dict(zip(NAMES, record))))
+            sent = re.search(r" #(\d+)", answer)
+            awaited = int(sent.group(1)) if sent else awaited
+        if number_of(answer):
+            return why(number_of(answer))
+        said = [int(word) for word in ask("record").split()[1:]]
+    other = ["%s %d, the rules say %d" % (name, got, meant) for name, got, meant in zip(NAMES, records[-1], said) if got != meant]
+    return "; ".join(other)
 
 
 def opened(path):
@@ -130,66 +110,25 @@ def opened(path):
         raise Wrong("%s: %s" % ("standard input" if path == "-" else path, e.strerror)) from None
 
 
-class Verdict:
-    """What is said of a log: the program's answer, and of the first wrong record its line and what is wrong with it. Lines: up to that record, where it is not too far from the beginning."""
-
-    def __init__(self, path):
-        self.log = opened(path)
-        self.start = os.lseek(self.log.fileno(), 0, os.SEEK_CUR)
-        done = subprocess.run(command("audit"), stdin=self.log, stdout=subprocess.PIPE)
-        self.answer = done.stdout.decode("ascii", "replace")
-        if done.returncode or not self.answer:
-            raise Wrong("the program was ended (%d)" % done.returncode)
-        self.number, self.accepted = int(self.answer.split()[1]), self.answer.startswith("accepted ")
-
-    def lines(self, first, last):
-        """The lines of the log from the first to the last, both counted from 1."""
-        self.log.seek(self.start)
-        return [line.rstrip(b"\n") for line in itertools.islice(self.log, first - 1, last)]
-
-    def wrong(self):
-        """The wrong record's line, and why it is wrong."""
-        lines = self.lines(max(1, self.number - MOST_ASKED + 1), self.number)
-        line = lines[-1] if lines else b""
-        found = reason(self.number, line)
-        if not found and self.number <= MOST_ASKED:
-            records = numbers_of(lines)
-            found = Replay(records).other(records[-1])
-        return line, found or "not what the rules say"
-
-
-def write_history(verdict, write=print):
-    """The events of the log, up to the first record that is not so, as a history, with what is wrong before the last one. Exit status as without it."""
-    if verdict.number > MOST_ASKED:
-        raise Wrong("a history is written of at most %d records, this log has %d to show" % (MOST_ASKED, verdict.number))
-    lines, (line, found) = verdict.lines(1, verdict.number), (b"", "") if verdict.accepted else verdict.wrong()
-    unread = not verdict.accepted and bool(reason(verdict.number, line))
-    events = Replay(numbers_of(lines[: len(lines) - unread])).lines
-    note = [] if verdict.accepted else ["# record %d: %s: %.80s" % (verdict.number, found, line.decode("utf-8", "replace"))]
-    at = len(events) - (not unread and not verdict.accepted)
-    for text in ["# The events of a log, record by record (docs/AUDIT.md).", FRESH] + events[:at] + note + events[at:]:
-        write(text)
-    say("audit", verdict.answer.strip() if verdict.accepted else note[0][2:])
-    return 0 if verdict.accepted else 1
-
-
 def work(words):
-    paged, as_history = words[:1] == ["--page"], words[:1] == ["--history"]
-    words = words[1:] if paged or as_history else words
     if len(words) > 1 or words and words[0].startswith("-") and words[0] != "-":
-        raise Wrong("usage: ./audit [--page | --history] [FILE]")
-    path = words[0] if words else "-"
-    verdict = Verdict(path)
-    if paged:
-        from programs import audit_page  # it rests on this module
-        sys.stdout.write(audit_page.page("standard input" if path == "-" else path, verdict))
-        return 0 if verdict.accepted else 1
-    if as_history:
-        return write_history(verdict)
-    sys.stdout.write(verdict.answer)
-    if verdict.accepted:
+        raise Wrong("usage: ./audit [FILE]")
+    log = opened(words[0] if words else "-")
+    start = os.lseek(log.fileno(), 0, os.SEEK_CUR)
+    done = subprocess.run(command("audit"), stdin=log, stdout=subprocess.PIPE)
+    answer = done.stdout.decode("ascii", "replace")
+    sys.stdout.write(answer)
+    if done.returncode or not answer:
+        raise Wrong("the program was ended (%d)" % done.returncode)
+    if answer.startswith("accepted "):
         return 0
+    number = int(re.match(r"record (\d+)", answer).group(1))
+    log.seek(start)
+    lines = [line.rstrip(b"\n") for line in itertools.islice(log, max(0, number - MOST_ASKED), number)]
+    line = lines[-1] if lines else b""
+    found = reason(number, line)
     sys.stdout.flush()
-    line, found = verdict.wrong()
-    print("audit: record %d: %s: %.80s" % (verdict.number, found, line.decode("utf-8", "replace")), file=sys.stderr)
+    if not found and number <= MOST_ASKED:
+        found = by_the_rules([[int(word) for word in one.split()] for one in lines])
+    print("audit: record %d: %s: %.80s" % (number, found or "not what the rules say", line.decode("utf-8", "replace")), file=sys.stderr)
     return 1

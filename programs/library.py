@@ -1,7 +1,6 @@
 """./library: the library for C (docs/LIBRARY.md).
 
-  ./library           builds target/library/libmunzolkheg_client.a, target/library/libmunzolkheg_node.a with their header, munzolkheg.h, and munzolkheg.py for Python, and says where they are
-  ./library --built   builds nothing: says where they are if they are there and as new as their sources, else exit status 1
+  ./library   builds target/library/libmunzolkheg_client.a, target/library/libmunzolkheg_node.a and their header, munzolkheg.h, and says where they are
 
 It is built by proving it: some minutes the first time, and whenever its sources have changed; it says how far it is. Exit status: 0, 1 where it is not proved, 2 where a word is wrong.
 """
@@ -13,7 +12,7 @@ import sys
 from programs.build import ROOT, TARGET, Wrong, built_from, is_new, prove, say, sources_changed
 
 THERE = os.path.join(TARGET, "library")
-BESIDE = ("munzolkheg.h", "lines.h", "munzolkheg.py")
+HEADERS = ("munzolkheg.h", "lines.h")
 SIDES = {"client": "library_client", "node": "library_node"}  # each archive, and its crate
 
 
@@ -47,14 +46,12 @@ def build(sides):
 
 
 def work(words):
-    if words not in ([], ["--built"]):
-        raise Wrong("usage: ./library [--built]")
-    old = [side for side, crate in SIDES.items() if not is_new(path_of(side), sources_changed([crate]))]
-    if words and old:
-        return 1
+    if words:
+        raise Wrong("usage: ./library")
     os.makedirs(THERE, exist_ok=True)
-    for name in BESIDE:
+    for name in HEADERS:
         shutil.copy(os.path.join(ROOT, "c", name), THERE)
+    old = [side for side, crate in SIDES.items() if not is_new(path_of(side), sources_changed([crate]))]
     if old and not build(old):
         return 1
     if os.uname().machine != "x86_64":

@@ -13,7 +13,6 @@ import sys
 import tempfile
 import time
 
-from bench.markup import Tags, faults
 from programs import audit, build
 from tools.crates import ROOT, graph, made_of
 
@@ -66,28 +65,6 @@ def try_cases():
 LOG = b"1 1 0 0 0 1 0 0\n2 1 1 0 0 1 0 0\n3 3 0 0 0 1 1 0\n4 3 1 0 0 1 2 0\n5 5 1 0 0 2 1 4\n"
 
 
-def try_audit_page():
-    """The page of a log: what is said of it, its records, and of the first wrong one what the rules say."""
-    for log, status, answer, known, why, numbers in [
-        (LOG, 0, "accepted 5", 5, None, None),
-        (b"", 0, "accepted 0", 0, None, None),
-        (LOG.replace(b"2 1 4\n", b"2 2 4\n") + b"6 10 0 0 0 2 1 4\n", 1, "record 5", 5, "count 2, the rules say 1", ["count", 2, 1]),
-        (LOG.replace(b"3 3 0", b"3 3 5"), 1, "record 3", 3, "refused 7: the id has no session", None),
-        (LOG.replace(b"3 3 0", b"3 3 <b>"), 1, "record 3", 2, "no number: <b>", None),
-        (LOG.replace(b"3 3 0", b"4 3 0"), 1, "record 3", 2, "sequence 4, its place is 3", None),
-    ]:
-        found, page, _ = typed(["audit", "--page"], log)
-        same((found, faults(page.decode())), (status, []), "the page of an audit")
-        data = Tags(page.decode()).data()
-        same((data["answer"], data["known"], data["wrong"] and data["wrong"]["why"]), (answer, known, why), "what the page of an audit says")
-        same(numbers is None or [n for n in data["wrong"]["numbers"] if n[1] != n[2]] == [numbers], True, "the numbers that are others: %s" % data["wrong"])
-        same([row[0] for row in data["rows"]], audit.numbers_of(log.split(b"\n")[:known]), "its records")
-    data = Tags(typed(["audit", "--page"], LOG + b"6 9 0 1 7 2 1 4\n7 6 1 0 0 2 1 0\n8 11 0 0 0 2 1 0\n")[1].decode()).data()
-    same((data["answer"], data["ids"], [row[2][:2] for row in data["rows"]]), ("accepted 8", [0, 1], ["C.", "CC", "NC", "NN", "NF", "NF", "NR", "NR"]), "the sessions over time")
-    same([row[1] for row in data["rows"]][4:], ["link down of 1", "write of chunk 7 ended, reached {0}", "store check good of 1", "good answer to MAP_READY, start empty, at node 1 #1"], "the events in words")
-    same((data["causes"]["4"], data["rows"][5][4]), ("1: link", ["MARK chunk 7 for {1}, version 2, at node 0"]), "causes and messages")
-
-
 def try_typed():
     """Exit status 0 same or accepted, 1 different or `record K`, 2 what can't be read; and words that say why."""
     with tempfile.TemporaryDirectory() as folder:
@@ -118,7 +95,7 @@ def try_typed():
             (["audit", empty], b"", 1, b"record 1\n", "audit: record 1: longer than 255 bytes"),
             (["audit", nowhere], b"", 2, b"", "audit: %s: No such file or directory" % nowhere),
             (["audit", folder], b"", 2, b"", "audit: %s: Is a directory" % folder),
-            (["audit", "--sing"], b"", 2, b"", "usage: ./audit [--page | --history] [FILE]"),
+            (["audit", "--sing"], b"", 2, b"", "usage: ./audit [FILE]"),
             (["library", "--sing"], b"", 2, b"", "usage: ./library"),
         ]:
             found = typed(words, data)
@@ -157,18 +134,6 @@ staticlib)
 *) exec %s "$@" ;;
 esac
 """
-
-
-def try_history():
-    """A log's events as a history: up to the first record that is not so, with what is wrong; a line that is no record ends it."""
-    good = b"1 1 0 0 0 1 0 0\n2 1 1 0 0 1 0 0\n3 3 0 0 0 1 1 0\n4 3 1 0 0 1 2 0\n5 5 1 0 0 2 1 4\n6 6 1 0 0 2 1 0\n7 11 0 0 0 2 1 0\n"
-    events = ["pool 0 4096", "join_create 0", "join_create 1", "enable 0", "enable 1", "link_down 1", "store_check 1", "answer 1 1 0"]
-    for data, status, lines, said in [
-        (good, 0, events, "accepted 7"), (good.replace(b"5 5 1 0 0 2 1 4", b"5 5 1 0 0 2 2 4"), 1, events[:5] + ["# record 5: count 2, the rules say 1: 5 5 1 0 0 2 2 4", "link_down 1"], "record 5"),
-        (good.replace(b"3 3 0 0 0 1 1 0", b"3 3"), 1, events[:3] + ["# record 3: 2 numbers, a record has 8: 3 3"], "record 3"), (b"", 0, events[:1], "accepted 0"),
-    ]:
-        done = typed(["audit", "--history"], data)
-        same((done[0], done[1].decode().split("\n")[1:-1], said in done[2]), (status, lines, True), "the history of a log: %s" % done[2])
 
 
 def try_built(name="compare"):
@@ -221,7 +186,7 @@ def try_built(name="compare"):
                 edit()
             done = subprocess.run([os.path.join(copy, "library")], stdout=subprocess.PIPE, stderr=subprocess.PIPE, universal_newlines=True, env=other)
             same((done.returncode, done.stdout, done.stderr.count("library: archive ")), (0, os.path.join(copy, "target", "library") + "\n", archives), "./library %s: %s" % (what, done.stderr))
-        same(sorted(os.listdir(os.path.join(copy, "target", "library"))), ["libmunzolkheg_client.a", "libmunzolkheg_node.a", "lines.h", "munzolkheg.h", "munzolkheg.py"], "the library")
+        same(sorted(os.listdir(os.path.join(copy, "target", "library"))), ["libmunzolkheg_client.a", "libmunzolkheg_node.a", "lines.h", "munzolkheg.h"], "the library")
         os.chmod(os.path.join(folder, "bin", "rt"), stat.S_IRUSR)
         done = subprocess.run([sys.executable, "-B", os.path.join(copy, "programs"), name, f.name, f.name], stdout=subprocess.PIPE, stderr=subprocess.PIPE, universal_newlines=True, env=dict(other, PATH=os.path.join(folder, "bin")))
         same((done.returncode, done.stdout, "the Rattle kit is not here" in done.stderr), (2, "", True), "a run without rt: %s" % done.stderr)
@@ -233,8 +198,6 @@ def main():
     try_reasons()
     try_cases()
     try_typed()
-    try_history()
-    try_audit_page()
     try_built()
 
 

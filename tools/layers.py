@@ -1,18 +1,16 @@
 """The rooms: a crate's prefix says what it holds and what it may use. crates.txt is made from what the crates name, and held to the rooms.
 
   python3 -m tools.layers write   writes crates.txt: by room, in each lowest first and the slowest check first; and the table of crates in docs/ARCHITECTURE.md
-  python3 -m tools.layers order   the same, and what a crate uses in the order in which the lab is proved soonest; every crate is then proved anew, since rt's stamps hang on that order
   python3 -m tools.layers check   says whether both are those that this script makes, and whether each crate uses only what its room may; some 2 seconds
 
 A crate depends on those that it names, and, where it has code, on those of the types within the types that it names: the borrow checker wants them named.
 """
 import os
-import random
 import re
 import sys
 
-from tools.crates import ROOT, depths, graph, made_of
-from tools.check_times import UNKNOWN, seconds
+from tools.crates import ROOT, depths, graph
+from tools.check_times import seconds
 
 KIT = ("io", "libc", "os", "check", "bytes")
 
@@ -38,7 +36,7 @@ ROOMS = [
     ("compare_", "two dumps of maps compared; the program is compare", "laws_words rules_ map_ text_"),
     ("compare", "the program", "compare_"),
     ("status_", "a row as NBD block status, and back; the program is status", "laws_words rules_ map_ text_"),
-    ("status", "the program", "status_ text_"),
+    ("status", "the program", "status_"),
     ("library_", "what is exported to C", "laws_words rules_ laws_ map_ event event_ client client_ node node_"),
 ]
 PAGE = os.path.join(ROOT, "docs", "ARCHITECTURE.md")
@@ -119,73 +117,7 @@ def ordered(uses, times):
     return {c: i for i, c in enumerate(sorted(uses, key=lambda c: (ROOMS.index(room_of(c)), depth[c], -times.get(c, 0), c)))}
 
 
-# How long it is waited for a program: rt proves level after level, in each JOBS at a time, in the order in which it came upon them, and waits for those that it started together.
-
-JOBS, CORES = 4, 2
-TRIES = 4000
-
-
-def levels(program, lists):
-    """The crates under a program as rt comes upon them, the lowest level first."""
-    level, met = {}, []
-
-    def visit(crate):
-        if crate in level:
-            return
-        for used in lists[crate]:
-            if used in lists:
-                visit(used)
-        level[crate] = 1 + max([level[used] for used in lists[crate] if used in lists], default=-1)
-        met.append(crate)
-
-    visit(program)
-    return sorted(met, key=level.get), level
-
-
-def shared(times):
-    """When all are done that are started together and share the processors."""
-    waited, left = 0, sorted(times)
-    while left:
-        least = left[0]
-        waited += least * max(1, len(left) / CORES)
-        left = [t - least for t in left[1:]]
-    return waited
-
-
-def waited_for(program, lists, times):
-    crates, level = levels(program, lists)
-    total, batch = 0, []
-    for i, crate in enumerate(crates):
-        batch.append(times.get(crate, UNKNOWN))
-        if i + 1 == len(crates) or level[crates[i + 1]] != level[crate] or len(batch) == JOBS:
-            total += shared(batch)
-            batch = []
-    return total
-
-
-def soonest(program, lists, times):
-    """The lists in an order in which the program is proved soonest, as far as a search finds it: a name moved to the front of its list, and kept there where it is not later."""
-    chance, best = random.Random(1), waited_for(program, lists, times)
-    under = [c for c in made_of([program], lists) if len(lists[c]) > 1]
-    for _ in range(TRIES):
-        crate = chance.choice(under)
-        was = lists[crate]
-        name = chance.choice(was)
-        lists[crate] = [name] + [d for d in was if d != name]
-        now = waited_for(program, lists, times)
-        if now > best:
-            lists[crate] = was
-        best = min(best, now)
-    return lists
-
-
-def listed(uses, order):
-    """What each crate uses, in the order that it has in crates.txt where that is the same."""
-    was = graph()
-    return {c: was[c] if sorted(was.get(c, [])) == sorted(uses[c]) else sorted((d for d in uses[c] if d in uses), key=order.get) + [d for d in KIT if d in uses[c]] for c in uses}
-
-
-def text_of(uses, lists):
+def text_of(uses):
     """crates.txt."""
     order = ordered(uses, seconds())
     out, room = [HEAD], None
@@ -193,7 +125,8 @@ def text_of(uses, lists):
         if room_of(c) != room:
             room = room_of(c)
             out.append("# %s: %s\n" % (room[0].rstrip("_"), room[1]))
-        out.append(" ".join([c + ":"] + lists[c]) + "\n")
+        own = sorted((d for d in uses[c] if d in uses), key=order.get)
+        out.append(" ".join([c + ":"] + own + [d for d in KIT if d in uses[c]]) + "\n")
     return "".join(out)
 
 
@@ -233,7 +166,7 @@ def wrong_rooms(uses):
 
 
 def main():
-    if sys.argv[1:] not in (["write"], ["order"], ["check"]):
+    if sys.argv[1:] not in (["write"], ["check"]):
         sys.exit(__doc__)
     uses = made()
     wrong = wrong_rooms(uses)
@@ -242,12 +175,10 @@ def main():
     with open(PAGE, encoding="utf-8") as f:
         page = f.read()
     start, end = page.index(START), page.index(END)
-    page_now = page[:start] + table(uses) + page[end:]
-    if sys.argv[1] in ("write", "order"):
-        lists = listed(uses, ordered(uses, seconds()))
-        if sys.argv[1] == "order":
-            lists = soonest("lab", lists, seconds())
-        for p, t in ((os.path.join(ROOT, "crates.txt"), text_of(uses, lists)), (PAGE, page_now)):
+    page_now, text = page[:start] + table(uses) + page[end:], text_of(uses)
+    path = os.path.join(ROOT, "crates.txt")
+    if sys.argv[1] == "write":
+        for p, t in ((path, text), (PAGE, page_now)):
             with open(p, "w", encoding="utf-8") as f:
                 f.write(t)
         return

@@ -332,36 +332,26 @@ def left_of(answer, looked, lines):
     return both
 
 
-def answered():
-    """Every block with the answers to its lines: its table, row and event, the lines that set it up with their answers, the event's line and answer, and what the looks after it say."""
+def page():
     with open(STDOUT, encoding="ascii") as f:
         answers = f.read().split("\n")
     at = len(parse("the histories before it", before()).commands)  # each command has one line of answer
-    for table, words, name, lines, line, looks in blocks():
-        said = answers[at : at + len(lines)]
+    tables = {}
+    for table, words, name, lines, _, looks in blocks():
         at += len(lines)
-        yield table, words, name, list(zip(lines, said)), (line, answers[at]), answers[at + 1 : at + 1 + len(looks)]
+        looked = answers[at + 1 : at + 1 + len(looks)]
+        if table[0] == "client":
+            cells = [cell(answers[at], fields_of(answers[at], looked[0], lines)), client_row(answers[at], looked[1])]
+        else:
+            cells = [cell(answers[at])] + left_of(answers[at], looked, lines)
+        tables.setdefault(table, {}).setdefault(words, []).append([name] + cells)
         at += 1 + len(looks)
     if answers[at:] != [""]:
         sys.exit("matrix: the output does not fit the history")
-
-
-def cells_of(table, lines, answer, looked):
-    """A block's cells: the answer, and what became of the client's row 1, or of the node's map and staging."""
-    if table[0] == "client":
-        return [cell(answer, fields_of(answer, looked[0], lines)), client_row(answer, looked[1])]
-    return [cell(answer)] + left_of(answer, looked, lines)
-
-
-def page():
-    tables = {}
-    for table, words, name, setup, (_, answer), looked in answered():
-        tables.setdefault(table, {}).setdefault(words, []).append([name] + cells_of(table, [line for line, _ in setup], answer, looked))
     out = [
         "# The matrix: every state with every event",
         "",
         "Made by `tools/matrix.py` from what the program `lab` answers to the last history of `crates/lab/stdin`, which the gate runs; the gate also compares this page with it.",
-        "`./lab --rules > rules.html` makes one page for a browser of the same answers: choose a state and an event, and see the answer in words, the rule's sentence and its definition.",
         "",
         "A number alone is the refusal. Else the answer: for the client the session letters (session 0 first; the acted-on session is 1), `v` the pool version,",
         "`n` the NORMAL count, the sets that are not empty, the job, what the answer counts, `written` and `assembled` where they stand, the sessions that are FAILED with cause",

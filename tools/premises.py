@@ -4,10 +4,10 @@
   python3 -m tools.premises FILE ..    plays these
   LAB='PROGRAM WORD ..' before it: plays them with that program instead of ./lab, as one with a wrong rule
 
-Each file of examples/premises/ is named after a clause of `Keeps` (crates/theorem_forgotten) or `Starts` (crates/rules_world), or after the type `Own`, a node's own events, which leaves no other message to say: it has to drop
-that one, no other but those that are only convenient (docs/DEMANDS.md), and to end with a missed chunk that is not dirty on the node of a NORMAL session. Those of examples/needed/ show this under a wrong rule only. What is missed is found from the client's lines, in the words of the claim; nothing here is proved, and it is no part of the gate.
+Each file of examples/premises/ is named after a clause of `Keeps` or `Starts` (crates/rules_world): it has to drop that one, no other but those that are only convenient (docs/DEMANDS.md), and to end with a missed chunk
+that is not dirty on the node of a NORMAL session. Those of examples/needed/ show this under a wrong rule only. What is missed is found from the client's lines, in the words of the claim; nothing here is proved, and it is no part of the gate.
 
-How a history is read: a node's line that equals what the client's last event tells, right after it, is that message; one that equals the awaited message is its arrival (of a MAP_SEND, of all its parts); `enable1` with the pool's version and set right before the client's
+How a history is read: a node's line that equals what the client's last event tells, right after it, is that message; one that equals the awaited message is its arrival; `enable1` with the pool's version and set right before the client's
 `enable` is a hand enable; `poke_node N 0 0 0 0 0 0` is another node at that id; other pokes belong to the start.
 """
 import glob
@@ -18,14 +18,12 @@ import sys
 from bench.history import asking, chunks, fields, load, run_lab, sent
 from tools.crates import ROOT
 
-CLAUSES = ("follows", "assembles", "brings", "marks", "stores", "by-hand", "not-else", "own", "once", "deletes", "answers", "new", "leg", "fills", "free", "starts-pool", "starts-node")
+CLAUSES = ("follows", "assembles", "brings", "marks", "stores", "by-hand", "not-else", "own", "once", "broken", "deletes", "answers", "new", "fills", "free", "starts-pool", "starts-node")
 CONVENIENT = {"assembles", "brings", "not-else"}
 CLIENT = ("join_create", "join_assemble", "enable", "maintenance", "link_down", "store_check", "rejoin", "try", "extend", "remove", "write", "synced", "answer", "deliver")
 OWN = ("register_create", "register_add", "unregister", "join_create", "join_assemble", "fault")
 LETTERS = ".CNFRXF"
 FRESH = "0 0 0 0 0 0".split()
-STATES = ("EMPTY", "REGISTERED", "CREATED", "NORMAL", "NO_IO")
-JOINED = STATES[2:]
 
 
 def play(lines):
@@ -69,8 +67,8 @@ def spread_out(lines):
 class Walk:
     def __init__(self):
         self.version, self.members, self.sessions, self.deleting, self.job = 1, set(), "." * 16, set(), "none"
-        self.nodes = [{"version": "0", "state": "EMPTY"} for _ in range(16)]
-        self.joined, self.to_come, self.waits, self.acked, self.missed = set(), set(), set(), set(), set()
+        self.nodes = [{"version": "0", "create": "0"} for _ in range(16)]
+        self.joined, self.waits, self.acked, self.missed = set(), set(), set(), set()
         self.told, self.need, self.awaited, self.fate = [], (None, []), None, None
         self.dropped, self.begun = {}, False
 
@@ -83,22 +81,17 @@ class Walk:
             self.drop(self.need[0], self.need[1][0])
         self.told, self.need = [], (None, [])
 
-    def outside(self, j):
-        return j not in self.members and self.sessions[j] == "."
-
     def another(self, j, values, line):
         if not self.begun:
             if values != FRESH:
                 self.drop("starts-node", line)
         elif values != FRESH:
             sys.exit("premises: not a history: " + line)
-        elif not self.outside(j) and j in self.joined:
+        elif j in self.members or self.sessions[j] != ".":
             self.drop("free", line)
-        if self.outside(j):
-            self.to_come.discard(j)
         self.joined.discard(j)
         self.waits.discard(j)
-        self.nodes[j] = {"version": values[4], "state": STATES[int(values[0])]}
+        self.nodes[j] = {"version": values[4], "create": values[2]}
 
     def poke(self, words, line):
         if self.begun:
@@ -113,6 +106,7 @@ class Walk:
     def arrives(self, line, answer):
         if self.job == "none" or self.fate != "under way":
             self.drop("once", line)
+            self.drop("broken", line)
         version = fields(answer).get("version") if " map_get_ver" in line else "0"
         self.fate = (0, "0") if answer.startswith("refused") else (2 if " map_get_ver" in line else 1, version)
 
@@ -131,9 +125,6 @@ class Walk:
             if taken and j in self.joined and (name == "register_create" or (name == "register_add" and rest[1] != before["version"]) or (name == "unregister" and rest[0] == "1")):
                 self.drop("stores", line)
             if taken and name in ("join_create", "join_assemble"):
-                if j in self.to_come and not self.outside(j) and (name == "join_create" or before["version"] != "0"):
-                    self.drop("leg", line)
-                self.to_come.discard(j)
                 self.joined.add(j)
             if taken and name == "join_create":
                 self.waits.add(j)
@@ -173,15 +164,12 @@ class Walk:
             self.drop("deletes", line)
         if word == "extend":
             j = int(new["id"])
-            there_already = self.nodes[j]["state"] in JOINED
-            if there_already and self.nodes[j]["version"] != "0":
+            if self.nodes[j] != {"version": "0", "create": "0"}:
                 self.drop("new", line)
             self.need = ("fills", [e for e in told if int(e.split()[1]) in normal])
             self.missed |= {(j, c) for c in self.acked}
         if word in ("join_create", "join_assemble", "extend"):
-            came = word != "extend" or there_already
-            (self.joined if came else self.to_come).add(j)
-            (self.to_come if came else self.joined).discard(j)
+            self.joined.add(j)
             self.waits.discard(j)
         if word == "write":
             self.need = ("marks", list(told))
@@ -218,27 +206,22 @@ class Walk:
 
 def judge(path):
     """What a history drops, and what is forgotten at its end: node, member, chunk."""
-    return judged(spread_out([c.text for c in load(path).commands]), play)
-
-
-def judged(lines, play, there=range(16)):
-    """The same of lines that stand with auto off; `there`: the nodes that can be in them."""
+    lines = spread_out([c.text for c in load(path).commands])
     # after each line every node is asked for its state: that changes nothing, and is refused where the node does not serve
-    asked = [x for line in lines for x in [line] + ["node %d map_get_ver" % j for j in there]]
-    rows = ["row %d %d" % (j, m) for j in there for m in there]
+    asked = [x for line in lines for x in [line] + ["node %d map_get_ver" % j for j in range(16)]]
+    rows = ["row %d %d" % (j, m) for j in range(16) for m in range(16)]
     answers = play(asked + rows)
-    stride = 1 + len(there)
-    main, walk, by_hand = answers[: len(asked) : stride], Walk(), None
+    main, walk, by_hand = answers[: len(asked) : 17], Walk(), None
     for i, line in enumerate(lines):
         after = (lines[i + 1], main[i + 1]) if i + 1 < len(lines) else ("", "")
         by_hand = walk.step(line, main[i], after, by_hand)
-        for j, said in zip(there, answers[stride * i + 1 : stride * i + stride]):
+        for j, said in enumerate(answers[17 * i + 1 : 17 * i + 17]):
             seen = said if said.startswith("ok") else main[i] if main[i].startswith("ok node=%d " % j) else ""
             if seen:
-                walk.nodes[j] = {k: v for k, v in fields(seen).items() if k in ("version", "state")}
+                walk.nodes[j] = {k: v for k, v in fields(seen).items() if k in ("version", "create")}
     walk.close()
     found = {r: chunks(a) for r, a in zip(rows, answers[len(asked):])}
-    forgotten = sorted((j, m, c) for j in there if walk.sessions[j] == "N" for m, c in walk.missed if c not in found["row %d %d" % (j, m)])
+    forgotten = sorted((j, m, c) for j in range(16) if walk.sessions[j] == "N" for m, c in walk.missed if c not in found["row %d %d" % (j, m)])
     return walk.dropped, forgotten
 
 
@@ -251,7 +234,7 @@ def main():
         clause = max((c for c in CLAUSES if name == c or name.startswith(c + "-")), key=len, default=None)
         good = True
         if clause and os.path.basename(os.path.dirname(os.path.abspath(path))) == "premises":
-            good = clause in dropped and not set(dropped) - {clause} - CONVENIENT and bool(forgotten)
+            good = clause in dropped and not set(dropped) - {clause} - CONVENIENT - ({"once", "broken"} if clause in ("once", "broken") else set()) and bool(forgotten)
         wrong += not good
         print("%s%s: %s; %s" % ("" if good else "NOT AS IT SHOULD BE ", name,
             "drops " + ", ".join("%s (%s)" % d for d in sorted(dropped.items())) if dropped else "drops no premise",

@@ -4,8 +4,7 @@ What is followed: every contract (the definitions that a function of src/ cites)
 the ones that it is made of, through the imports. Crates of laws are read only where a contract or a statement rests on a definition there; the table names those.
 
   python3 -m tools.trust page    writes the table into the page
-  python3 -m tools.trust check   says whether the page has it, and whether every definition of specs/ is rested on by a contract or a statement
-  python3 -m tools.trust idle    the definitions that are not
+  python3 -m tools.trust check   says whether the page has it, and whether every definition of specs/ is rested on
 """
 import glob
 import os
@@ -16,12 +15,12 @@ from tools.crates import ROOT, graph
 
 PAGE = os.path.join(ROOT, "docs", "TRUST.md")
 BESIDES = "For a program or the library, the definitions of its own crates besides: what a line, a descriptor, a log record or a word means."
-START, END = "| layer | files | lines | without imports, comments and blanks |\n", "\n## What the definitions were compared with"
+START, END = "| layer | files | lines, comments and imports with them |\n", "\n## What the definitions were compared with"
 RULES = ["rules", "theorem", "client", "node"]  # by what the crates' names begin with: what must be believed of the rules, and the faces
 PROGRAMS = ["event", "map", "text", "lab", "status", "compare", "library", "audit"]  # besides, for a program or the library
 LAYERS = RULES + PROGRAMS
 LAWS = ("laws_", "model_")  # crates of laws: what they say is proved of the others; only the definitions named in the table change what a contract or statement means
-STATED = ("rules_", "theorem_", "status_proof", "audit_proof", "compare_", "audit_list", "map_versions", "map_summary", "event", "library_", "lab_places")  # crates with statements in specs/
+STATED = ("rules_", "theorem_", "status_proof", "audit_proof", "compare_", "audit_list", "map_versions", "map_summary", "event_words", "library_")  # crates with statements in specs/
 
 HEAD = re.compile(r"^(?:(?:abbrev|unfoldable) )?(?:pub )?(?:(?:record|data) ([^\s(){}:;]+)|([^\s(){}:;]+)(?: \{[^}]*\})? :)")
 USE = re.compile(r"^(?:ghost )?use Rattle·(\w+?)(?:·specs\.specs|\.specs)\.([\w.]+?)(?:\.\{([^}]*)\}| as (\w[\w-]*));?$")
@@ -47,8 +46,7 @@ def imports(text):
             modules[alias] = (crate, module)
         else:
             for name in listed.split(","):
-                name, _, short = name.strip().partition(" as ")
-                names[short or name] = (crate, module, name)
+                names[name.strip()] = (crate, module, name.strip())
     return names, modules
 
 
@@ -75,14 +73,8 @@ def load():
         crate, module = path.split(os.sep)[-3], os.path.basename(path)[: -len(".antt")]
         if module != "Lib":
             text = text_of(path)
-            files[crate, module] = (definitions(text), *imports(text), lines_of(text))
+            files[crate, module] = (definitions(text), *imports(text), text.count("\n"))
     return files
-
-
-def lines_of(text):
-    """All lines, and those that are no import, comment or blank."""
-    bare = [l for l in text.split("\n") if l.strip() and not l.strip().startswith(("--", "//", "use ", "ghost use ", "pub mod ", "mod "))]
-    return text.count("\n"), len(bare)
 
 
 def cited(files):
@@ -126,8 +118,8 @@ def rested_on(files):
 
 
 def row(layer, files, seen, crates, by_name):
-    cells, lines, bare = [], 0, 0
-    for (crate, module), (defs, _, _, (count, without)) in files.items():
+    cells, lines = [], 0
+    for (crate, module), (defs, _, _, count) in files.items():
         if not crate.startswith(crates):
             continue
         used = [n for n in defs if (crate, module, n) in seen]
@@ -135,38 +127,21 @@ def row(layer, files, seen, crates, by_name):
             continue
         if by_name:
             cells.append("%s/%s (%s)" % (crate, module, ", ".join("`%s`" % n for n in used)))
-            count = without = sum(defs[n].strip("\n").count("\n") + 1 for n in used)
+            lines += sum(defs[n].strip("\n").count("\n") + 1 for n in used)
         else:
             cells.append("%s/%s" % (crate, module))
-        lines, bare = lines + count, bare + without
+            lines += count
     cells.sort()
-    return "| %s | %s | %d | %d |\n" % (layer, ", ".join(cells), lines, bare)
-
-
-def types():
-    """The types that the definitions of the rules speak of stand in src/ of rules_*, which holds nothing else."""
-    paths = sorted(glob.glob(os.path.join(ROOT, "crates", "rules_*", "src", "*.rt")))
-    counts = [(p.split(os.sep)[-3], *lines_of(text_of(p))) for p in paths]
-    counts = [c for c in counts if c[2]]
-    return "| types of the rules | %s | %d | %d |\n" % (", ".join("crates/%s/src" % c for c, _, _ in counts), sum(n for _, n, _ in counts), sum(n for _, _, n in counts))
+    return "| %s | %s | %d |\n" % (layer, ", ".join(cells), lines)
 
 
 def table(files, seen):
-    rows = [START, "|---|---|---|---|\n"]
+    rows = [START, "|---|---|---|\n"]
     rows.append(row("words of the laws", files, seen, LAWS, True))
-    rows.append(types())
     rows += [row(layer, files, seen, (layer,), False) for layer in RULES]
-    rows += ["\n", BESIDES, "\n\n", START, "|---|---|---|---|\n"]
+    rows += ["\n", BESIDES, "\n\n", START, "|---|---|---|\n"]
     rows += [row(layer, files, seen, (layer,), False) for layer in PROGRAMS]
     return "".join(rows)
-
-
-def unrested(files, seen):
-    """The definitions that no contract and no statement rests on, by file."""
-    for (crate, module), (defs, _, _, _) in files.items():
-        idle = [n for n in defs if (crate, module, n) not in seen]
-        if idle and not crate.startswith(LAWS):
-            yield "%s/%s: %s" % (crate, module, " ".join(idle))
 
 
 def listed():
@@ -181,10 +156,11 @@ def main():
     listed()
     files = load()
     seen = rested_on(files)
-    idle = list(unrested(files, seen))
-    for line in idle:
-        print("trust: no contract and no statement rests on", line)
     if sys.argv[1] == "idle":
+        for (crate, module), (defs, _, _, _) in files.items():
+            idle = [n for n in defs if (crate, module, n) not in seen]
+            if idle and not crate.startswith(LAWS):
+                print("%s/%s: %s" % (crate, module, " ".join(idle)))
         return
     page = text_of(PAGE)
     start, end = page.index(START), page.index(END)
@@ -192,8 +168,6 @@ def main():
     if sys.argv[1] == "page":
         with open(PAGE, "w", encoding="utf-8") as f:
             f.write(made)
-    elif idle:
-        sys.exit(1)
     elif made != page:
         sys.exit("trust: docs/TRUST.md has not the table that the definitions give (python3 -m tools.trust page)")
 

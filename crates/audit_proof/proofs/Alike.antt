@@ -101,8 +101,8 @@ module _ (n : ℕ) (c : Pool) (v : valid_pool (with_chunks n c) ≡ valid_pool c
   pub remove-alike : (s s' : Bool) (id : ℕ) (mode : Mode) → by_the_count (Remove.remove c s id mode).answer ≡ false → by_the_count (Remove.remove (with_chunks n c) s' id mode).answer ≡ false → Same n (Remove.remove c s id mode) (Remove.remove (with_chunks n c) s' id mode)
   unfolding Remove.remove Remove.remove_refusal
   remove-alike s s' id mode h h' =
-      let w : bars (Remove.remove_refusal c s id mode) ≡ false = not-barred (Remove.remove_refusal c s id mode) c (Remove.gone (Remove.remove_begun c id mode)) h in
-      let w' : bars (Remove.remove_refusal (with_chunks n c) s' id mode) ≡ false = not-barred (Remove.remove_refusal (with_chunks n c) s' id mode) (with_chunks n c) (Remove.gone (Remove.remove_begun (with_chunks n c) id mode)) h' in
+      let w : bars (Remove.remove_refusal c s id mode) ≡ false = not-barred (Remove.remove_refusal c s id mode) c (Remove.gone c (Remove.remove_begun c id mode)) h in
+      let w' : bars (Remove.remove_refusal (with_chunks n c) s' id mode) ≡ false = not-barred (Remove.remove_refusal (with_chunks n c) s' id mode) (with_chunks n c) (Remove.gone (with_chunks n c) (Remove.remove_begun (with_chunks n c) id mode)) h' in
       by_number n (Remove.remove_refusal c s id mode) (Remove.remove_refusal (with_chunks n c) s' id mode) c _ _ (rw v (two-same (not (valid_pool c)) (not s) (not s') _ w (rw v at w'))) (remove-done n c id mode)
 
   pub write-alike : (s s' : Bool) (chunk reached : ℕ) → by_the_count (Writes.write_ended c s chunk reached).answer ≡ false → by_the_count (Writes.write_ended (with_chunks n c) s' chunk reached).answer ≡ false → Same n (Writes.write_ended c s chunk reached) (Writes.write_ended (with_chunks n c) s' chunk reached)

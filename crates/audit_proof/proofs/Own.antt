@@ -68,7 +68,7 @@ module _ (c : Pool) (v : valid_pool (wide c) ≡ valid_pool c) where
   remove-carried : (s : Bool) (id : ℕ) (mode : Mode) (sent : Sent) → (Remove.remove c s id mode).answer ≡ Answer.Done sent → Same chunk_limit (Remove.remove c s id mode) (Remove.remove (wide c) true id mode)
   unfolding Remove.remove Remove.remove_refusal
   remove-carried s id mode sent h =
-      let z : Remove.remove_refusal c s id mode ≡ 0 = accepted-zero (Remove.remove_refusal c s id mode) c (Remove.gone (Remove.remove_begun c id mode)) sent h in
+      let z : Remove.remove_refusal c s id mode ≡ 0 = accepted-zero (Remove.remove_refusal c s id mode) c (Remove.gone c (Remove.remove_begun c id mode)) sent h in
       let q = two-zero (not (valid_pool c)) (not s) _ z in
       let z' : Remove.remove_refusal (wide c) true id mode ≡ 0 = rw (v, q.0) q.1 in
       by_number chunk_limit (Remove.remove_refusal c s id mode) (Remove.remove_refusal (wide c) true id mode) c _ _ (z' ∙ sym z) (remove-done chunk_limit c id mode)

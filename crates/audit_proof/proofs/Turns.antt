@@ -54,17 +54,17 @@ module _ (n : ℕ) where
   refused-same : (p : Pool) (k : ℕ) → Same n (refused p k) (refused (with_chunks n p) k)
   refused-same p k = record { answer = refl; pool = refl }
 
-  accepted-same : (b b' q : Pool) (o : Outcome) (told : Told) (m : Message) (ef ef' : Effect) → Same n (accepted q o told m ef) (accepted (with_chunks n q) o told m ef')
+  accepted-same : (b b' q : Pool) (o : Outcome) (told : Told) (m : Message) (ef ef' : Effect) → Same n (accepted b q o told m ef) (accepted b' (with_chunks n q) o told m ef')
   accepted-same b b' q o told m ef ef' = record { answer = refl; pool = refl }
 
-  accepted-to : (b b' q q' : Pool) (o : Outcome) (told : Told) (m : Message) (ef ef' : Effect) → q' ≡ with_chunks n q → Same n (accepted q o told m ef) (accepted q' o told m ef')
-  accepted-to b b' q q' o told m ef ef' e = subst (λ (r : Pool). Same n (accepted q o told m ef) (accepted r o told m ef')) (sym e) (accepted-same b b' q o told m ef ef')
+  accepted-to : (b b' q q' : Pool) (o : Outcome) (told : Told) (m : Message) (ef ef' : Effect) → q' ≡ with_chunks n q → Same n (accepted b q o told m ef) (accepted b' q' o told m ef')
+  accepted-to b b' q q' o told m ef ef' e = subst (λ (r : Pool). Same n (accepted b q o told m ef) (accepted b' r o told m ef')) (sym e) (accepted-same b b' q o told m ef ef')
 
-  tried_same : (b b' q : Pool) (o : Outcome) (told : Told) (ef ef' : Effect) → Same n (tried_with q o told ef) (tried_with (with_chunks n q) o told ef')
+  tried_same : (b b' q : Pool) (o : Outcome) (told : Told) (ef ef' : Effect) → Same n (tried_with b q o told ef) (tried_with b' (with_chunks n q) o told ef')
   unfolding tried posted
   tried_same b b' q o told ef ef' = at (begun q.roster)
     where
-      at : (x : Next) → Same n (accepted (beginning x q).pool o told (beginning x q).awaited ef) (accepted (beginning x (with_chunks n q)).pool o told (beginning x (with_chunks n q)).awaited ef')
+      at : (x : Next) → Same n (accepted b (beginning x q).pool o told (beginning x q).awaited ef) (accepted b' (beginning x (with_chunks n q)).pool o told (beginning x (with_chunks n q)).awaited ef')
       at Next.Over = record { answer = refl; pool = refl }
       at (Next.On r) = record { answer = refl; pool = refl }
 
@@ -117,14 +117,14 @@ module _ (n : ℕ) where
       (record { answer = refl; pool = refl })
       (tried_same p p (with_roster p (went p.roster id State.Reconnecting)) Outcome.Plain Told.Nothing Effect.Keep Effect.Keep)
 
-  pub try-done : (p : Pool) → Same n (tried_after p Outcome.Plain Told.Nothing) (tried_after (with_chunks n p) Outcome.Plain Told.Nothing)
+  pub try-done : (p : Pool) → Same n (tried_after p p Outcome.Plain Told.Nothing) (tried_after (with_chunks n p) (with_chunks n p) Outcome.Plain Told.Nothing)
   try-done p = tried_same p p p Outcome.Plain Told.Nothing Effect.Keep Effect.Keep
 
   -- ---- removal
 
-  gone_same : (p : Pool) (g g' : Gone) → SameGone n g g' → Same n (Remove.gone g) (Remove.gone g')
+  gone_same : (p : Pool) (g g' : Gone) → SameGone n g g' → Same n (Remove.gone p g) (Remove.gone (with_chunks n p) g')
   gone_same p g g' x =
-      subst (λ (m : Message). Same n (Remove.gone g) (accepted g'.posted.pool Outcome.Plain Told.Nothing m g'.effect)) (sym x.awaited)
+      subst (λ (m : Message). Same n (Remove.gone p g) (accepted (with_chunks n p) g'.posted.pool Outcome.Plain Told.Nothing m g'.effect)) (sym x.awaited)
       (accepted-to p (with_chunks n p) g.posted.pool g'.posted.pool Outcome.Plain Told.Nothing g.posted.awaited g.effect g'.effect x.pool)
 
   either-gone : (b : Bool) (g h g' h' : Gone) → SameGone n g g' → SameGone n h h' → SameGone n (pick b g h) (pick b g' h')
@@ -146,12 +146,12 @@ module _ (n : ℕ) where
   unfolding Removal.started posted
   started-same p id = either-gone (is_owed (Removal.state_of p id)) _ _ _ _ (record { pool = refl; awaited = refl }) (departed-same p id)
 
-  pub remove-done : (p : Pool) (id : ℕ) (mode : Mode) → Same n (Remove.gone (Remove.remove_begun p id mode)) (Remove.gone (Remove.remove_begun (with_chunks n p) id mode))
+  pub remove-done : (p : Pool) (id : ℕ) (mode : Mode) → Same n (Remove.gone p (Remove.remove_begun p id mode)) (Remove.gone (with_chunks n p) (Remove.remove_begun (with_chunks n p) id mode))
   remove-done p id mode = gone_same p _ _ (started-same (with_roster p (removing p.roster id mode)) id)
 
   -- ---- write, synced
 
-  marks-same : (b b' q : Pool) (chunk reached : ℕ) → Same n (Writes.marks q chunk reached) (Writes.marks (with_chunks n q) chunk reached)
+  marks-same : (b b' q : Pool) (chunk reached : ℕ) → Same n (Writes.marks b q chunk reached) (Writes.marks b' (with_chunks n q) chunk reached)
   unfolding Writes.marks
   marks-same b b' q chunk reached = either_same (eqb reached 0) _ _ _ _ (record { answer = refl; pool = refl }) (record { answer = refl; pool = refl })
 
@@ -160,7 +160,7 @@ module _ (n : ℕ) where
   write-done p chunk reached =
       let q = with_roster p (written (Writes.missed p.roster reached) (not (eqb reached 0))) in
       let b = Writes.loses p.job p.roster reached in
-      subst (λ (r : Pool). Same n (Writes.marks (halted_if b q) chunk reached) (Writes.marks r chunk reached)) (sym (halted-same b q)) (marks-same p (with_chunks n p) (halted_if b q) chunk reached)
+      subst (λ (r : Pool). Same n (Writes.marks p (halted_if b q) chunk reached) (Writes.marks (with_chunks n p) r chunk reached)) (sym (halted-same b q)) (marks-same p (with_chunks n p) (halted_if b q) chunk reached)
 
   pub sync-done : (p : Pool) (member chunk : ℕ) → Same n (Writes.sync_done p member chunk) (Writes.sync_done (with_chunks n p) member chunk)
   unfolding Writes.sync_done
@@ -175,8 +175,8 @@ module _ (n : ℕ) where
       q : Pool
       q = with_roster p (Answers.entered_by m.normal p.roster)
 
-      at : (x : Next) → Same n (accepted (gone_on x q).pool (Outcome.Taken m.taken) (disabling m.disable) (gone_on x q).awaited Effect.Keep)
-          (accepted (gone_on x (with_chunks n q)).pool (Outcome.Taken m.taken) (disabling m.disable) (gone_on x (with_chunks n q)).awaited Effect.Keep)
+      at : (x : Next) → Same n (accepted p (gone_on x q).pool (Outcome.Taken m.taken) (disabling m.disable) (gone_on x q).awaited Effect.Keep)
+          (accepted (with_chunks n p) (gone_on x (with_chunks n q)).pool (Outcome.Taken m.taken) (disabling m.disable) (gone_on x (with_chunks n q)).awaited Effect.Keep)
       at Next.Over = record { answer = refl; pool = refl }
       at (Next.On r) = record { answer = refl; pool = refl }
 

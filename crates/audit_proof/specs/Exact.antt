@@ -26,7 +26,7 @@ pub record Says (rs : List Record) (v : Verdict) : Type 0 where
   pub names : (k : ℕ) → v ≡ Verdict.Wrong (suc k) → FirstWrong rs k
   pub named : (k : ℕ) → FirstWrong rs k → v ≡ Verdict.Wrong (suc k)
 
--- Of any list of records that can be numbered in 64 bits; a record's own numbers may be anything. (R-80)
+-- Of any list of records that can be numbered in 64 bits; a record's own numbers may be anything.
 abbrev pub Exact : Type 0
 Exact = (rs : List Record) → length rs < 2 ^ 64 → Says rs (verdict rs)
 

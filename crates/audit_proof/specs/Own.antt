@@ -50,7 +50,7 @@ log_from n c (e ∷ es) = entered (note_of e) (out_of e c).answer (next e c).poo
 abbrev pub OwnLog : Type 0
 OwnLog = (chunks : ℕ) → 1 ≤ chunks → chunks ≤ chunk_limit → (es : List Event) → GoodLog (log_from 0 (fresh false chunks) es)
 
--- So the auditor accepts it. (R-80)
+-- So the auditor accepts it.
 abbrev pub OwnAccepted : Type 0
 OwnAccepted = (chunks : ℕ) → 1 ≤ chunks → chunks ≤ chunk_limit → (es : List Event) → length (log_from 0 (fresh false chunks) es) < 2 ^ 64
     → verdict (log_from 0 (fresh false chunks) es) ≡ Verdict.Accepted (length (log_from 0 (fresh false chunks) es))

@@ -17,24 +17,20 @@ pub struct Record {
     pub causes: u64,
 }
 
-// The events that are logged.
+// The events that are logged. JoinAssemble: id, set, version. Write: chunk, reached set. Answer: to the awaited message. Extend: the id is the one it picks.
 #[derive(Clone, Copy)]
 pub enum Logged {
     JoinCreate(u64),
-    // id, set, version
     JoinAssemble(u64, u64, u64),
     Enable(u64),
     Maintenance(u64),
     LinkDown(u64),
     StoreCheck(u64),
     Remove(u64, Mode),
-    // chunk, reached set
     Write(u64, u64),
     Try,
-    // to the awaited message
     Answer(Reply),
     Rejoin(u64),
-    // the id is the one it picks
     Extend,
 }
 

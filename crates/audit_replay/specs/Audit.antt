@@ -15,7 +15,7 @@ use Rattle.audit_replay.specs.declared.auditing.Verdict.{Verdict}
 abbrev pub found : Bool → Pool → Checked
 found right p = record { right = right; pool = p }
 
--- the event is accepted, and the record is the one that it makes (R-80)
+-- the event is accepted, and the record is the one that it makes
 abbrev pub judged : Pool → ℕ → Record → Logged → Answer → Pool → Checked
 judged p n r e (Answer.Refused k) after = found false p
 judged p n r e (Answer.Done s) after = pick (same_record r (record_of n e s.outcome after.roster)) (found true after) (found false p)

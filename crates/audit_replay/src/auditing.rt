@@ -20,12 +20,10 @@ pub struct Walk {
     pub pool: Pool,
 }
 
-// What is said of a log.
+// Accepted: how many records. Wrong: the place of the first that is not so.
 #[derive(Clone, Copy)]
 pub enum Verdict {
-    // how many records
     Accepted(u64),
-    // the place of the first that is not so
     Wrong(u64),
 }
 

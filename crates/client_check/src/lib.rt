@@ -2,11 +2,11 @@
 #![tactic(auto)]
 
 ghost use Rattle.std.specs.Prelude.{◌≡◌};
-ghost use Rattle.rules_client.specs.MapCheck.{no_check, tick_refusal, ticked, beside, declined, done, tick, answer_refusal, answered, clears, answer, after};
+ghost use Rattle.rules_client.specs.MapCheck.{no_check, tick_refusal, ticked, tells_of, declined, tick, answer_refusal, answered, clears, answer, after};
 
 use map_numbers::refusals::first;
 use rules_client::{Check, Checked};
-use rules_pool::{Effect, Kind, Message, Outcome, Pool, Told, Turn};
+use rules_pool::{Answer, Effect, Kind, Message, Outcome, Pool, Sent, Told, Turn};
 
 pub fn none() -> Check
     ensures { result ≡ no_check }
@@ -22,9 +22,6 @@ pub fn none() -> Check
 pub fn after(k: Check, before: Pool, t: Turn) -> Check
     ensures { result ≡ after k before t }
 {
-    if k.once == 0 {
-        return k;
-    }
     if client_rules::breaking::breaks(before, t) {
         return Check {
             tick: k.tick,
@@ -35,39 +32,39 @@ pub fn after(k: Check, before: Pool, t: Turn) -> Check
     k
 }
 
-// What a turn of the pool comes to beside the check: the pool stays.
-fn beside(t: Turn, k: Check) -> Checked
-    ensures { result ≡ beside t k }
+fn tells(told: Told) -> Answer
+    ensures { result ≡ tells_of told }
 {
-    let answer = t.answer;
-    let effect = t.effect;
+    Answer::Done(Sent {
+        outcome: Outcome::Plain,
+        told: told,
+        awaited: Message::Nothing,
+        number: 0,
+    })
+}
+
+fn decline(k: Check, why: u64) -> Checked
+    ensures { result ≡ declined k why }
+{
     Checked {
-        answer: answer,
+        answer: Answer::Refused(why),
         check: k,
-        effect: effect,
+        effect: Effect::Keep,
     }
-}
-
-fn decline(p: Pool, k: Check, why: u64) -> Checked
-    ensures { result ≡ declined p k why }
-{
-    beside(client_run::exits::refuse(p, why), k)
-}
-
-fn done(p: Pool, told: Told, effect: Effect, k: Check) -> Checked
-    ensures { result ≡ done p told effect k }
-{
-    let t = client_run::exits::accept(p, Outcome::Plain, told, Message::Nothing, effect);
-    beside(t, k)
 }
 
 fn tick_refusal(p: Pool, sound: bool) -> u64
     ensures { result ≡ tick_refusal p sound }
 {
+    let ok = client_rules::rules::valid(p);
     let ro = p.roster;
     let j = p.job;
     let idle = client_rules::rules::jobs::is_idle(j);
-    client_rules::common::lent(p, sound, first(ro.sync, 5, first(!idle, 6, 0)))
+    first(
+        !ok,
+        1,
+        first(!sound, 2, first(ro.sync, 5, first(!idle, 6, 0))),
+    )
 }
 
 // The next tick, which asks these members.
@@ -87,18 +84,22 @@ pub fn tick(p: Pool, k: Check, sound: bool, full: u64) -> Checked
 {
     let why = tick_refusal(p, sound);
     if why != 0 {
-        return decline(p, k, why);
+        return decline(k, why);
     }
     let ro = p.roster;
     let asked = client_state::roster::ids(Kind::Reached(full), ro);
     let next = ticked(k, asked as u16);
-    let number = next.tick as u64;
-    done(p, Told::Checks(asked, number), Effect::Keep, next)
+    Checked {
+        answer: tells(Told::Checks(asked, next.tick as u64)),
+        check: next,
+        effect: Effect::Keep,
+    }
 }
 
 fn answer_refusal(p: Pool, k: Check, sound: bool, number: u64, m: u64) -> u64
     ensures { result ≡ answer_refusal p k sound number m }
 {
+    let ok = client_rules::rules::valid(p);
     let ro = p.roster;
     let j = p.job;
     let idle = client_rules::rules::jobs::is_idle(j);
@@ -108,7 +109,11 @@ fn answer_refusal(p: Pool, k: Check, sound: bool, number: u64, m: u64) -> u64
     let due = map_numbers::sets::has(k.due as u64, m);
     let awaited = (number == k.tick as u64) & due;
     let rest = first(!idle, 6, first(free, 7, first(!awaited, 13, 0)));
-    client_rules::common::lent(p, sound, first(15 < m, 3, first(ro.sync, 5, rest)))
+    first(
+        !ok,
+        1,
+        first(!sound, 2, first(15 < m, 3, first(ro.sync, 5, rest))),
+    )
 }
 
 // The member's answer is no longer due. An empty one stands if none did; else none stands any more.
@@ -146,9 +151,13 @@ pub fn answer(p: Pool, k: Check, sound: bool, number: u64, m: u64, empty: bool) 
 {
     let why = answer_refusal(p, k, sound, number, m);
     if why != 0 {
-        return decline(p, k, why);
+        return decline(k, why);
     }
     let next = answered(k, m, empty);
     let effect = clears(k, m, empty);
-    done(p, Told::Nothing, effect, next)
+    Checked {
+        answer: tells(Told::Nothing),
+        check: next,
+        effect: effect,
+    }
 }

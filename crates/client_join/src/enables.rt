@@ -15,6 +15,7 @@ fn may_enable(s: Session) -> bool
 fn enable_refusal(p: Pool, id: u64) -> u64
     ensures { result ≡ enable_refusal p id }
 {
+    let ok = client_rules::rules::valid(p);
     let ro = p.roster;
     let j = p.job;
     let s = client_state::roster::session(ro, id);
@@ -27,8 +28,9 @@ fn enable_refusal(p: Pool, id: u64) -> u64
     let late = created & client_state::state::in_service(past);
     let high = created & (map_numbers::refusals::VERSION_LIMIT < ro.version);
     let rest = first(free, 7, first(!may, 9, first(late, 17, first(high, 14, 0))));
-    client_rules::common::common(
-        p,
+    first(
+        !ok,
+        1,
         first(15 < id, 3, first(ro.sync, 5, first(!idle, 6, rest))),
     )
 }
@@ -45,7 +47,7 @@ fn enable_done(p: Pool, id: u64) -> Turn
     }
     let next = client_state::changes::flag(ro, id, false);
     let after = client_run::recovery::with_roster(p, next);
-    client_run::exits::try_after(after, Outcome::Plain, Told::Nothing)
+    client_run::exits::try_after(p, after, Outcome::Plain, Told::Nothing)
 }
 
 pub fn enable(p: Pool, id: u64) -> Turn
@@ -61,6 +63,7 @@ pub fn enable(p: Pool, id: u64) -> Turn
 fn maintenance_refusal(p: Pool, id: u64) -> u64
     ensures { result ≡ maintenance_refusal p id }
 {
+    let ok = client_rules::rules::valid(p);
     let ro = p.roster;
     let j = p.job;
     let s = client_state::roster::session(ro, id);
@@ -69,8 +72,9 @@ fn maintenance_refusal(p: Pool, id: u64) -> u64
     let free = client_state::state::is_free(st);
     let normal = client_state::state::is_normal(st);
     let rest = first(free, 7, first(!normal, 9, 0));
-    client_rules::common::common(
-        p,
+    first(
+        !ok,
+        1,
         first(15 < id, 3, first(ro.sync, 5, first(!idle, 6, rest))),
     )
 }

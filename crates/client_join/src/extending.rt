@@ -16,13 +16,14 @@ fn pick_id(ro: Roster) -> u64
 fn extend_refusal(p: Pool, sound: bool) -> u64
     ensures { result ≡ extend_refusal p sound }
 {
+    let ok = client_rules::rules::valid(p);
     let ro = p.roster;
     let j = p.job;
     let idle = client_rules::rules::jobs::is_idle(j);
     let normals = client_state::roster::ids(Kind::Normals, ro);
     let unused = client_state::roster::ids(Kind::Unused, ro);
     let rest = first(!idle, 6, first(normals == 0, 11, first(unused == 0, 19, 0)));
-    client_rules::common::lent(p, sound, first(ro.sync, 5, rest))
+    first(!ok, 1, first(!sound, 2, first(ro.sync, 5, rest)))
 }
 
 fn add(ro: Roster, id: u64) -> Roster
@@ -49,6 +50,7 @@ fn extend_done(p: Pool, id: u64) -> Turn
     let next = add(ro, id);
     let after = client_run::recovery::with_roster(p, next);
     client_run::exits::try_with(
+        p,
         after,
         Outcome::Picked(id),
         told,

@@ -21,6 +21,7 @@ fn join_told(ro: Roster, op: Op, id: u64) -> Told
 fn create_refusal(p: Pool, id: u64) -> u64
     ensures { result ≡ create_refusal p id }
 {
+    let ok = client_rules::rules::valid(p);
     let ro = p.roster;
     let j = p.job;
     let s = client_state::roster::session(ro, id);
@@ -31,7 +32,7 @@ fn create_refusal(p: Pool, id: u64) -> u64
     let member = map_numbers::sets::has(ro.members, id);
     let ended = !ro.sync & past.written;
     let rest = first(!free, 8, first(ended, 17, first(member, 10, 0)));
-    client_rules::common::common(p, first(15 < id, 3, first(!idle, 6, rest)))
+    first(!ok, 1, first(15 < id, 3, first(!idle, 6, rest)))
 }
 
 fn create(ro: Roster, id: u64) -> Roster
@@ -72,6 +73,7 @@ fn set_bars(members: u64, set: u64, id: u64) -> bool
 fn assemble_refusal(p: Pool, id: u64, set: u64, version: u64) -> u64
     ensures { result ≡ assemble_refusal p id set version }
 {
+    let ok = client_rules::rules::valid(p);
     let ro = p.roster;
     let j = p.job;
     let s = client_state::roster::session(ro, id);
@@ -81,8 +83,9 @@ fn assemble_refusal(p: Pool, id: u64, set: u64, version: u64) -> u64
     let bars = set_bars(ro.members, set, id);
     let high = map_numbers::refusals::VERSION_LIMIT < version;
     let rest = first(!free, 8, first(bars, 10, first(high, 14, 0)));
-    client_rules::common::common(
-        p,
+    first(
+        !ok,
+        1,
         first(
             (15 < id) | (65535 < set),
             3,
@@ -106,7 +109,7 @@ fn assemble_done(p: Pool, id: u64, set: u64, version: u64) -> Turn
     let told = join_told(ro, Op::AddAssemble, id);
     let next = assemble(ro, id, set, version);
     let after = client_run::recovery::with_roster(p, next);
-    client_run::exits::try_after(after, Outcome::Plain, told)
+    client_run::exits::try_after(p, after, Outcome::Plain, told)
 }
 
 pub fn join_assemble(p: Pool, id: u64, set: u64, version: u64) -> Turn

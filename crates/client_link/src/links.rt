@@ -16,13 +16,14 @@ fn may_drop(j: Job, st: State, id: u64) -> bool
 fn down_refusal(p: Pool, id: u64) -> u64
     ensures { result ≡ down_refusal p id }
 {
+    let ok = client_rules::rules::valid(p);
     let ro = p.roster;
     let j = p.job;
     let s = client_state::roster::session(ro, id);
     let st = s.state;
     let free = client_state::state::is_free(st);
     let may = may_drop(j, st, id);
-    client_rules::common::common(p, first(15 < id, 3, first(free, 7, first(!may, 9, 0))))
+    first(!ok, 1, first(15 < id, 3, first(free, 7, first(!may, 9, 0))))
 }
 
 fn drop_link(ro: Roster, id: u64) -> Roster
@@ -44,6 +45,7 @@ fn down_at(j: Job, p: Pool, id: u64) -> Turn
     let after = client_run::recovery::with_roster(p, next);
     match j {
         Job::Idle => client_run::exits::accept(
+            p,
             after,
             Outcome::Plain,
             Told::Nothing,
@@ -53,7 +55,7 @@ fn down_at(j: Job, p: Pool, id: u64) -> Turn
         Job::Running(r) => {
             let ended = client_run::recovery::end_run(after);
             let told = client_run::recovery::disable_but(id, client_run::run::receiver(r));
-            client_run::exits::try_after(ended, Outcome::Taken(r.taken), told)
+            client_run::exits::try_after(p, ended, Outcome::Taken(r.taken), told)
         }
         Job::Removing(m) => {
             let halted = client_run::exits::halt_if(
@@ -61,6 +63,7 @@ fn down_at(j: Job, p: Pool, id: u64) -> Turn
                 after,
             );
             client_run::exits::accept(
+                p,
                 halted,
                 Outcome::Plain,
                 Told::Nothing,
@@ -98,14 +101,16 @@ fn may_check(sync: bool, st: State) -> bool
 fn back_refusal(p: Pool, id: u64, may: bool) -> u64
     ensures { result ≡ back_refusal p id may }
 {
+    let ok = client_rules::rules::valid(p);
     let ro = p.roster;
     let j = p.job;
     let s = client_state::roster::session(ro, id);
     let st = s.state;
     let idle = client_rules::rules::jobs::is_idle(j);
     let free = client_state::state::is_free(st);
-    client_rules::common::common(
-        p,
+    first(
+        !ok,
+        1,
         first(
             15 < id,
             3,
@@ -134,7 +139,7 @@ fn check_done(p: Pool, id: u64) -> Turn
     }
     let next = client_state::changes::go(ro, id, State::Reconnecting);
     let after = client_run::recovery::with_roster(p, next);
-    client_run::exits::try_after(after, Outcome::Plain, Told::Nothing)
+    client_run::exits::try_after(p, after, Outcome::Plain, Told::Nothing)
 }
 
 pub fn store_check(p: Pool, id: u64) -> Turn
@@ -170,10 +175,11 @@ pub fn rejoin(p: Pool, id: u64) -> Turn
 fn try_refusal(p: Pool) -> u64
     ensures { result ≡ try_refusal p }
 {
+    let ok = client_rules::rules::valid(p);
     let ro = p.roster;
     let j = p.job;
     let idle = client_rules::rules::jobs::is_idle(j);
-    client_rules::common::common(p, first(ro.sync, 5, first(!idle, 6, 0)))
+    first(!ok, 1, first(ro.sync, 5, first(!idle, 6, 0)))
 }
 
 pub fn try_run(p: Pool) -> Turn
@@ -183,5 +189,5 @@ pub fn try_run(p: Pool) -> Turn
     if why != 0 {
         return client_run::exits::refuse(p, why);
     }
-    client_run::exits::try_after(p, Outcome::Plain, Told::Nothing)
+    client_run::exits::try_after(p, p, Outcome::Plain, Told::Nothing)
 }

@@ -15,15 +15,20 @@ fn reach_bars(ro: Roster, reached: u64) -> bool
 fn write_refusal(p: Pool, sound: bool, chunk: u64, reached: u64) -> u64
     ensures { result ≡ write_refusal p sound chunk reached }
 {
+    let ok = client_rules::rules::valid(p);
     let ro = p.roster;
     let j = p.job;
     let running = client_rules::rules::jobs::is_running(j);
     let bars = reach_bars(ro, reached);
     let rest = first(ro.sync, 5, first(running, 6, first(bars, 11, 0)));
-    client_rules::common::lent(
-        p,
-        sound,
-        first(65535 < reached, 3, first(!(chunk < p.chunks), 4, rest)),
+    first(
+        !ok,
+        1,
+        first(
+            !sound,
+            2,
+            first(65535 < reached, 3, first(!(chunk < p.chunks), 4, rest)),
+        ),
     )
 }
 
@@ -69,11 +74,12 @@ fn is_lost(j: Job, ro: Roster, reached: u64) -> bool
     }
 }
 
-fn mark(after: Pool, chunk: u64, reached: u64) -> Turn
-    ensures { result ≡ marks after chunk reached }
+fn mark(before: Pool, after: Pool, chunk: u64, reached: u64) -> Turn
+    ensures { result ≡ marks before after chunk reached }
 {
     if reached == 0 {
         return client_run::exits::accept(
+            before,
             after,
             Outcome::Written(false, 0),
             Told::Nothing,
@@ -85,6 +91,7 @@ fn mark(after: Pool, chunk: u64, reached: u64) -> Turn
     let list = client_state::roster::ids(Kind::Listed, ro);
     let version = ro.version;
     client_run::exits::accept(
+        before,
         after,
         Outcome::Written(true, list),
         Told::Marks(reached, chunk, list, version),
@@ -102,7 +109,7 @@ fn write_done(p: Pool, chunk: u64, reached: u64) -> Turn
     let missed = miss(ro, reached);
     let next = client_state::changes::write(missed, reached != 0);
     let after = client_run::exits::halt_if(lost, client_run::recovery::with_roster(p, next));
-    mark(after, chunk, reached)
+    mark(p, after, chunk, reached)
 }
 
 pub fn write_ended(p: Pool, sound: bool, chunk: u64, reached: u64) -> Turn
@@ -128,6 +135,7 @@ fn may_sync(ro: Roster, member: u64, clean: u64) -> bool
 fn sync_refusal(p: Pool, sound: bool, member: u64, chunk: u64, clean: u64) -> u64
     ensures { result ≡ sync_refusal p sound member chunk clean }
 {
+    let ok = client_rules::rules::valid(p);
     let ro = p.roster;
     let j = p.job;
     let s = client_state::roster::session(ro, member);
@@ -141,13 +149,17 @@ fn sync_refusal(p: Pool, sound: bool, member: u64, chunk: u64, clean: u64) -> u6
         6,
         first(free, 7, first(none, 11, first(!may, 12, 0))),
     );
-    client_rules::common::lent(
-        p,
-        sound,
+    first(
+        !ok,
+        1,
         first(
-            15 < member,
-            3,
-            first(!(chunk < p.chunks), 4, first(ro.sync, 5, rest)),
+            !sound,
+            2,
+            first(
+                15 < member,
+                3,
+                first(!(chunk < p.chunks), 4, first(ro.sync, 5, rest)),
+            ),
         ),
     )
 }
@@ -158,6 +170,7 @@ fn sync_done(p: Pool, member: u64, chunk: u64) -> Turn
     let ro = p.roster;
     let normals = client_state::roster::ids(Kind::Normals, ro);
     client_run::exits::accept(
+        p,
         p,
         Outcome::Plain,
         Told::Clears(normals, member, chunk),

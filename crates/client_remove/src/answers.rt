@@ -17,8 +17,9 @@ fn awaits(p: Pool, number: u64) -> bool
 fn answer_refusal(p: Pool, sound: bool, number: u64) -> u64
     ensures { result ≡ answer_refusal p sound number }
 {
+    let ok = client_rules::rules::valid(p);
     let some = awaits(p, number);
-    client_rules::common::lent(p, sound, first(!some, 13, 0))
+    first(!ok, 1, first(!sound, 2, first(!some, 13, 0)))
 }
 
 fn enter(w: Who, ro: Roster) -> Roster
@@ -50,7 +51,14 @@ fn report(p: Pool, m: Move) -> Turn
     let posted = move_on(p, m);
     let after = posted.pool;
     let awaited = posted.awaited;
-    client_run::exits::accept(after, Outcome::Taken(m.taken), told, awaited, Effect::Keep)
+    client_run::exits::accept(
+        p,
+        after,
+        Outcome::Taken(m.taken),
+        told,
+        awaited,
+        Effect::Keep,
+    )
 }
 
 fn in_run(p: Pool, r: Run, a: Reply) -> Turn
@@ -69,7 +77,7 @@ fn answered(j: Job, p: Pool, a: Reply) -> Turn
         Job::Running(r) => in_run(p, r, a),
         Job::Removing(m) => {
             let g = crate::removal::answer(m, p, a);
-            crate::removal::remove::accept(g)
+            crate::removal::remove::accept(p, g)
         }
     }
 }

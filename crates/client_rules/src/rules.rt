@@ -1,13 +1,10 @@
 // The client's state rules.
 pub mod jobs;
 
-ghost use Rattle.std.specs.Prelude.{◌≡◌, ◌+◌, ◌<◌, ◌^◌, true, false, not, eqb, leb};
-ghost use Rattle.laws_words.specs.Words.{pick};
-ghost use Rattle.rules_base.specs.Sets.{size};
-ghost use Rattle.rules_pool.specs.Sessions.{odd, ids_of};
+ghost use Rattle.std.specs.Prelude.{◌≡◌, ◌+◌, leb};
 ghost use Rattle.rules_pool.specs.StateRules.{roster_ok, all_asked, one_asked, asked, source_ok, hand_ok, run_ok, stage_ok, job_ok, valid_pool};
 
-use rules_pool::{Job, Kind, Phase, Pool, Roster, Run, Session, Stage};
+use rules_pool::{Job, Kind, Phase, Pool, Roster, Run, Stage};
 
 // Whether a + b <= limit, where the sum may not fit.
 fn within(a: u64, b: u64, limit: u64) -> bool
@@ -19,100 +16,20 @@ fn within(a: u64, b: u64, limit: u64) -> bool
     b <= limit - a
 }
 
-// What the rules ask of all sixteen records: how many are NORMAL, which are marked, and that none alone breaks a rule; of others nothing more is asked.
-#[derive(Clone, Copy)]
-struct Seen {
-    normals: u64,
-    marked: u64,
-    even: bool,
-}
-
-fn bit(test: bool, i: u64) -> u64
-    requires { i < 16 }
-    ensures { result ≡ pick test (2 ^ i) 0 }
-{
-    map_numbers::numbers::when(test, 1u64 << i)
-}
-
-fn is_odd(sync: bool, members: u64, i: u64, s: Session) -> bool
-    ensures { result ≡ odd sync members i s }
-{
-    let st = s.state;
-    let back = client_state::state::is_reconnecting(st);
-    let misplaced = (s.mark | s.maintenance) & !(client_state::state::is_failed(st) | back);
-    let unsynced = s.mark | (s.maintenance | back);
-    let inside = client_state::state::is_free(st) | client_state::state::is_removing(st);
-    let outside = !inside & !map_numbers::sets::has(members, i);
-    misplaced | ((sync & unsynced) | (!sync & outside))
-}
-
-// Whether the record alone breaks no rule. Most are NORMAL, of which less is asked.
-fn is_even(sync: bool, members: u64, i: u64, s: Session) -> bool
-    ensures { result ≡ not (odd sync members i s) }
-{
-    let st = s.state;
-    if client_state::state::is_normal(st) {
-        return !(s.mark | s.maintenance) & (sync | map_numbers::sets::has(members, i));
-    }
-    !is_odd(sync, members, i, s)
-}
-
-fn look(ro: Roster) -> Seen
-    ensures value { result ≡ pick (eqb (ids_of Kind.Odd ro) 0) (record { normals = size (ids_of Kind.Normals ro); marked = ids_of Kind.Marked ro; even = true }) (record { normals = 0; marked = 0; even = false }) }
-    ensures ro_value { eqb (size (ids_of Kind.Normals ro)) 0 ≡ eqb (ids_of Kind.Normals ro) 0 }
-{
-    let ss = ro.sessions;
-    let sync = ro.sync;
-    let members = ro.members;
-    let mut normals: u64 = 0;
-    let mut marked: u64 = 0;
-    let mut i: u64 = 0;
-    while i < 16 {
-        let j = i as usize;
-        let s = ss[j];
-        let st = s.state;
-        if !is_even(sync, members, i, s) {
-            return Seen {
-                normals: 0,
-                marked: 0,
-                even: false,
-            };
-        }
-        normals += map_numbers::numbers::one(client_state::state::is_normal(st));
-        marked += bit(s.mark, i);
-        i += 1;
-    }
-    Seen {
-        normals: normals,
-        marked: marked,
-        even: true,
-    }
-}
-
-// At most one: most often none.
-fn few(marked: u64) -> bool
-    ensures { result ≡ leb (size marked) 1 }
-{
-    if marked == 0 {
-        return true;
-    }
-    map_numbers::sets::size(marked) <= 1
-}
-
 fn roster_ok(ro: Roster) -> bool
     ensures { result ≡ roster_ok ro }
 {
-    let l = look(ro);
-    if !l.even {
-        return false;
-    }
-    let count = map_numbers::numbers::choose(ro.sync, 0, l.normals);
+    let normals = client_state::roster::ids(Kind::Normals, ro);
+    let marked = client_state::roster::ids(Kind::Marked, ro);
+    let count = map_numbers::numbers::choose(ro.sync, 0, map_numbers::sets::size(normals));
     (ro.count == count)
-        & (few(l.marked)
-            & (((l.marked == 0) | (l.normals == 0))
+        & ((map_numbers::sets::size(marked) <= 1)
+            & (((marked == 0) | (normals == 0))
                 & ((1 <= ro.version)
                     & (within(ro.version, ro.count, map_numbers::refusals::VERSION_TOP)
-                        & ((ro.members < 65536) & ((!ro.sync | (ro.members == 0)) & l.even))))))
+                        & ((ro.members < 65536)
+                            & ((!ro.sync | (ro.members == 0))
+                                & (client_state::roster::ids(Kind::Odd, ro) == 0)))))))
 }
 
 fn all_asked(ro: Roster, source: u64) -> bool

@@ -24,9 +24,16 @@ fn number_of(m: Message, n: u32) -> u32
     }
 }
 
-// The one exit of every accepted event.
-pub fn accept(after: Pool, outcome: Outcome, told: Told, awaited: Message, effect: Effect) -> Turn
-    ensures { result ≡ accepted after outcome told awaited effect }
+// The one exit of every accepted event. before waits for a rule that compares the state before and after.
+pub fn accept(
+    before: Pool,
+    after: Pool,
+    outcome: Outcome,
+    told: Told,
+    awaited: Message,
+    effect: Effect,
+) -> Turn
+    ensures { result ≡ accepted before after outcome told awaited effect }
 {
     let number = number_of(awaited, after.number);
     let sent = Sent {
@@ -47,24 +54,31 @@ pub fn change(p: Pool, ro: Roster, told: Told) -> Turn
     ensures { result ≡ changed p ro told }
 {
     let after = crate::recovery::with_roster(p, ro);
-    accept(after, Outcome::Plain, told, Message::Nothing, Effect::Keep)
+    accept(
+        p,
+        after,
+        Outcome::Plain,
+        told,
+        Message::Nothing,
+        Effect::Keep,
+    )
 }
 
 // An accepted event after which recovery is tried.
-pub fn try_with(after: Pool, outcome: Outcome, told: Told, effect: Effect) -> Turn
-    ensures { result ≡ tried_with after outcome told effect }
+pub fn try_with(before: Pool, after: Pool, outcome: Outcome, told: Told, effect: Effect) -> Turn
+    ensures { result ≡ tried_with before after outcome told effect }
 {
     let tried = crate::recovery::try_recovery(after);
     let next = tried.pool;
     let awaited = tried.awaited;
-    accept(next, outcome, told, awaited, effect)
+    accept(before, next, outcome, told, awaited, effect)
 }
 
 // One that does nothing to the client map.
-pub fn try_after(after: Pool, outcome: Outcome, told: Told) -> Turn
-    ensures { result ≡ tried_after after outcome told }
+pub fn try_after(before: Pool, after: Pool, outcome: Outcome, told: Told) -> Turn
+    ensures { result ≡ tried_after before after outcome told }
 {
-    try_with(after, outcome, told, Effect::Keep)
+    try_with(before, after, outcome, told, Effect::Keep)
 }
 
 // A removal whose awaited peer is lost halts.

@@ -1,5 +1,5 @@
 // The named changes of the sixteen sessions and of the numbers that follow them. Every function takes any number.
-ghost use Rattle.std.specs.Prelude.{◌≡◌, map};
+ghost use Rattle.std.specs.Prelude.{◌≡◌, map, max};
 ghost use Rattle.rules_pool.specs.Changes.{more, unmarked, all_unmarked, raised, entered, arrived, left, failed, went, owes, removing, enrolled, freed, flagged_at, member_entered, member_dropped, taken_over, written};
 
 use rules_pool::{Cause, Mode, Roster, Session, State, Way};
@@ -192,7 +192,7 @@ pub fn take_over(mut ro: Roster, members: u64, version: u64) -> Roster
     let taken = crate::state::taken_over(past, empty);
     ro.past = taken;
     ro.members = map_numbers::numbers::choose(empty, members, ro.members);
-    ro.version = map_numbers::numbers::larger(ro.version, version);
+    ro.version = larger(ro.version, version);
     ro
 }
 
@@ -204,4 +204,10 @@ pub fn write(mut ro: Roster, acknowledged: bool) -> Roster
     let later = crate::state::written(past, acknowledged);
     ro.past = later;
     ro
+}
+
+fn larger(a: u64, b: u64) -> u64
+    ensures { result ≡ max a b }
+{
+    if a < b { b } else { a }
 }

@@ -44,7 +44,6 @@ unfoldable pub list_from : List ℕ → List ℕ → ℕ → ℕ → List Differ
 list_from xs ys p zero = []
 list_from xs ys p (suc n) = pick (eqb (which_at xs ys p) 0) (list_from xs ys (suc p) n) (difference_at xs ys p ∷ list_from xs ys (suc p) n)
 
--- (R-82)
 unfoldable pub differences : List ℕ → List ℕ → List Difference
 differences xs ys = list_from xs ys 0 65536
 

@@ -14,7 +14,7 @@ abbrev pub difference : ℕ → ℕ → ℕ → Difference
 difference m c w = record { member = m; chunk = c; which = w }
 
 -- ---- the list: complete, nothing else, sorted, each once
--- Every member's chunk that is dirty in the first dump only is listed with 1, in the second only with 2. (R-82)
+-- Every member's chunk that is dirty in the first dump only is listed with 1, in the second only with 2.
 pub record Complete : Type 0 where
   pub first : (xs ys : List ℕ) (m c : ℕ) → dirty xs m c ≡ 1 → dirty ys m c ≡ 0 → In (difference m c 1) (differences xs ys)
   pub second : (xs ys : List ℕ) (m c : ℕ) → dirty xs m c ≡ 0 → dirty ys m c ≡ 1 → In (difference m c 2) (differences xs ys)
@@ -25,7 +25,6 @@ Differs xs ys d =
     ((d.which ≡ 1) × (dirty xs d.member d.chunk ≡ 1) × (dirty ys d.member d.chunk ≡ 0))
     ⊎ ((d.which ≡ 2) × (dirty xs d.member d.chunk ≡ 0) × (dirty ys d.member d.chunk ≡ 1))
 
--- (R-82)
 abbrev pub NothingElse : Type 0
 NothingElse = (xs ys : List ℕ) (d : Difference) → In d (differences xs ys) → Differs xs ys d
 
@@ -38,7 +37,6 @@ abbrev pub Ascending : List Difference → Type 0
 Ascending [] = Unit {0}
 Ascending (d ∷ ds) = ((e : Difference) → In e ds → Before d e) × Ascending ds
 
--- (R-82)
 abbrev pub Sorted : Type 0
 Sorted = (xs ys : List ℕ) → Ascending (differences xs ys)
 

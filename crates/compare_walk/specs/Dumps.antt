@@ -9,6 +9,6 @@ use Rattle.rules_base.specs.Map.{row_of}
 unfoldable pub dumps_refusal : List ℕ → List ℕ → ℕ → ℕ
 dumps_refusal xs ys m = refusal (test 2 (not (eqb (length xs) map_bytes) || not (eqb (length ys) map_bytes)) ∷ test 3 (ltb 15 m) ∷ [])
 
--- member m's row of the dump with the higher version, of the first at a tie; no bytes where the two are refused (R-82)
+-- member m's row of the dump with the higher version, of the first at a tie; no bytes where the two are refused
 unfoldable pub newer_row : List ℕ → ℕ → List ℕ → ℕ → ℕ → List ℕ
 newer_row xs v ys w m = pick (eqb (dumps_refusal xs ys m) 0) (row_of (pick (ltb v w) ys xs) m) []

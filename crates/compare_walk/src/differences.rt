@@ -1,5 +1,5 @@
 // Where two map dumps differ: the next difference at or after a member's chunk. Asked for again and again, it lists them all; nothing is stored between.
-ghost use Rattle.std.specs.Prelude.{◌≡◌, ◌-◌};
+ghost use Rattle.std.specs.Prelude.{◌≡◌, ◌-◌, min};
 ghost use Rattle.compare_walk.specs.Differences.{which, first_place, next_difference};
 
 // A member's chunk that is dirty in one dump only: in the first where which is 1, in the second where it is 2.
@@ -53,6 +53,12 @@ fn seek(first: &[u8], second: &[u8], from: u64) -> u64
     p
 }
 
+fn least(a: u64, b: u64) -> u64
+    ensures { result ≡ min a b }
+{
+    if a < b { a } else { b }
+}
+
 // The first difference at or after the member's chunk, by member, then chunk. The walk goes on from the chunk after the one found.
 pub fn next_difference(first: &[u8], second: &[u8], member: u64, chunk: u64) -> Next
     ensures { result ≡ next_difference first.now second.now member chunk }
@@ -61,11 +67,7 @@ pub fn next_difference(first: &[u8], second: &[u8], member: u64, chunk: u64) -> 
     if n != 0 {
         return Next::Refused(n);
     }
-    let p = seek(
-        first,
-        second,
-        4096 * member + map_numbers::numbers::least(chunk, 4096),
-    );
+    let p = seek(first, second, 4096 * member + least(chunk, 4096));
     if p < PLACES {
         let m = p / 4096;
         let c = p % 4096;

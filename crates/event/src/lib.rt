@@ -4,11 +4,10 @@
 use rules_base::Op;
 use rules_pool::{Mode, Reply};
 
-// The client's events.
+// The client's events. Synced: member, chunk, the node whose map is lent. Answer: number, and what it says. CheckAnswer: the tick's number, member, empty or not.
 #[derive(Clone, Copy)]
 pub enum Event {
     JoinCreate(u64),
-    // id, and the node's member set and version
     JoinAssemble(u64, u64, u64),
     Enable(u64),
     Maintenance(u64),
@@ -16,63 +15,43 @@ pub enum Event {
     StoreCheck(u64),
     Rejoin(u64),
     Try,
-    // id, mode
     Remove(u64, Mode),
-    // chunk, the set of those reached
     Write(u64, u64),
-    // member, chunk, the node whose map is lent
     Synced(u64, u64, u64),
-    // number, and what it says
     Answer(u64, Reply),
     Extend,
     Tick,
-    // the tick's number, member, empty or not
     CheckAnswer(u64, u64, bool),
 }
 
-// What a node is asked that changes nothing.
+// What a node is asked that changes nothing. Next: of a member's row, from which chunk on.
 #[derive(Clone, Copy)]
 pub enum Question {
     MapCheck,
-    // of a member's row, from which chunk on
     Next(u64, u64),
 }
 
-// A node's events.
+// A node's events. GivePart: offset, length. TakePart: offset, length, the node of whose map it is a part. Fill: member, version.
 #[derive(Clone, Copy)]
 pub enum NodeEvent {
     RegisterCreate,
-    // set, version
     RegisterAdd(u64, u64),
-    // delete
     Unregister(bool),
-    // set
     JoinCreate(u64),
     JoinAssemble,
-    // delete
     Leave(bool),
-    // version, set
     Enable1(u64, u64),
     Enable0,
     Fault,
-    // chunk, set, version
     Write(u64, u64, u64),
-    // member, chunk
     Synced(u64, u64),
-    // what, member
     PoolInfo(Op, u64),
-    // the chosen
     LastIo(u64),
-    // keep
     MapReady(bool),
-    // offset, length
     GivePart(u64, u64),
-    // offset, length, the node of whose map it is a part
     TakePart(u64, u64, u64),
-    // enabling, version, set
     MapDone(bool, u64, u64),
     MapDisable,
     MapGetVer,
-    // member, version
     Fill(u64, u64),
 }

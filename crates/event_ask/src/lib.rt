@@ -1,4 +1,5 @@
-// The two questions to a node, as one function.
+// The two questions to a node, over maps lent in part.
 #![tactic(auto)]
 
 pub mod ask;
+pub mod lending;

@@ -24,8 +24,7 @@ fn state_word(s: State) -> u64
     }
 }
 
-// Any other number is NO_IO.
-pub fn state_of(x: u64) -> State
+fn state_of(x: u64) -> State
     ensures { result ≡ state_of x }
 {
     match x {

@@ -205,7 +205,7 @@ fn client_part(l: Lab, j: Journal, t: Then, own: &mut [u8], maps: &[u8]) -> Obey
 fn client_event(l: Lab, j: Journal, e: Event, own: &mut [u8], maps: &[u8]) -> Obeyed {
     let before = l.client;
     let lent = l.lent;
-    let o = lab_lend_client::client_event(before, lent, e, own, maps);
+    let o = lab_lend::client_event::client_event(before, lent, e, own, maps);
     let a = o.answer;
     let c = o.client;
     let log = audit_record::journal::enter(j, e, a, roster_of(c));

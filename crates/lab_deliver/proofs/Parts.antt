@@ -12,7 +12,7 @@ use Rattle.rules_node.specs.declared.Answer.{Answer}
 use Rattle.event.specs.declared.NodeEvent.{NodeEvent}
 use Rattle.node.specs.declared.StorageNode.{StorageNode}
 use Rattle.node.specs.declared.Out.{Out}
-use Rattle.lab_lend_node.specs.Node.{node_answers, maps_left, stagings_left}
+use Rattle.lab_lend.specs.Node.{node_answers, maps_left, stagings_left}
 use Rattle.lab_places.specs.Places.{with_state}
 use Rattle.lab_deliver.specs.declared.post.Due.{Due}
 use Rattle.lab_deliver.specs.declared.delivery.Letter.{Letter}

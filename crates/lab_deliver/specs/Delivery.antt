@@ -15,10 +15,10 @@ use Rattle.event.specs.declared.Question.{Question}
 use Rattle.lab_deliver.specs.declared.post.Due.{Due}
 use Rattle.lab_deliver.specs.declared.post.Errand.{Errand}
 use Rattle.lab_deliver.specs.Post.{told_to, errand_of}
-use Rattle.lab_lend.specs.declared.Lent.{Lent}
-use Rattle.lab_lend_node.specs.Node.{node_answers, maps_left, stagings_left}
+use Rattle.event_ask.specs.declared.lending.Lent.{Lent}
+use Rattle.lab_lend.specs.Node.{node_answers, maps_left, stagings_left}
 use Rattle.event_ask.specs.declared.ask.Finding.{Finding}
-use Rattle.lab_deliver.specs.Question.{node_finds}
+use Rattle.event_ask.specs.Ask.{node_finds}
 use Rattle.lab_places.specs.Places.{node_in, with_state}
 use Rattle.lab_deliver.specs.declared.delivery.Letter.{Letter}
 use Rattle.lab_deliver.specs.declared.delivery.Way.{Way}

@@ -1,4 +1,3 @@
 pub mod Delivery
 pub mod Heard
 pub mod Post
-pub mod Question

@@ -6,7 +6,7 @@ ghost use Rattle.lab_deliver.specs.Delivery.{whole, answer_at, ran_at, no_letter
 use crate::post::{Due, Errand};
 use event::{Event, NodeEvent, Question};
 use event_ask::ask::Finding;
-use lab_lend::Lent;
+use event_ask::lending::Lent;
 use rules_client::Check;
 use rules_node::Answer;
 use rules_pool::{Message, Told};
@@ -28,7 +28,7 @@ fn node_event(
         return Answer::Refused(3);
     }
     let was = lab_places::node_in(n, states, sums);
-    let out = lab_lend_node::node_event(was, n, lent, e, maps, stagings);
+    let out = lab_lend::node_event::node_event(was, n, lent, e, maps, stagings);
     let answer = out.answer;
     let next = out.node;
     let v = next.node;
@@ -301,7 +301,7 @@ pub fn ask(
         return Finding::Refused(3);
     }
     let node = lab_places::node_in(n, states, sums);
-    crate::question::ask(node, n, lent, q, maps, stagings)
+    event_ask::ask::ask(node, n, lent, q, maps, stagings)
 }
 
 fn found_empty(f: Finding) -> bool

@@ -4,4 +4,3 @@
 pub mod delivery;
 pub mod heard;
 pub mod post;
-pub mod question;

@@ -64,13 +64,11 @@ pub fn told_to(t: Told, i: u64) -> Due
     }
 }
 
-// What the awaited message asks of the nodes.
+// What the awaited message asks of the nodes. Event: of one node. Map: one node's map, part by part, to another.
 #[derive(Clone, Copy)]
 pub enum Errand {
     Nothing,
-    // of one node
     Event(u64, NodeEvent),
-    // one node's map, part by part, to another
     Map(u64, u64),
 }
 

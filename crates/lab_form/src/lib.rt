@@ -17,38 +17,29 @@ pub enum Which {
     Staging(u64),
 }
 
-// A line of a history. The Poke ones put values into the state of the client or of a node, unchecked.
+// Passed: an empty line, or one that begins with # or >. Pool: sync, chunks. Cut: how long the parts are of a map that is taken or sent. Take: a node, and the one whose
+// map it takes, part by part. Ask: a node, and what it is asked. DeliverCheck: the node of the lowest due member is asked for its check, and the client gets the answer. Row: the
+// dirty chunks of a member. Look, LookNode: the further fields of the client, of a node. Byte: place, value. Summary: a node, which word of its summaries, value. The rest is put into the
+// client's state or a node's, unchecked. Record: the record of the client's last event. PokeSession: id, record. PokeNode: node, state, store, create, members, version, transfer. PokeGot: node,
+// bytes taken.
 #[derive(Clone, Copy)]
 pub enum Command {
-    // an empty line, or one that begins with # or >
     Passed,
     Unreadable,
-    // sync, chunks
     Pool(bool, u64),
     Auto(bool),
-    // how long the parts are of a map that is taken or sent
     Cut(u64),
     Client(Event),
-    // to which node
     Node(u64, NodeEvent),
-    // a node, and the one whose map it takes, part by part
     Take(u64, u64),
     Deliver,
-    // a node, and what it is asked
     Ask(u64, Question),
-    // the node of the lowest due member is asked for its check, and the client gets the answer
     DeliverCheck,
-    // the dirty chunks of a member
     Row(Which, u64),
-    // the client's further fields
     Look,
-    // a node's further fields
     LookNode(u64),
-    // place, value
     Byte(Which, u64, u64),
-    // a node, which word of its summaries, value
     Summary(u64, u64, u64),
-    // how many bytes
     Lend(Which, u64),
     PokeVersion(u64),
     PokeCount(u64),
@@ -56,16 +47,12 @@ pub enum Command {
     PokeMembers(u64),
     PokeWritten(bool),
     PokeAssembled(bool),
-    // id, record
     PokeSession(u64, Session),
-    // node, state, store, create, members, version, transfer
     PokeNode(u64, u64, bool, bool, u64, u64, u64),
-    // node, bytes taken
     PokeGot(u64, u64),
     PokeTick(u64),
     PokeDue(u64),
     PokeOnce(u64),
-    // the record of the client's last event
     Record,
 }
 

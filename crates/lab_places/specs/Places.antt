@@ -3,12 +3,12 @@ use Rattle.std.specs.Prelude.{ℕ, zero, suc, Bool, List, [], ◌∷◌, ◌++�
 use Rattle.laws_words.specs.Words.{pick}
 use Rattle.rules_base.specs.Limits.{map_bytes}
 use Rattle.rules_node.specs.declared.Node.{Node}
+use Rattle.rules_node.specs.declared.State as node
 use Rattle.rules_node.specs.declared.Transfer.{Transfer}
 use Rattle.node.specs.declared.StorageNode.{StorageNode}
 use Rattle.node.specs.Face.{fresh_node}
 use Rattle.lab_form.specs.declared.Command.{Command}
-use Rattle.rules_node.specs.Change.{having}
-use Rattle.event_words.specs.NodeWords.{state_of, packed, unpacked}
+use Rattle.event_words.specs.NodeWords.{packed, unpacked}
 
 -- the words in place n; zeros where there is no such place
 abbrev pub state_at : List (List ℕ) → ℕ → List ℕ
@@ -40,13 +40,34 @@ fresh_summaries chunks (suc n) = fresh_summaries chunks n ++ ((fresh_node n chun
 
 -- ---- poke: a value put into a node's state, unchecked
 
+-- 0 EMPTY, 1 REGISTERED, 2 CREATED, 3 NORMAL, 4 NO_IO
+abbrev pub node_state_of : ℕ → node.State
+node_state_of x =
+    pick (eqb x 0) node.State.Empty
+    (pick (eqb x 1) node.State.Registered
+    (pick (eqb x 2) node.State.Created
+    (pick (eqb x 3) node.State.Normal
+    node.State.NoIo)))
+
 -- 0 nothing in hand, 1 in hand and nothing taken, 2 in hand and the whole map taken
 abbrev pub transfer_of : ℕ → Transfer
 transfer_of x = pick (eqb x 0) Transfer.Nothing (pick (eqb x 1) (Transfer.InHand 0) (Transfer.InHand map_bytes))
 
 -- own id, chunk count and kept chunks stay
 abbrev pub poked : Node → ℕ → Bool → Bool → ℕ → ℕ → ℕ → Node
-poked n state store create members version transfer = having n (state_of state) store create members version n.kept n.held (transfer_of transfer)
+poked n state store create members version transfer =
+    record {
+      id = n.id;
+      chunks = n.chunks;
+      state = node_state_of state;
+      store = store;
+      create = create;
+      members = members;
+      version = version;
+      kept = n.kept;
+      held = n.held;
+      transfer = transfer_of transfer;
+    }
 
 -- of a transfer in hand so many bytes are taken
 abbrev pub got_to : Transfer → ℕ → Transfer

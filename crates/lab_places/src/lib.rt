@@ -2,7 +2,7 @@
 #![tactic(auto)]
 
 ghost use Rattle.std.specs.Prelude.{◌≡◌, set, length};
-ghost use Rattle.lab_places.specs.Places.{state_at, summaries_at, state_in, node_in, with_state, fresh_states, fresh_summaries, transfer_of, poked as Places·poked, got_to, poked_got, poke_node, poke_got, poke_summary, states_arranged, summaries_arranged};
+ghost use Rattle.lab_places.specs.Places.{state_at, summaries_at, state_in, node_in, with_state, fresh_states, fresh_summaries, node_state_of, transfer_of, poked as Places·poked, got_to, poked_got, poke_node, poke_got, poke_summary, states_arranged, summaries_arranged};
 
 use lab_form::Command;
 use map_summary::summaries::Summaries;
@@ -93,6 +93,24 @@ fn fresh_summaries(chunks: u64, sums: &mut [[u64; 96]])
     }
 }
 
+fn state_of(x: u64) -> rules_node::State
+    ensures { result ≡ node_state_of x }
+{
+    if x == 0 {
+        return rules_node::State::Empty;
+    }
+    if x == 1 {
+        return rules_node::State::Registered;
+    }
+    if x == 2 {
+        return rules_node::State::Created;
+    }
+    if x == 3 {
+        return rules_node::State::Normal;
+    }
+    rules_node::State::NoIo
+}
+
 fn transfer_of(x: u64) -> Transfer
     ensures { result ≡ transfer_of x }
 {
@@ -121,7 +139,7 @@ fn poked(
     Node {
         id: v.id,
         chunks: v.chunks,
-        state: event_words::node_words::state_of(state),
+        state: state_of(state),
         store: store,
         create: create,
         members: members,

@@ -17,31 +17,23 @@ use rules_client::Check;
 use rules_node::Node;
 use rules_pool::{Pool, Sent};
 
-// What there is to say of a command.
+// Nothing: of a line that is passed over. Done: of one that sets the lab up. Client: an accepted event of the client. Node: one of this node. Asked: this node
+// was asked whether its own row is empty. Next: it was asked for the next dirty chunk. Row: a member's row of a map. Look, LookNode: the further fields of the client, of this node. Record: that
+// of the client's last event.
 #[derive(Clone, Copy)]
 pub enum Said {
-    // of a line that is passed over
     Nothing,
     Unreadable,
-    // of one that sets the lab up
     Done,
     Idle,
     Refused(u64),
-    // an accepted event of the client
     Client(Sent),
-    // an accepted event of this node
     Node(u64),
-    // this node was asked whether its own row is empty
     Asked(u64, bool),
-    // it was asked for the next dirty chunk
     Next(u64, Found),
-    // a member's row of a map
     Row(Which, u64),
-    // the client's further fields
     Look,
-    // this node's further fields
     LookNode(u64),
-    // that of the client's last event
     Record(Last),
 }
 

@@ -4,7 +4,7 @@ use Rattle.laws_words.specs.Words.{pick}
 use Rattle.laws_words.specs.Loops.{run_at}
 use Rattle.rules_base.specs.Limits.{map_bytes}
 use Rattle.rules_base.specs.Summary.{summaries_of}
-use Rattle.lab_lend.specs.Lending.{part}
+use Rattle.event_ask.specs.Lending.{part}
 use Rattle.lab_places.specs.Places.{summaries_at}
 
 -- member m's six words those of the map, the others as they were; there is no member past 15

@@ -26,7 +26,7 @@ pub fn true_row(n: u64, m: u64, sums: &mut [[u64; 96]], maps: &[u8])
     ensures { sums.new ≡ trued sums.old n m maps.now }
 {
     let words = lab_places::summaries_at(n, sums);
-    let s = lab_lend::find(maps.len(), n, map_numbers::refusals::MAP_BYTES);
+    let s = event_ask::lending::find(maps.len(), n, map_numbers::refusals::MAP_BYTES);
     let a = s.from;
     let b = s.to;
     let next = row_trued(m, words, &maps[a..b]);

@@ -15,7 +15,7 @@ use Rattle.client.specs.Client.{fresh}
 use Rattle.rules_pool.specs.Sessions.{stored}
 use Rattle.lab_form.specs.declared.Command.{Command}
 use Rattle.lab_form.specs.declared.Which.{Which}
-use Rattle.lab_lend.specs.declared.Lent.{Lent}
+use Rattle.event_ask.specs.declared.lending.Lent.{Lent}
 use Rattle.lab_state.specs.declared.Lab.{Lab}
 
 -- ---- a fresh lab

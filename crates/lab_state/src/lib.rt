@@ -6,8 +6,8 @@ ghost use Rattle.std.specs.Prelude.{◌≡◌, set};
 ghost use Rattle.lab_state.specs.Bench.{fresh_lab, with_auto, with_cut, with_lent, awaiting, still_awaiting, after_event, arranged, lent_by, with_roster, roster_of, with_check, check_of, poke_version, poke_count, poke_members, poke_chunks, poke_written, poke_assembled, poke_tick, poke_due, poke_once, poke_session};
 
 use client::Client;
+use event_ask::lending::Lent;
 use lab_form::{Command, Which};
-use lab_lend::Lent;
 use rules_client::Check;
 use rules_pool::{Job, Message, Past, Pool, Roster, Session};
 

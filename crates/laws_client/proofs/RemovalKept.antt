@@ -164,6 +164,6 @@ pub remove-keeps : (p : Pool) (sound : Bool) (id : ℕ) (mode : Mode) → Valid 
 unfolding remove
 remove-keeps p sound id mode v = at (eqb (remove_refusal p sound id mode) 0) refl
   where
-    at : (b : Bool) → eqb (remove_refusal p sound id mode) 0 ≡ b → Valid (pick b (gone (remove_begun p id mode)) (refused p (remove_refusal p sound id mode))).pool
+    at : (b : Bool) → eqb (remove_refusal p sound id mode) 0 ≡ b → Valid (pick b (gone p (remove_begun p id mode)) (refused p (remove_refusal p sound id mode))).pool
     at true e = starts (with_roster p (removing p.roster id mode)) id (begins p id mode v (below-16 p sound id mode (eqb-true _ _ e)))
     at false e = v

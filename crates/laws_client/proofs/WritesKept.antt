@@ -191,7 +191,7 @@ job-stays (Job.Removing m) ro reached l d r e = removal-stays ro (missed ro reac
 halted-valid : (b : Bool) (p : Pool) → Valid p → Valid (halted_if b p)
 halted-valid b p v = halts Valid b p (record { some = v.some; most = v.most; ok = v.ok; job = refl }) v
 
-pub marks-pool : (P : Pool → Type 0) (before after : Pool) (chunk reached : ℕ) → P after → P (marks after chunk reached).pool
+pub marks-pool : (P : Pool → Type 0) (before after : Pool) (chunk reached : ℕ) → P after → P (marks before after chunk reached).pool
 unfolding marks
 marks-pool P before after chunk reached h = pools P (eqb reached 0) _ _ (λ e. h) (λ e. h)
 

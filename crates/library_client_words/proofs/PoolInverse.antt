@@ -1,11 +1,9 @@
 -- A session's word is small; a session's word is read as the session, and a job's words as the job.
 use mathlib.Core.Path.{◌≡◌, refl, ap}
-use mathlib.Core.Bool.{Bool, true, false, ◌||◌}
+use mathlib.Core.Bool.{Bool, true, false}
 use mathlib.Core.List.{List, [], ◌∷◌, map}
 use Prim.Native.Nat.{ℕ, ◌<◌}
 use native.Mathlib.Omega.{arith}
-use Rattle.laws_words.specs.Tests.{clash}
-use Rattle.rules_pool.specs.Session.{is_removing}
 use Rattle.event_words.specs.declared.words.Tagged.{Tagged}
 use Rattle.event_words.proofs.Alike.{read_one}
 use Rattle.rules_pool.specs.declared.Mode.{Mode}
@@ -26,21 +24,6 @@ state-small (State.Failed Cause.Link) = omega arith
 state-small (State.Failed Cause.Io) = omega arith
 state-small State.Reconnecting = omega arith
 state-small (State.Removing m owed) = omega arith
-
--- without a bit the word is the state's number
-no_bits : (st : State) (maintenance mark : Bool) → (maintenance || (mark || is_removing st)) ≡ false → session_word (record { state = st; maintenance = maintenance; mark = mark }) ≡ state_word st
-no_bits st true mark e = clash refl e
-no_bits st false true e = clash refl e
-no_bits State.Free false false e = refl
-no_bits State.Created false false e = refl
-no_bits State.Normal false false e = refl
-no_bits (State.Failed Cause.Link) false false e = refl
-no_bits (State.Failed Cause.Io) false false e = refl
-no_bits State.Reconnecting false false e = refl
-no_bits (State.Removing m owed) false false e = clash refl e
-
-pub plain_word : (s : Session) → (s.maintenance || (s.mark || is_removing s.state)) ≡ false → session_word s ≡ state_word s.state
-plain_word s e = no_bits s.state s.maintenance s.mark e
 
 -- a session by its three parts, computed
 read-session : (st : State) (maintenance mark : Bool) → session_in (session_word (record { state = st; maintenance = maintenance; mark = mark })) ≡ record { state = st; maintenance = maintenance; mark = mark }

@@ -1,8 +1,6 @@
 // A client's whole state as 32 words, for a buffer that a caller in another language keeps; and back. 0: count. 1: version. 2: members. 3: sync. 4: written. 5: assembled. 6: the
 // number of the last awaited message. 7: chunks. 8 to 12: the job. 13: the last tick. 14: the members due. 15: those of which one empty answer stands. 16 to 31: a session each.
-ghost use Rattle.std.specs.Prelude.{◌≡◌, true, map, drop};
-ghost use Rattle.event_words.specs.Same.{same_to};
-ghost use Rattle.library_client_words.specs.PoolWords.{session_word, session_in};
+ghost use Rattle.std.specs.Prelude.{◌≡◌, true};
 ghost use Rattle.library_client_words.specs.ClientWords.{packed, unpacked, known};
 
 use client::Client;
@@ -42,16 +40,15 @@ pub fn pack(c: Client) -> [u64; 32]
     ]
 }
 
-// Any 32 words give a client. Known here: whether those of the sessions are theirs.
-fn unpack(ws: [u64; 32]) -> Reading
-    ensures { result ≡ record { known = same_to (drop 16 ws) (map session_word (map session_in (drop 16 ws))) 16; client = unpacked ws } }
+// Any 32 words give a client.
+fn unpack(ws: [u64; 32]) -> Client
+    ensures { result ≡ unpacked ws }
 {
     let v = [
         ws[16], ws[17], ws[18], ws[19], ws[20], ws[21], ws[22], ws[23], ws[24], ws[25], ws[26],
         ws[27], ws[28], ws[29], ws[30], ws[31],
     ];
-    let seen = crate::pool_words::sessions_in(v);
-    let sessions = seen.sessions;
+    let sessions = crate::pool_words::sessions_in(v);
     let roster = Roster {
         sessions: sessions,
         count: ws[0],
@@ -68,58 +65,29 @@ fn unpack(ws: [u64; 32]) -> Reading
     let tick = event_words::words::low32(ws[13]);
     let due = event_words::words::low16(ws[14]);
     let once = event_words::words::low16(ws[15]);
-    Reading {
-        known: seen.known,
-        client: Client {
-            pool: Pool {
-                roster: roster,
-                job: job,
-                number: number,
-                chunks: ws[7],
-            },
-            check: Check {
-                tick: tick,
-                due: due,
-                once: once,
-            },
+    Client {
+        pool: Pool {
+            roster: roster,
+            job: job,
+            number: number,
+            chunks: ws[7],
+        },
+        check: Check {
+            tick: tick,
+            due: due,
+            once: once,
         },
     }
-}
-
-// Whether the sixteen numbers are those of the client.
-fn same_numbers(ws: [u64; 32], c: Client) -> bool
-    ensures { result ≡ same_to ws (packed c) 16 }
-{
-    let p = c.pool;
-    let k = c.check;
-    let ro = p.roster;
-    let past = ro.past;
-    let job = p.job;
-    let j = crate::pool_words::job_words(job);
-    let sync = map_numbers::numbers::one(ro.sync);
-    let written = map_numbers::numbers::one(past.written);
-    let assembled = map_numbers::numbers::one(past.assembled);
-    let number = event_words::words::wide32(p.number);
-    let tick = event_words::words::wide32(k.tick);
-    let awaited = event_words::words::wide16(k.due);
-    let once = event_words::words::wide16(k.once);
-    let three = ((ws[0] == ro.count) & (ws[1] == ro.version)) & (ws[2] == ro.members);
-    let six = ((three & (ws[3] == sync)) & (ws[4] == written)) & (ws[5] == assembled);
-    let eight = (six & (ws[6] == number)) & (ws[7] == p.chunks);
-    let ten = (eight & (ws[8] == j.tag)) & (ws[9] == j.a);
-    let thirteen = ((ten & (ws[10] == j.b)) & (ws[11] == j.c)) & (ws[12] == j.d);
-    ((thirteen & (ws[13] == tick)) & (ws[14] == awaited)) & (ws[15] == once)
 }
 
 // The client that the words encode. Words that no client is packed to are not known.
 pub fn read(ws: [u64; 32]) -> Reading
     ensures { result ≡ record { known = known ws; client = unpacked ws } }
 {
-    let u = unpack(ws);
-    let client = u.client;
-    let numbers = same_numbers(ws, client);
+    let client = unpack(ws);
+    let again = pack(client);
     Reading {
-        known: numbers & u.known,
+        known: event_words::words::same(&ws, &again),
         client: client,
     }
 }

@@ -1,9 +1,7 @@
 // The sessions and the job of a client's pool as words, and back. A session: the state's number, and 8 for maintenance, 16 for a mark, 32 where it is removed in disassemble mode, 64
 // where LEAVE_POOL is owed to it.
-ghost use Rattle.std.specs.Prelude.{◌≡◌, true, map, eqb, ◌+◌, ◌<◌};
+ghost use Rattle.std.specs.Prelude.{◌≡◌, map, ◌+◌, ◌<◌};
 ghost use Rattle.laws_words.specs.Words.{pick};
-ghost use Rattle.event_words.specs.Same.{same_to};
-ghost use Rattle.rules_pool.specs.Session.{new_session};
 ghost use Rattle.library_client_words.specs.PoolWords.{state_word, session_word, session_in, step_word, step_of, phase_tag, phase_data, phase_of, stage_words, job_words, job_of, run_words};
 
 use event_words::words::{Tagged, five};
@@ -41,7 +39,7 @@ fn flags(word: u64, maintenance: bool, mark: bool, disassembled: bool, owed: boo
     two + map_numbers::numbers::when(disassembled, 32) + map_numbers::numbers::when(owed, 64)
 }
 
-fn flagged_word(s: Session) -> u64
+fn session_word(s: Session) -> u64
     ensures { result ≡ session_word s }
 {
     let st = s.state;
@@ -49,17 +47,6 @@ fn flagged_word(s: Session) -> u64
     let owed = client_state::state::is_owed(st);
     let w = state_word(st);
     flags(w, s.maintenance, s.mark, disassembled, owed)
-}
-
-// Most sessions have no bit.
-fn session_word(s: Session) -> u64
-    ensures { result ≡ session_word s }
-{
-    let st = s.state;
-    if s.maintenance | (s.mark | client_state::state::is_removing(st)) {
-        return flagged_word(s);
-    }
-    state_word(st)
 }
 
 fn session_in(w: u64) -> Session
@@ -81,74 +68,17 @@ pub fn session_words(ss: [Session; 16]) -> [u64; 16]
     ws
 }
 
-// A session, and whether the word that it was read from is its own.
-#[derive(Clone, Copy)]
-pub struct Sight {
-    pub session: Session,
-    pub known: bool,
-}
-
-fn plain(state: State) -> Sight
-    ensures { result ≡ record { session = new_session state; known = true } }
-{
-    let s = client_state::state::new(state);
-    Sight {
-        session: s,
-        known: true,
-    }
-}
-
-fn flagged(w: u64) -> Sight
-    ensures { result ≡ record { session = session_in w; known = eqb w (session_word (session_in w)) } }
-{
-    let s = session_in(w);
-    let again = session_word(s);
-    Sight {
-        session: s,
-        known: w == again,
-    }
-}
-
-// Most words are a state's number.
-fn seen(w: u64) -> Sight
-    ensures { result ≡ record { session = session_in w; known = eqb w (session_word (session_in w)) } }
-{
-    match w {
-        0 => plain(State::Free),
-        1 => plain(State::Created),
-        2 => plain(State::Normal),
-        3 => plain(State::Failed(Cause::Link)),
-        4 => plain(State::Reconnecting),
-        6 => plain(State::Failed(Cause::Io)),
-        _ => flagged(w),
-    }
-}
-
-// Sixteen sessions, and whether all of the words are theirs.
-#[derive(Clone, Copy)]
-pub struct Sessions {
-    pub sessions: [Session; 16],
-    pub known: bool,
-}
-
-pub fn sessions_in(ws: [u64; 16]) -> Sessions
-    ensures { result ≡ record { sessions = map session_in ws; known = same_to ws (map session_word (map session_in ws)) 16 } }
+pub fn sessions_in(ws: [u64; 16]) -> [Session; 16]
+    ensures { result ≡ map session_in ws }
 {
     let none = client_state::state::new(State::Free);
     let mut ss = [none; 16];
-    let mut known = true;
     let mut i = 0;
     while i < 16 {
-        let v = seen(ws[i]);
-        let s = v.session;
-        ss[i] = s;
-        known = known & v.known;
+        ss[i] = session_in(ws[i]);
         i += 1;
     }
-    Sessions {
-        sessions: ss,
-        known: known,
-    }
+    ss
 }
 
 fn step_word(s: Step) -> u64

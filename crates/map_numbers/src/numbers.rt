@@ -1,5 +1,5 @@
 // Numbers chosen, and a difference: what every crate above would else write again. Each has an answer for any arguments.
-ghost use Rattle.std.specs.Prelude.{◌≡◌, ◌-◌, min, max};
+ghost use Rattle.std.specs.Prelude.{◌≡◌, ◌-◌};
 ghost use Rattle.laws_words.specs.Words.{pick, one};
 
 // One number or the other.
@@ -21,25 +21,6 @@ pub fn one(test: bool) -> u64
     ensures { result ≡ one test }
 {
     if test { 1 } else { 0 }
-}
-
-pub fn larger(a: u64, b: u64) -> u64
-    ensures { result ≡ max a b }
-{
-    if a < b { b } else { a }
-}
-
-pub fn least(a: u64, b: u64) -> u64
-    ensures { result ≡ min a b }
-{
-    if a < b { a } else { b }
-}
-
-// The same of lengths.
-pub fn least_size(a: usize, b: usize) -> usize
-    ensures { result ≡ min a b }
-{
-    if a < b { a } else { b }
 }
 
 // a - b, and 0 where b is more.

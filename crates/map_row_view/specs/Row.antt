@@ -16,14 +16,14 @@ step_at row at = pick (ltb at (length row)) (Step.Byte (get_or row at 0)) Step.E
 abbrev pub has_row : List ℕ → ℕ → Bool
 has_row xs m = eqb (length (row_of xs m)) 512
 
--- how many of its chunks are dirty (R-84)
+-- how many of its chunks are dirty
 unfoldable pub row_count : List ℕ → ℕ → Count
 row_count xs m = pick (has_row xs m) (Count.Of (count (row_of xs m) 0)) Count.NoRow
 
--- whether chunk c is (R-84)
+-- whether chunk c is
 unfoldable pub row_bit : List ℕ → ℕ → ℕ → Bit
 row_bit xs m c = pick (has_row xs m) (Bit.Of (eqb (dirty (row_of xs m) 0 c) 1)) Bit.NoRow
 
--- what stands at a place (R-84)
+-- what stands at a place
 unfoldable pub row_next : List ℕ → ℕ → ℕ → Ahead
 row_next xs m at = pick (has_row xs m) (Ahead.Of (step_at (row_of xs m) at)) Ahead.NoRow

@@ -5,7 +5,7 @@ use Rattle.map_versions.specs.declared.Answer.{Answer}
 use Rattle.map_versions.specs.declared.Order.{Order}
 use Rattle.map_versions.specs.Versions.{record_of, word_of, compare_words, compare_records}
 
--- Every old word comes back the same from its record. (R-83)
+-- Every old word comes back the same from its record.
 abbrev pub WordBack : Type 0
 WordBack = (w : ℕ) → w < 2 ^ 64 → word_of (record_of w) ≡ Answer.Word w
 
@@ -20,11 +20,10 @@ pub record Kept (r : VersionRecord) : Type 0 where
   pub given : word_of r ≡ Answer.Word word
   pub back : record_of word ≡ r
 
--- (R-83)
 abbrev pub RecordBack : Type 0
 RecordBack = (r : VersionRecord) → r.version < 2 ^ 63 → r.flag ≤ 1 → Kept r
 
--- A record with a version of 2^63 or more, or a flag above 1, is refused with 21. By RecordBack no other record is refused. (R-83)
+-- A record with a version of 2^63 or more, or a flag above 1, is refused with 21. By RecordBack no other record is refused.
 abbrev pub Refused : Type 0
 Refused = (r : VersionRecord) → (2 ^ 63 ≤ r.version) ⊎ (1 < r.flag) → word_of r ≡ Answer.Refused 21
 

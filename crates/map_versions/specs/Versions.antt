@@ -6,7 +6,7 @@ use Rattle.map_versions.specs.declared.VersionRecord.{VersionRecord}
 use Rattle.map_versions.specs.declared.Answer.{Answer}
 use Rattle.map_versions.specs.declared.Order.{Order}
 
--- the new record of an old word (R-83)
+-- the new record of an old word
 abbrev pub record_of : ℕ → VersionRecord
 record_of w = record { version = w % 2 ^ 63; flag = w / 2 ^ 63 }
 
@@ -14,7 +14,7 @@ record_of w = record { version = w % 2 ^ 63; flag = w / 2 ^ 63 }
 abbrev pub good : VersionRecord → Bool
 good r = ltb r.version (2 ^ 63) && leb r.flag 1
 
--- the old word of a new record; one that is not good is refused with 21 (R-83)
+-- the old word of a new record; one that is not good is refused with 21
 abbrev pub word_of : VersionRecord → Answer
 word_of r = pick (good r) (Answer.Word (r.version + 2 ^ 63 * r.flag)) (Answer.Refused 21)
 

@@ -1,6 +1,6 @@
 // Dirty maps: 16 rows of 512 bytes. Every operation takes a map of any length and any number, and leaves what the definition of specs/Map.antt gives. Loops over
 // a whole map have no branch but their bound.
-ghost use Rattle.std.specs.Prelude.{◌≡◌, ◌-◌, ◌<◌, ◌≤◌, set, length};
+ghost use Rattle.std.specs.Prelude.{◌≡◌, ◌-◌, ◌<◌, ◌≤◌, min, set, length};
 ghost use Rattle.rules_base.specs.Map.{zero_from, zero_row, zeroed, rows_kept, copied, sound, row_of};
 ghost use Rattle.rules_base.specs.Scan.{or_to, row_spare};
 
@@ -8,12 +8,18 @@ ghost use Rattle.rules_base.specs.Scan.{or_to, row_spare};
 fn zero_from(map: &mut [u8], a: usize, e: usize)
     ensures { map.new ≡ zero_from a e map.old }
 {
-    let end = map_numbers::numbers::least_size(e, map.len());
+    let end = least(e, map.len());
     let mut i = a;
     while i < end {
         map[i] = 0;
         i += 1;
     }
+}
+
+pub fn least(a: usize, b: usize) -> usize
+    ensures { result ≡ min a b }
+{
+    if a < b { a } else { b }
 }
 
 // Zeroes member m's row.
@@ -52,7 +58,7 @@ pub fn zero(map: &mut [u8])
 pub fn copy(map: &mut [u8], other: &[u8])
     ensures { map.new ≡ copied map.old other.now }
 {
-    let end = map_numbers::numbers::least_size(map.len(), other.len());
+    let end = least(map.len(), other.len());
     let mut i = 0;
     while i < end {
         map[i] = other[i];

@@ -32,7 +32,7 @@ pub fn or_part(map: &mut [u8], offset: u64, part: &[u8])
     if map.len() <= a {
         return;
     }
-    let end = a + map_numbers::numbers::least_size(part.len(), map.len() - a);
+    let end = a + crate::maps::least(part.len(), map.len() - a);
     let mut i = a;
     while i < end {
         map[i] = map[i] | part[i - a];

@@ -26,11 +26,9 @@ use Rattle.model_pool.specs.Steps as s
 use Rattle.model_pool.specs.Mirror.{Sees, Works, stage_awaits, job_awaits, awaited_of, Posts, posts, rests, Moves, goes, stands, MovesBy, MovesAt}
 use Rattle.model_pool.proofs.Tries.{joined}
 use Rattle.model_pool.specs.Holds.{Held, Sane}
-use Rattle.rules_world.specs.Together.{told_in}
-use Rattle.rules_world.specs.Whole.{Fate, World, acted}
-use Rattle.model_pool.specs.Reflects.{Parted, Reads, Reflects, Comes}
-use Rattle.model_pool.proofs.Every.{arrived, told-staging}
-use Rattle.model_pool.proofs.Staging.{keeps-parted}
+use Rattle.rules_world.specs.Whole.{Fate, World, told_in, acted}
+use Rattle.model_pool.specs.Reflects.{Reads, Reflects, Comes}
+use Rattle.model_pool.proofs.Every.{arrived}
 use Rattle.model_pool.proofs.Told.{sane-told, quiet, drops}
 
 -- ---- a job in hand awaits a message
@@ -58,12 +56,12 @@ awaited-some Job.Idle p e = clash refl e
 awaited-some (Job.Running r) p e = phase-some r.phase p.roster.members p.roster.version r
 awaited-some (Job.Removing d) p e = stage-some d.stage p d.id
 
-fresh-reads : (h : m.Hand) → h.fate ≡ m.Fate.Under → Reads (Fate.under_way 0) h
-fresh-reads h e = record { under = λ o q. e; good = λ b q. absurd (let z : ◌≡◌ {A = ℕ} 0 1 = cc in let y : ⊥ = omega arith in y) }
+fresh-reads : (h : m.Hand) → h.fate ≡ m.Fate.Under → Reads Fate.under_way h
+fresh-reads h e = record { under = λ q. e; good = λ b q. absurd (let z : ◌≡◌ {A = ℕ} 0 1 = cc in let y : ⊥ = omega arith in y) }
 
 -- the world after an accepted event
 abbrev pub world_after : World → Pool → (ℕ → Station) → Message → World
-world_after w q f sent = record { pool = q; nodes = f; awaited = pick (is_nothing sent) w.awaited sent; fate = pick (is_nothing sent) w.fate (Fate.under_way 0) }
+world_after w q f sent = record { pool = q; nodes = f; awaited = pick (is_nothing sent) w.awaited sent; fate = pick (is_nothing sent) w.fate Fate.under_way }
 
 -- what was sent is awaited
 pub reflects-sent : (w : World) (q : Pool) (f : ℕ → Station) (sent : Message) (b : m.World) → Valid q → q.roster.sync ≡ false → Sees q.roster b.pool → Works q.job b.hand → Posts q sent b.hand → ((j : ℕ) → Sane q.chunks j (f j)) → Held f b.nodes
@@ -76,7 +74,6 @@ reflects-sent w q f sent b v y e k p sane h = record {
   held = h;
   awaits = λ z. awaits p z;
   reads = λ z. reads p z;
-  partly = λ z o from to y u. first p z o from to y;
 }
   where
     some : sent ≡ awaited_of q → is_idle q.job ≡ false → is_nothing sent ≡ false
@@ -86,23 +83,14 @@ reflects-sent w q f sent b v y e k p sane h = record {
     awaits (posts x u) z = ap (λ (t : Bool). pick t w.awaited sent) (some x z) ∙ x
     awaits (rests x u) z = clash (ap is_idle u) z
 
-    at_none : (o : ℕ) → Fate.under_way 0 ≡ Fate.under_way o → o ≡ 0
-    at_none o e = cc
-
-    -- nothing of it came yet
-    first : Posts q sent b.hand → is_idle q.job ≡ false → (o from to : ℕ) → pick (is_nothing sent) w.fate (Fate.under_way 0) ≡ Fate.under_way o → Parted o (b.nodes.map from) (f to)
-    first (posts x u) z o from to y = λ k n c l v. absurd (let i = at_none o (subst (λ (t : Bool). pick t w.fate (Fate.under_way 0) ≡ Fate.under_way o) (some x z) y) in let j : ⊥ = omega arith in j)
-    first (rests x u) z o from to y = clash (ap is_idle u) z
-
-    reads : Posts q sent b.hand → is_idle q.job ≡ false → Reads (pick (is_nothing sent) w.fate (Fate.under_way 0)) b.hand
-    reads (posts x u) z = subst (λ (t : Bool). Reads (pick t w.fate (Fate.under_way 0)) b.hand) (sym (some x z)) (fresh-reads b.hand u)
+    reads : Posts q sent b.hand → is_idle q.job ≡ false → Reads (pick (is_nothing sent) w.fate Fate.under_way) b.hand
+    reads (posts x u) z = subst (λ (t : Bool). Reads (pick t w.fate Fate.under_way) b.hand) (sym (some x z)) (fresh-reads b.hand u)
     reads (rests x u) z = clash (ap is_idle u) z
 
 -- what was awaited still is
 pub reflects-stood : (w : World) (q : Pool) (f : ℕ → Station) (a b : m.World) → Reflects w a → Valid q → q.roster.sync ≡ false → Sees q.roster b.pool → q.job ≡ w.pool.job → awaited_of q ≡ awaited_of w.pool → b.hand ≡ a.hand → ((j : ℕ) → Sane q.chunks j (f j)) → Held f b.nodes
-    → (is_idle w.pool.job ≡ false → (o from to : ℕ) → w.awaited ≡ Message.Send from to → Parted o (a.nodes.map from) (w.nodes to) → Parted o (b.nodes.map from) (f to))
     → Reflects (world_after w q f Message.Nothing) b
-reflects-stood w q f a b r v y e j x i sane h still = record {
+reflects-stood w q f a b r v y e j x i sane h = record {
   valid = v;
   plain = y;
   shows = record { sees = e; works = subst (λ (t : Job). Works t b.hand) (sym j) (subst (λ (t : m.Hand). Works w.pool.job t) (sym i) r.shows.works) };
@@ -110,7 +98,6 @@ reflects-stood w q f a b r v y e j x i sane h still = record {
   held = h;
   awaits = λ z. r.awaits (ap is_idle (sym j) ∙ z) ∙ sym x;
   reads = λ z. subst (Reads w.fate) (sym i) (r.reads (ap is_idle (sym j) ∙ z));
-  partly = λ z o from to l u. still (ap is_idle (sym j) ∙ z) o from to u (r.partly (ap is_idle (sym j) ∙ z) o from to l u);
 }
 
 -- the world c is where the event has come to at the client; what it tells arrives, and at most drops a transfer
@@ -126,34 +113,31 @@ module _ (w : World) (c : m.World) (sane : (j : ℕ) → Sane w.pool.chunks j (w
         course = d.course;
         reflects = reflects-sent w q (arrived got s.told w.nodes) s.awaited d.to v y (subst (Sees q.roster) (sym d.pool) e) (subst (Works q.job) (sym d.hand) k) (subst (Posts q s.awaited) (sym d.hand) p) (told-sane s.told) d.held;
         past = d.past;
-        off = d.off;
       }
 
-  pub stands_on : (t : Told) (a : m.World) → Reflects w a → q.job ≡ w.pool.job → awaited_of q ≡ awaited_of w.pool → c.hand ≡ a.hand → c.nodes.map ≡ a.nodes.map → quiet t ≡ true → Comes (world_after w q (arrived got t w.nodes) Message.Nothing) c
-  stands_on t a r j x i mp z =
+  pub stands_on : (t : Told) (a : m.World) → Reflects w a → q.job ≡ w.pool.job → awaited_of q ≡ awaited_of w.pool → c.hand ≡ a.hand → quiet t ≡ true → Comes (world_after w q (arrived got t w.nodes) Message.Nothing) c
+  stands_on t a r j x i z =
       let d = drops w.pool.chunks w.nodes c sane held got t z in
       record {
         to = d.to;
         course = d.course;
-        reflects = reflects-stood w q (arrived got t w.nodes) a d.to r v y (subst (Sees q.roster) (sym d.pool) e) j x (d.hand ∙ i) (told-sane t) d.held
-            (λ u o from to l k. keeps-parted (told-staging got t w.nodes to) o (d.to.nodes.map from) (subst (λ (g : ℕ → m.Map). Parted o (g from) (w.nodes to)) (sym (d.map ∙ mp)) k));
+        reflects = reflects-stood w q (arrived got t w.nodes) a d.to r v y (subst (Sees q.roster) (sym d.pool) e) j x (d.hand ∙ i) (told-sane t) d.held;
         past = d.past;
-        off = d.off;
       }
 
 -- an event that leaves nodes and past alone, but for transfers that it drops
 pub acts : (w : World) (a : m.World) → Reflects w a → (t : Turn) (got : ℕ) → MovesBy w.pool t a → Valid t.pool → t.pool.roster.sync ≡ false → t.pool.chunks ≡ w.pool.chunks → quiet (told_in t.answer) ≡ true → Comes (acted t.answer t.pool got w) a
 acts w a r t got x v y c z = go t.answer x z
   where
-    from : {b : World} (g : m.World) → s.Course a g → g.nodes ≡ a.nodes → g.past ≡ a.past → Comes b g → Comes b a
-    from g k n p d = record { to = d.to; course = joined k d.course; reflects = d.reflects; past = d.past ∙ p; off = d.off ∙ ap (λ (x : m.Nodes). x.off) n }
+    from : {b : World} (g : m.World) → s.Course a g → g.past ≡ a.past → Comes b g → Comes b a
+    from g k p d = record { to = d.to; course = joined k d.course; reflects = d.reflects; past = d.past ∙ p }
 
     on : (s : Sent) → quiet s.told ≡ true → Moves w.pool t.pool s.awaited a → Comes (world_after w t.pool (arrived got s.told w.nodes) s.awaited) a
-    on s z (goes g) = from g.to g.course g.nodes g.past (goes_on w g.to r.sane (subst (Held w.nodes) (sym g.nodes) r.held) t.pool got v y c g.sees s g.works g.sends z)
+    on s z (goes g) = from g.to g.course g.past (goes_on w g.to r.sane (subst (Held w.nodes) (sym g.nodes) r.held) t.pool got v y c g.sees s g.works g.sends z)
     on s z (stands e g) =
         subst (λ (x : Message). Comes (world_after w t.pool (arrived got s.told w.nodes) x) a) (sym e)
-        (from g.to g.course g.nodes g.past (stands_on w g.to r.sane (subst (Held w.nodes) (sym g.nodes) r.held) t.pool got v y c g.sees s.told a r g.job g.awaits g.hand (ap (λ (x : m.Nodes). x.map) g.nodes) z))
+        (from g.to g.course g.past (stands_on w g.to r.sane (subst (Held w.nodes) (sym g.nodes) r.held) t.pool got v y c g.sees s.told a r g.job g.awaits g.hand z))
 
     go : (x : Answer) → MovesAt x w.pool t.pool a → quiet (told_in x) ≡ true → Comes (acted x t.pool got w) a
-    go (Answer.Refused n) x z = record { to = a; course = s.here a; reflects = r; past = refl; off = refl }
+    go (Answer.Refused n) x z = record { to = a; course = s.here a; reflects = r; past = refl }
     go (Answer.Done s) x z = on s z x

@@ -5,7 +5,7 @@ use mathlib.Core.List.{List, [], ◌∷◌, ◌++◌}
 use Prim.Native.Nat.{ℕ, ◌+◌}
 use lib.Dec.{eqb}
 use Rattle.laws_words.specs.Words.{pick}
-use Rattle.laws_words.specs.Tests.{clash, picked}
+use Rattle.laws_words.specs.Tests.{picked}
 use Rattle.rules_base.specs.Sets.{has}
 use Rattle.rules_base.specs.Parts.{part_of}
 use Rattle.rules_base.specs.declared.Op.{Op}
@@ -13,111 +13,20 @@ use Rattle.rules_pool.specs.declared.Told.{Told}
 use Rattle.rules_pool.specs.declared.Message.{Message}
 use Rattle.rules_pool.specs.declared.Reply.{Reply}
 use Rattle.rules_pool.specs.Session.{is_delete}
-use Rattle.rules_world.specs.Whole.{delivered}
 use Rattle.rules_node.specs.Events as storage
 use Rattle.rules_world.specs.Station.{Station, does}
-use Rattle.rules_world.specs.Together.{upd, Delivered, reply_of, if_good, takes_from, send, when_to, due_to, after_all, told_at}
+use Rattle.rules_world.specs.Together.{upd, Delivered, reply_of, if_good, takes_from, send, deliver}
 use Rattle.theorem_honest.proofs.Ground as real
 use Rattle.model_pool.proofs.Ground.{split}
-use Rattle.model_pool.proofs.Staging.{is_quiet, Keeps, keeps_same, keeps_on, event-keeps}
+use Rattle.rules_world.specs.Whole.{when_to, due_to, after_all}
+use Rattle.rules_world.specs.History.{origin_of, is_message}
 
 -- the nodes when what was told has arrived at those of the set
 abbrev pub arrived : ℕ → Told → (ℕ → Station) → ℕ → Station
-arrived got t f j = pick (has got j) (told_at t j (f j)) (f j)
+arrived got t f j = pick (has got j) (after_all (due_to t j) (f j)) (f j)
 
--- the event that marks a node create
-abbrev pub is_afresh : storage.Event → Bool
-is_afresh storage.Event.register_create = true
-is_afresh (storage.Event.register_add set version) = false
-is_afresh (storage.Event.unregister delete) = false
-is_afresh (storage.Event.join_create set) = false
-is_afresh storage.Event.assemble = false
-is_afresh (storage.Event.leave delete) = false
-is_afresh (storage.Event.enable1 version set) = false
-is_afresh storage.Event.enable0 = false
-is_afresh storage.Event.fault = false
-is_afresh (storage.Event.write chunk set version) = false
-is_afresh (storage.Event.synced member chunk) = false
-is_afresh (storage.Event.pool_info op member) = false
-is_afresh (storage.Event.map_ready keep) = false
-is_afresh (storage.Event.give_part offset length) = false
-is_afresh (storage.Event.take_part offset part) = false
-is_afresh (storage.Event.map_done enable version set) = false
-is_afresh storage.Event.map_disable = false
-is_afresh storage.Event.map_get_ver = false
-is_afresh (storage.Event.last_io_to_map chosen) = false
-is_afresh (storage.Event.fill member version) = false
-
--- an event that is told
-abbrev pub is_told : storage.Event → Bool
-is_told storage.Event.register_create = false
-is_told (storage.Event.register_add set version) = false
-is_told (storage.Event.unregister delete) = false
-is_told (storage.Event.join_create set) = false
-is_told storage.Event.assemble = false
-is_told (storage.Event.leave delete) = false
-is_told (storage.Event.enable1 version set) = false
-is_told storage.Event.enable0 = true
-is_told storage.Event.fault = false
-is_told (storage.Event.write chunk set version) = true
-is_told (storage.Event.synced member chunk) = true
-is_told (storage.Event.pool_info op member) = true
-is_told (storage.Event.map_ready keep) = false
-is_told (storage.Event.give_part offset size) = false
-is_told (storage.Event.take_part offset part) = false
-is_told (storage.Event.map_done enabling version set) = false
-is_told storage.Event.map_disable = true
-is_told storage.Event.map_get_ver = false
-is_told (storage.Event.last_io_to_map chosen) = false
-is_told (storage.Event.fill member version) = true
-
-pub told-old : (e : storage.Event) → is_told e ≡ true → is_afresh e ≡ false
-told-old storage.Event.register_create z = clash z refl
-told-old (storage.Event.register_add set version) z = refl
-told-old (storage.Event.unregister delete) z = refl
-told-old (storage.Event.join_create set) z = refl
-told-old storage.Event.assemble z = refl
-told-old (storage.Event.leave delete) z = refl
-told-old (storage.Event.enable1 version set) z = refl
-told-old storage.Event.enable0 z = refl
-told-old storage.Event.fault z = refl
-told-old (storage.Event.write chunk set version) z = refl
-told-old (storage.Event.synced member chunk) z = refl
-told-old (storage.Event.pool_info op member) z = refl
-told-old (storage.Event.map_ready keep) z = refl
-told-old (storage.Event.give_part offset size) z = refl
-told-old (storage.Event.take_part offset part) z = refl
-told-old (storage.Event.map_done enabling version set) z = refl
-told-old storage.Event.map_disable z = refl
-told-old storage.Event.map_get_ver z = refl
-told-old (storage.Event.last_io_to_map chosen) z = refl
-told-old (storage.Event.fill member version) z = refl
-
-pub told-quiet : (e : storage.Event) → is_told e ≡ true → is_quiet e ≡ true
-told-quiet storage.Event.register_create z = refl
-told-quiet (storage.Event.register_add set version) z = refl
-told-quiet (storage.Event.unregister delete) z = refl
-told-quiet (storage.Event.join_create set) z = refl
-told-quiet storage.Event.assemble z = refl
-told-quiet (storage.Event.leave delete) z = refl
-told-quiet (storage.Event.enable1 version set) z = refl
-told-quiet storage.Event.enable0 z = refl
-told-quiet storage.Event.fault z = refl
-told-quiet (storage.Event.write chunk set version) z = refl
-told-quiet (storage.Event.synced member chunk) z = refl
-told-quiet (storage.Event.pool_info op member) z = refl
-told-quiet (storage.Event.map_ready keep) z = clash z refl
-told-quiet (storage.Event.give_part offset size) z = refl
-told-quiet (storage.Event.take_part offset part) z = clash z refl
-told-quiet (storage.Event.map_done enabling version set) z = refl
-told-quiet storage.Event.map_disable z = refl
-told-quiet storage.Event.map_get_ver z = refl
-told-quiet (storage.Event.last_io_to_map chosen) z = refl
-told-quiet (storage.Event.fill member version) z = refl
-
--- what is told
-module _ (P : ℕ → Station → Type 0) (keeps : (j : ℕ) (e : storage.Event) (s : Station) → is_told e ≡ true → P j s → P j (does s e).station) where
-  when : (j : ℕ) (b : Bool) (e : storage.Event) (s : Station) → is_told e ≡ true → P j s → P j (after_all (when_to b e) s)
+module _ (P : ℕ → Station → Type 0) (keeps : (j : ℕ) (e : storage.Event) (s : Station) → is_message (origin_of e) ≡ true → P j s → P j (does s e).station) where
+  when : (j : ℕ) (b : Bool) (e : storage.Event) (s : Station) → is_message (origin_of e) ≡ true → P j s → P j (after_all (when_to b e) s)
   when j true e s m k = keeps j e s m k
   when j false e s m k = k
 
@@ -137,17 +46,16 @@ module _ (P : ℕ → Station → Type 0) (keeps : (j : ℕ) (e : storage.Event)
       both false false = k
   due (Told.Checks to tick) j s k = k
 
+  -- what is told
   pub every-told : (got : ℕ) (t : Told) (f : ℕ → Station) → ((j : ℕ) → P j (f j)) → (j : ℕ) → P j (arrived got t f j)
   every-told got t f k j = picked (P j) (has got j) (after_all (due_to t j) (f j)) (f j) (λ e. due t j (f j) (k j)) (λ e. k j)
 
--- what is awaited
-module _ (P : ℕ → Station → Type 0) (keeps : (j : ℕ) (e : storage.Event) (s : Station) → is_afresh e ≡ false → P j s → P j (does s e).station) where
   pub every-upd : (f : ℕ → Station) (i : ℕ) (s : Station) → ((j : ℕ) → P j (f j)) → P i s → (j : ℕ) → P j (upd f i s j)
   every-upd f i s k h j = split j i
       (λ q. subst (λ (n : ℕ). P n (upd f i s n)) (sym q) (subst (P i) (sym (real.upd_same f i s)) h))
       (λ q. subst (P j) (sym (real.upd_other f i j s q)) (k j))
 
-  one : (f : ℕ → Station) (i : ℕ) (e : storage.Event) → is_afresh e ≡ false → ((j : ℕ) → P j (f j)) → (j : ℕ) → P j (upd f i (does (f i) e).station j)
+  one : (f : ℕ → Station) (i : ℕ) (e : storage.Event) → is_message (origin_of e) ≡ true → ((j : ℕ) → P j (f j)) → (j : ℕ) → P j (upd f i (does (f i) e).station j)
   one f i e m k = every-upd f i (does (f i) e).station k (keeps i e (f i) m (k i))
 
   if-good : (p : Reply) (next this : Delivered) → ((j : ℕ) → P j (next.nodes j)) → ((j : ℕ) → P j (this.nodes j)) → (j : ℕ) → P j ((if_good p next this).nodes j)
@@ -164,18 +72,14 @@ module _ (P : ℕ → Station → Type 0) (keeps : (j : ℕ) (e : storage.Event)
       (one f to (storage.Event.take_part o (part_of o l (f from).map)) refl k))
       k
 
-  -- of a MAP_SEND a part
-  pub every-delivered : (o l : ℕ) (x : Message) (f : ℕ → Station) → ((j : ℕ) → P j (f j)) → (j : ℕ) → P j ((delivered o l x f).nodes j)
-  every-delivered o l Message.Nothing f k = k
-  every-delivered o l (Message.GetVersion to) f k = one f to storage.Event.map_get_ver refl k
-  every-delivered o l (Message.Ready to keep) f k = one f to (storage.Event.map_ready keep) refl k
-  every-delivered o l (Message.Send from to) f k = parts (l ∷ []) o from to f k
-  every-delivered o l (Message.Done to enable version members) f k = one f to (storage.Event.map_done enable version members) refl k
-  every-delivered o l (Message.LastIo to chosen) f k = one f to (storage.Event.last_io_to_map chosen) refl k
-  every-delivered o l (Message.Enable to version members) f k = one f to (storage.Event.enable1 version members) refl k
-  every-delivered o l (Message.Leave to mode) f k = one f to (storage.Event.leave (is_delete mode)) refl k
-  every-delivered o l (Message.Info to op member) f k = one f to (storage.Event.pool_info op member) refl k
-
--- what is told leaves a transfer and staging alone, or ends it
-pub told-staging : (got : ℕ) (t : Told) (f : ℕ → Station) (j : ℕ) → Keeps (f j) (arrived got t f j)
-told-staging got t f = every-told (λ i. Keeps (f i)) (λ i e s q k. keeps_on k (event-keeps e s (told-quiet e q))) got t f (λ i. keeps_same (f i))
+  -- what is awaited
+  pub every-delivered : (ls : List ℕ) (x : Message) (f : ℕ → Station) → ((j : ℕ) → P j (f j)) → (j : ℕ) → P j ((deliver ls x f).nodes j)
+  every-delivered ls Message.Nothing f k = k
+  every-delivered ls (Message.GetVersion to) f k = one f to storage.Event.map_get_ver refl k
+  every-delivered ls (Message.Ready to keep) f k = one f to (storage.Event.map_ready keep) refl k
+  every-delivered ls (Message.Send from to) f k = parts ls 0 from to f k
+  every-delivered ls (Message.Done to enable version members) f k = one f to (storage.Event.map_done enable version members) refl k
+  every-delivered ls (Message.LastIo to chosen) f k = one f to (storage.Event.last_io_to_map chosen) refl k
+  every-delivered ls (Message.Enable to version members) f k = one f to (storage.Event.enable1 version members) refl k
+  every-delivered ls (Message.Leave to mode) f k = one f to (storage.Event.leave (is_delete mode)) refl k
+  every-delivered ls (Message.Info to op member) f k = one f to (storage.Event.pool_info op member) refl k

@@ -32,7 +32,6 @@ pub mod Runs
 pub mod Sane
 pub mod Sessions
 pub mod Shifts
-pub mod Staging
 pub mod Tellings
 pub mod Told
 pub mod Tries

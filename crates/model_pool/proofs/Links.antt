@@ -93,7 +93,7 @@ unfolding check_done
 back p id w v y k h =
     let c = checks-are (session_at p.roster id).state (subst (λ (b : Bool). checks b (session_at p.roster id).state ≡ true) y h.may) in
     let i = idle-is p.job h.idle in
-    subst (λ (b : Bool). MovesBy p (pick b (changed p (entered p.roster id) Told.Nothing) (tried_after (with_roster p (went p.roster id State.Reconnecting)) Outcome.Plain Told.Nothing)) w) (sym y)
+    subst (λ (b : Bool). MovesBy p (pick b (changed p (entered p.roster id) Told.Nothing) (tried_after p (with_roster p (went p.roster id State.Reconnecting)) Outcome.Plain Told.Nothing)) w) (sym y)
     (goes (falls-tried p (went p.roster id State.Reconnecting) w i k.works (reconnects-keeps p.roster id v.ok h.below y c.0 c.1)
     (falls-one p.roster (went p.roster id State.Reconnecting) id w k.sees (went-shifted p.roster v.ok id h.below c.0 State.Reconnecting refl refl) c.1)))
 
@@ -116,5 +116,5 @@ try-idle p e =
 
 pub try-run : (p : Pool) (w : m.World) → Valid p → p.roster.sync ≡ false → Shows p w → MovesBy p (try_run p) w
 unfolding try_run
-try-run p w v y k = moves p (try_refusal p) (tried_after p Outcome.Plain Told.Nothing) w
+try-run p w v y k = moves p (try_refusal p) (tried_after p p Outcome.Plain Told.Nothing) w
     (λ e. let i = idle-is p.job (try-idle p e) in goes (tries p w v.ok k.sees (idle-hand p w.hand i k.works) i))

@@ -53,6 +53,6 @@ unfolding enable enable_done enables
 maintenance-ends p id w v y k c = moves p (enable_refusal p id) (enable_done p id) w (λ e.
     let h = enable-passed p id e in
     let r = in-maintenance (is_created (session_at p.roster id).state) (is_reconnecting (session_at p.roster id).state) (session_at p.roster id).maintenance h.may c in
-    subst (λ (b : Bool). MovesBy p (pick b (changed p (entered p.roster id) Told.Nothing) (tried_after (with_roster p (flagged_at p.roster id false)) Outcome.Plain Told.Nothing)) w) (sym c)
+    subst (λ (b : Bool). MovesBy p (pick b (changed p (entered p.roster id) Told.Nothing) (tried_after p (with_roster p (flagged_at p.roster id false)) Outcome.Plain Told.Nothing)) w) (sym c)
     (goes (falls-tried p (flagged_at p.roster id false) w (idle-is p.job h.idle) k.works (unflagged-keeps p.roster id v.ok h.below y r)
     (falls-none (flagged_at p.roster id false) w (unflagged p.roster w.pool id v.ok h.below k.sees)))))

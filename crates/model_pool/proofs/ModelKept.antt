@@ -7,7 +7,7 @@ use Rattle.model_pool.specs.Invariant.{Inv, Claim}
 use Rattle.model_pool.specs.Steps.{Next, Course, here, more}
 use Rattle.model_pool.proofs.Ground.{up-active}
 use Rattle.model_pool.proofs.ModelNodes.{active-party, full}
-use Rattle.model_pool.proofs.Own.{stored, born, placed, blanked, shut}
+use Rattle.model_pool.proofs.Own.{stored, born, shut}
 use Rattle.model_pool.proofs.ModelClient.{shift, write, synced}
 use Rattle.model_pool.proofs.Runs.{over, try-1, try-2, try-3, in-get, good-get, good-got}
 use Rattle.model_pool.proofs.Messages.{in-ready, in-send, in-done, in-enable, in-plain, in-refused, good-ready, good-send, good-up, good-over, onward}
@@ -49,9 +49,6 @@ fresh w f = record {
 
 pub kept : {w w' : World} → Next w w' → Inv w → Inv w'
 kept {w} (Next.Stored j v e) i = stored w i j e v
-kept {w} (Next.Placed j t e) i = placed w i j e t
-kept {w} (Next.Blank j z) i = blanked w i j z
-kept {w} (Next.Turned j b) i = record { core = i.core; quiet = i.quiet; life = i.life; run = i.run; acked = i.acked; out = i.out }
 kept {w} (Next.Born j create e z) i = born w i j e create z
 kept {w} (Next.Drop j) i = shut w j i
 kept {w} (Next.Replaced j n e) i = replaced w i j n e

@@ -1,6 +1,5 @@
 -- The nodes of all ids, one of them changed.
 use mathlib.Core.Path.{◌≡◌, refl, sym, subst}
-use mathlib.Core.Bool.{Bool, false}
 use mathlib.Core.Logic.{◌≢◌}
 use Prim.Native.Nat.{ℕ}
 use Rattle.rules_world.specs.Station.{Station}
@@ -16,63 +15,38 @@ pub record Beside (n n' : m.Nodes) (j : ℕ) : Type 0 where
   pub map : (k : ℕ) → k ≢ j → n'.map k ≡ n.map k
   pub stg : (k : ℕ) → k ≢ j → n'.stg k ≡ n.stg k
   pub tr : (k : ℕ) → k ≢ j → n'.tr k ≡ n.tr k
-  pub off : (k : ℕ) → k ≢ j → n'.off k ≡ n.off k
 
-pub held-beside : (f : ℕ → Station) (n n' : m.Nodes) (j : ℕ) (s : Station) → Held f n → Beside n n' j → Holds (n'.off j) s (n'.ver j) (n'.map j) (n'.stg j) (n'.tr j) → Held (upd f j s) n'
+pub held-beside : (f : ℕ → Station) (n n' : m.Nodes) (j : ℕ) (s : Station) → Held f n → Beside n n' j → Holds s (n'.ver j) (n'.map j) (n'.stg j) (n'.tr j) → Held (upd f j s) n'
 held-beside f n n' j s h b e = record {
   at = λ k. split k j
-      (λ q. subst (λ (i : ℕ). Holds (n'.off i) (upd f j s i) (n'.ver i) (n'.map i) (n'.stg i) (n'.tr i)) (sym q) (subst (λ (x : Station). Holds (n'.off j) x (n'.ver j) (n'.map j) (n'.stg j) (n'.tr j)) (sym (real.upd_same f j s)) e))
-      (λ q. rw (real.upd_other f j k s q, b.ver k q, b.map k q, b.stg k q, b.tr k q, b.off k q) (h.at k));
+      (λ q. subst (λ (i : ℕ). Holds (upd f j s i) (n'.ver i) (n'.map i) (n'.stg i) (n'.tr i)) (sym q) (subst (λ (x : Station). Holds x (n'.ver j) (n'.map j) (n'.stg j) (n'.tr j)) (sym (real.upd_same f j s)) e))
+      (λ q. rw (real.upd_other f j k s q, b.ver k q, b.map k q, b.stg k q, b.tr k q) (h.at k));
 }
 
 -- nothing is seen of the change
-pub held_same : (f : ℕ → Station) (n : m.Nodes) (j : ℕ) (s : Station) → Held f n → Holds (n.off j) s (n.ver j) (n.map j) (n.stg j) (n.tr j) → Held (upd f j s) n
-held_same f n j s h e = held-beside f n n j s h (record { ver = λ k q. refl; map = λ k q. refl; stg = λ k q. refl; tr = λ k q. refl; off = λ k q. refl }) e
+pub held_same : (f : ℕ → Station) (n : m.Nodes) (j : ℕ) (s : Station) → Held f n → Holds s (n.ver j) (n.map j) (n.stg j) (n.tr j) → Held (upd f j s) n
+held_same f n j s h e = held-beside f n n j s h (record { ver = λ k q. refl; map = λ k q. refl; stg = λ k q. refl; tr = λ k q. refl }) e
 
 -- version and map
-pub held-stored : (f : ℕ → Station) (n : m.Nodes) (j : ℕ) (s : Station) (v : ℕ) (g : m.Map) → Held f n → Holds (n.off j) s v g (n.stg j) (n.tr j)
-    → Held (upd f j s) (record { ver = m.upd n.ver j v; map = m.upd n.map j g; stg = n.stg; tr = n.tr; off = n.off })
+pub held-stored : (f : ℕ → Station) (n : m.Nodes) (j : ℕ) (s : Station) (v : ℕ) (g : m.Map) → Held f n → Holds s v g (n.stg j) (n.tr j)
+    → Held (upd f j s) (record { ver = m.upd n.ver j v; map = m.upd n.map j g; stg = n.stg; tr = n.tr })
 held-stored f n j s v g h e =
-    held-beside f n (record { ver = m.upd n.ver j v; map = m.upd n.map j g; stg = n.stg; tr = n.tr; off = n.off }) j s h
-    (record { ver = λ k q. upd_other n.ver j k v q; map = λ k q. upd_other n.map j k g q; stg = λ k q. refl; tr = λ k q. refl; off = λ k q. refl })
+    held-beside f n (record { ver = m.upd n.ver j v; map = m.upd n.map j g; stg = n.stg; tr = n.tr }) j s h
+    (record { ver = λ k q. upd_other n.ver j k v q; map = λ k q. upd_other n.map j k g q; stg = λ k q. refl; tr = λ k q. refl })
     (rw (upd_same n.ver j v, upd_same n.map j g) e)
 
 -- staging and transfer
-pub held-staged : (f : ℕ → Station) (n : m.Nodes) (j : ℕ) (s : Station) (g : m.Map) (t : m.Transfer) → Held f n → Holds (n.off j) s (n.ver j) (n.map j) g t
-    → Held (upd f j s) (record { ver = n.ver; map = n.map; stg = m.upd n.stg j g; tr = m.upd n.tr j t; off = n.off })
+pub held-staged : (f : ℕ → Station) (n : m.Nodes) (j : ℕ) (s : Station) (g : m.Map) (t : m.Transfer) → Held f n → Holds s (n.ver j) (n.map j) g t
+    → Held (upd f j s) (record { ver = n.ver; map = n.map; stg = m.upd n.stg j g; tr = m.upd n.tr j t })
 held-staged f n j s g t h e =
-    held-beside f n (record { ver = n.ver; map = n.map; stg = m.upd n.stg j g; tr = m.upd n.tr j t; off = n.off }) j s h
-    (record { ver = λ k q. refl; map = λ k q. refl; stg = λ k q. upd_other n.stg j k g q; tr = λ k q. upd_other n.tr j k t q; off = λ k q. refl })
+    held-beside f n (record { ver = n.ver; map = n.map; stg = m.upd n.stg j g; tr = m.upd n.tr j t }) j s h
+    (record { ver = λ k q. refl; map = λ k q. refl; stg = λ k q. upd_other n.stg j k g q; tr = λ k q. upd_other n.tr j k t q })
     (rw (upd_same n.stg j g, upd_same n.tr j t) e)
 
 -- all four
-pub held_all : (f : ℕ → Station) (n : m.Nodes) (j : ℕ) (s : Station) (v : ℕ) (a g : m.Map) (t : m.Transfer) → Held f n → Holds (n.off j) s v a g t
-    → Held (upd f j s) (record { ver = m.upd n.ver j v; map = m.upd n.map j a; stg = m.upd n.stg j g; tr = m.upd n.tr j t; off = n.off })
+pub held_all : (f : ℕ → Station) (n : m.Nodes) (j : ℕ) (s : Station) (v : ℕ) (a g : m.Map) (t : m.Transfer) → Held f n → Holds s v a g t
+    → Held (upd f j s) (record { ver = m.upd n.ver j v; map = m.upd n.map j a; stg = m.upd n.stg j g; tr = m.upd n.tr j t })
 held_all f n j s v a g t h e =
-    held-beside f n (record { ver = m.upd n.ver j v; map = m.upd n.map j a; stg = m.upd n.stg j g; tr = m.upd n.tr j t; off = n.off }) j s h
-    (record { ver = λ k q. upd_other n.ver j k v q; map = λ k q. upd_other n.map j k a q; stg = λ k q. upd_other n.stg j k g q; tr = λ k q. upd_other n.tr j k t q; off = λ k q. refl })
+    held-beside f n (record { ver = m.upd n.ver j v; map = m.upd n.map j a; stg = m.upd n.stg j g; tr = m.upd n.tr j t }) j s h
+    (record { ver = λ k q. upd_other n.ver j k v q; map = λ k q. upd_other n.map j k a q; stg = λ k q. upd_other n.stg j k g q; tr = λ k q. upd_other n.tr j k t q })
     (rw (upd_same n.ver j v, upd_same n.map j a, upd_same n.stg j g, upd_same n.tr j t) e)
-
--- all of it, and whether the leg is to come
-pub held-turned : (f : ℕ → Station) (n : m.Nodes) (j : ℕ) (s : Station) (v : ℕ) (a g : m.Map) (t : m.Transfer) (b : Bool) → Held f n → Holds b s v a g t
-    → Held (upd f j s) (record { ver = m.upd n.ver j v; map = m.upd n.map j a; stg = m.upd n.stg j g; tr = m.upd n.tr j t; off = m.upd n.off j b })
-held-turned f n j s v a g t b h e =
-    held-beside f n (record { ver = m.upd n.ver j v; map = m.upd n.map j a; stg = m.upd n.stg j g; tr = m.upd n.tr j t; off = m.upd n.off j b }) j s h
-    (record { ver = λ k q. upd_other n.ver j k v q; map = λ k q. upd_other n.map j k a q; stg = λ k q. upd_other n.stg j k g q; tr = λ k q. upd_other n.tr j k t q; off = λ k q. upd_other n.off j k b q })
-    (rw (upd_same n.ver j v, upd_same n.map j a, upd_same n.stg j g, upd_same n.tr j t, upd_same n.off j b) e)
-
--- map, staging and transfer
-pub held-unseen : (f : ℕ → Station) (n : m.Nodes) (j : ℕ) (s : Station) → Held f n → Holds (n.off j) s (n.ver j) m.none m.none m.Transfer.Shut
-    → Held (upd f j s) (record { ver = n.ver; map = m.upd n.map j m.none; stg = m.upd n.stg j m.none; tr = m.upd n.tr j m.Transfer.Shut; off = n.off })
-held-unseen f n j s h e =
-    held-beside f n (record { ver = n.ver; map = m.upd n.map j m.none; stg = m.upd n.stg j m.none; tr = m.upd n.tr j m.Transfer.Shut; off = n.off }) j s h
-    (record { ver = λ k q. refl; map = λ k q. upd_other n.map j k m.none q; stg = λ k q. upd_other n.stg j k m.none q; tr = λ k q. upd_other n.tr j k m.Transfer.Shut q; off = λ k q. refl })
-    (rw (upd_same n.map j m.none, upd_same n.stg j m.none, upd_same n.tr j m.Transfer.Shut) e)
-
--- the same, of a leg that came
-pub held_back : (f : ℕ → Station) (n : m.Nodes) (j : ℕ) (s : Station) → Held f n → Holds false s (n.ver j) m.none m.none m.Transfer.Shut
-    → Held (upd f j s) (record { ver = n.ver; map = m.upd n.map j m.none; stg = m.upd n.stg j m.none; tr = m.upd n.tr j m.Transfer.Shut; off = m.upd n.off j false })
-held_back f n j s h e =
-    held-beside f n (record { ver = n.ver; map = m.upd n.map j m.none; stg = m.upd n.stg j m.none; tr = m.upd n.tr j m.Transfer.Shut; off = m.upd n.off j false }) j s h
-    (record { ver = λ k q. refl; map = λ k q. upd_other n.map j k m.none q; stg = λ k q. upd_other n.stg j k m.none q; tr = λ k q. upd_other n.tr j k m.Transfer.Shut q; off = λ k q. upd_other n.off j k false q })
-    (rw (upd_same n.map j m.none, upd_same n.stg j m.none, upd_same n.tr j m.Transfer.Shut, upd_same n.off j false) e)

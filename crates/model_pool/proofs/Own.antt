@@ -1,13 +1,12 @@
 -- A node's own events keep the invariant.
 use mathlib.Core.Path.{◌≡◌, refl, sym, ◌∙◌}
 use mathlib.Core.Bool.{Bool, true, false}
-use mathlib.Core.Logic.{◌≢◌}
 use Prim.Native.Nat.{ℕ}
 use native.Mathlib.Omega.{arith}
 use lib.Dec.{T}
 use Rattle.laws_words.specs.Tests.{clash, by_cases}
-use Rattle.model_pool.specs.Model.{upd, Base, Gather, Spread, Job, Idle, Get, LastIo, Enable, Leave, Info, Move, sourced, Transfer, Fate, none, Shut, got, opened, World}
-use Rattle.model_pool.specs.Invariant.{Full, Party, kept, Inv, lander}
+use Rattle.model_pool.specs.Model.{upd, Base, Gather, Spread, Job, Idle, Get, LastIo, Enable, Leave, Info, Move, sourced, none, Shut, got, opened, World}
+use Rattle.model_pool.specs.Invariant.{Full, Inv, lander}
 use Rattle.model_pool.specs.Steps.{lived, at_nodes, transfers}
 use Rattle.model_pool.proofs.Ground.{split, upd_same, upd_other, at-upd}
 use Rattle.model_pool.proofs.ModelNodes.{Changes, changed}
@@ -23,16 +22,6 @@ on-lander P Info src to a b = a
 on-lander P (Move Base s) src to a b = a
 on-lander P (Move Gather s) src to a b = b tt
 on-lander P (Move Spread s) src to a b = a
-
--- a gather past MAP_READY has a source
-kept-sourced : (job : Job) (f : Fate) → T (kept job f) → T (sourced job)
-kept-sourced Idle f t = t
-kept-sourced Get f t = absurd t
-kept-sourced LastIo f t = tt
-kept-sourced Enable f t = tt
-kept-sourced Leave f t = t
-kept-sourced Info f t = t
-kept-sourced (Move k s) f t = tt
 
 -- ---- a node that never joined
 module _ (w : World) (i : Inv w) (j : ℕ) (e : w.past.ever j ≡ false) where
@@ -89,30 +78,6 @@ module _ (w : World) (i : Inv w) (j : ℕ) (e : w.past.ever j ≡ false) where
       out = i.out;
     }
 
-  -- it stands in any transfer: no run is with it
-  pub placed : (t : Transfer) → Inv (transfers w (upd w.nodes.stg j none) (upd w.nodes.tr j t))
-  placed t = record {
-    core = i.core;
-    quiet = i.quiet;
-    life = i.life;
-    acked = i.acked;
-    run = λ u. let r = i.run u in record {
-      all = r.all;
-      other = r.other;
-      asked = r.asked;
-      source = r.source;
-      top = r.top;
-      landed = r.landed;
-      staged = λ a. let q = on-lander (λ k. k ≢ j) w.hand.job w.hand.src w.hand.to (elsewhere r.other) (λ s. elsewhere (r.source s)) in
-          rw (upd_other w.nodes.tr j (lander w.hand.job w.hand.src w.hand.to) t q, upd_other w.nodes.stg j (lander w.hand.job w.hand.src w.hand.to) none q) (r.staged a);
-      gathers = λ a. let q = elsewhere (r.source (kept-sourced w.hand.job w.hand.fate a)) in rw (upd_other w.nodes.tr j w.hand.src t q, upd_other w.nodes.stg j w.hand.src none q) (r.gathers a);
-    };
-    out = i.out;
-  }
-    where
-      elsewhere : {k : ℕ} → Party w.pool.ses w.pool.mem w.past.been k → k ≢ j
-      elsewhere p q = clash p.joined (rw q not-been)
-
   -- it joins
   pub born : (create : Bool) → (create ≡ true → w.nodes.ver j ≡ 0) → Inv (lived w w.past.been (upd w.past.ever j true) (upd w.past.wait j create))
   born create z = record {
@@ -130,24 +95,6 @@ module _ (w : World) (i : Inv w) (j : ℕ) (e : w.past.ever j ≡ false) where
     run = i.run;
     out = i.out;
   }
-
--- the map of a store of version 0 is forgotten: it vouches for nothing
-pub blanked : (w : World) (i : Inv w) (j : ℕ) → w.nodes.ver j ≡ 0 → Inv (at_nodes w w.nodes.ver (upd w.nodes.map j none))
-blanked w i j z = record {
-  core = changed w.pool.ses w.pool.mark w.pool.mem w.past.been w.pool.version w.pool.closed w.past.owe w.past.owe w.nodes.ver w.nodes.ver w.nodes.map (upd w.nodes.map j none) i.core (record {
-    fewer = λ m c h. refl;
-    grows = λ k a b. omega arith;
-    within = λ k a b. i.core.behind k a b;
-    knows = λ k p m c h l. split k j
-        (λ q. let x : w.nodes.ver k ≡ 0 = rw q z in absurd (let y : ⊥ = omega arith in y))
-        (λ q. rw (upd_other w.nodes.map j k none q) (i.core.knows k p m c h l));
-  });
-  quiet = i.quiet;
-  life = i.life;
-  acked = i.acked;
-  run = i.run;
-  out = i.out;
-}
 
 -- a transfer is dropped
 module _ (w : World) (j : ℕ) (i : Inv w) where

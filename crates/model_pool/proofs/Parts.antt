@@ -3,12 +3,12 @@ use mathlib.Core.Path.{◌≡◌, refl, sym, ap, ◌∙◌, subst}
 use mathlib.Core.Bool.{Bool, true, false}
 use mathlib.Core.List.{List, [], ◌∷◌}
 use mathlib.Core.Logic.{◌≢◌}
-use Prim.Native.Nat.{ℕ, ◌+◌, ◌-◌, ◌%◌, ◌≤◌, ◌<◌}
+use Prim.Native.Nat.{ℕ, zero, suc, ◌+◌, ◌-◌, ◌%◌, ◌≤◌}
 use native.Mathlib.Decide.{dec_lt}
+use native.Mathlib.Nat.{add-zero, add_assoc}
 use native.Mathlib.Omega.{arith}
 use lib.Dec.{leb}
 use lib.ListN.{length, get_or}
-use lib.Bits.{bit_or}
 use borrow.Author.Tests.{leb-true, leb-false}
 use Rattle.laws_words.specs.Words.{pick, bit}
 use Rattle.laws_words.specs.Tests.{clash, by_cases}
@@ -16,18 +16,17 @@ use Rattle.laws_words.specs.Bits.{bit-or, bit-lt}
 use Rattle.rules_base.specs.Limits.{map_bytes}
 use Rattle.rules_base.specs.Chunk.{byte_of, dirty}
 use Rattle.rules_base.proofs.Chunk.{dirty-there}
-use Rattle.rules_base.specs.Map.{clean_from}
+use Rattle.rules_base.specs.Map.{or_from, or_in, clean_from}
 use Rattle.rules_base.proofs.Chunks.{placed}
 use Rattle.rules_base.proofs.Sound.{sound-fact}
 use Rattle.rules_base.specs.Parts.{part_of, or_part}
-use Rattle.rules_base.proofs.Joined.{part-in, part-before, part-past, length-part_of, get_d-part_of}
+use Rattle.rules_base.proofs.Joined.{part-in, part-before, part-past, length_part, length-part_of, parts_none, parts_more, parts_whole}
 use Rattle.rules_pool.specs.declared.Brought.{Brought}
 use Rattle.rules_pool.specs.declared.Reply.{Reply}
 use Rattle.rules_node.specs.declared.Answer.{Answer}
 use Rattle.rules_node.specs.declared.Transfer.{Transfer}
 use Rattle.rules_node.specs.declared.Node.{Node}
-use Rattle.rules_node.specs.States.{is_joined, in_hand}
-use Rattle.rules_node.specs.States as states
+use Rattle.rules_node.specs.States.{in_hand, taken}
 use Rattle.rules_node.specs.Change.{transferred}
 use Rattle.rules_node.specs.Serve.{give_part_refusal}
 use Rattle.laws_node.proofs.ServeKeeps.{give_part-passed}
@@ -36,6 +35,7 @@ use Rattle.laws_node.proofs.HandKeeps.{take_part-passed}
 use Rattle.rules_node.specs.Carry.{map_after, staging_after, taken_in}
 use Rattle.rules_node.specs.Events.{Event}
 use Rattle.rules_node.specs.Face.{map_by, staging_by}
+use Rattle.rules_node.specs.Cuts.{total}
 use Rattle.laws_node.proofs.Theorems.{law}
 use Rattle.rules_node.specs.Turns.{is_accepted}
 use Rattle.rules_world.specs.Station.{Station, does}
@@ -44,11 +44,8 @@ use Rattle.theorem_honest.proofs.Ground.{upd_same, upd_other}
 use Rattle.model_pool.specs.Model as m
 use Rattle.model_pool.proofs.Ground.{split}
 use Rattle.model_pool.specs.Holds.{transfer_of, Holds, Sane}
-use Rattle.model_pool.specs.Reflects.{Parted}
-use Rattle.model_pool.proofs.Bits.{dirty-in}
+use Rattle.model_pool.proofs.Bits.{dirty-in, from_either}
 use Rattle.model_pool.proofs.Did.{lent, took, stays}
-
--- ---- a part
 
 -- a part ORed in clears no bit
 stays-part : (a : ℕ) (part xs : List ℕ) (n c : ℕ) → length xs ≡ 8192 → dirty xs n c ≡ 1 → dirty (or_part a part xs) n c ≡ 1
@@ -65,41 +62,31 @@ stays-part a part xs n c l h =
       ]
     ]
 
--- and sets those that it has
-gets-part : (a l : ℕ) (zs xs : List ℕ) (n c : ℕ) → length xs ≡ 8192 → a + l ≤ length zs → a ≤ byte_of n c → byte_of n c < a + l → dirty zs n c ≡ 1 → dirty (or_part a (part_of a l zs) xs) n c ≡ 1
-gets-part a l zs xs n c e w x y h =
-    let i = dirty-in zs n c h in
-    let k = byte_of n c in
-    let b = placed xs n c e i.0 i.1 in
-    let was = sym (dirty-there zs n c i.0 i.1) ∙ h in
-    let m = length-part_of a l zs w in
-    let g : get_or (part_of a l zs) (byte_of n c - a) 0 ≡ get_or zs (byte_of n c) 0 = get_d-part_of a l zs (byte_of n c - a) (omega arith) ∙ (let q : a + (byte_of n c - a) ≡ byte_of n c = omega arith in ap (λ (j : ℕ). get_or zs j 0) q) in
-    dirty-there (or_part a (part_of a l zs) xs) n c i.0 i.1
-    ∙ (ap (λ (z : ℕ). bit z (c % 8)) (part-in a (part_of a l zs) xs (byte_of n c) b x (omega (arith, m)))
-    ∙ (ap (λ (z : ℕ). bit (bit_or (get_or xs (byte_of n c) 0) z) (c % 8)) g
-    ∙ (bit-or (get_or xs (byte_of n c) 0) (get_or zs (byte_of n c) 0) (c % 8) ∙ (let q = bit-lt (get_or xs (byte_of n c) 0) (c % 8) in omega (arith, was)))))
-
-module _ (chunks from to : ℕ) (f : ℕ → Station) (sane : (k : ℕ) → Sane chunks k (f k)) (o l : ℕ) where
+module _ (chunks from to : ℕ) (f : ℕ → Station) (sane : (k : ℕ) → Sane chunks k (f k)) where
   abbrev zs : List ℕ
   zs = (f from).map
 
-  abbrev d : Delivered
-  d = send (l ∷ []) o from to f
+  -- the receiver has taken the bytes below o
+  record Partly (o : ℕ) (g : ℕ → Station) : Type 0 where
+    others : (k : ℕ) → k ≢ to → g k ≡ f k
+    node : (g to).node ≡ transferred (f to).node (Transfer.InHand o)
+    map : (g to).map ≡ (f to).map
+    staging : (g to).staging ≡ or_from 0 o (f to).staging zs
+    kept : (n c : ℕ) → dirty (f to).staging n c ≡ 1 → dirty (g to).staging n c ≡ 1
+    size : length (g to).staging ≡ 8192
+    most : o ≤ 8192
 
-  -- the part was taken
-  pub record Took : Type 0 where
-    pub others : (k : ℕ) → k ≢ to → d.nodes k ≡ f k
-    pub was : (f to).node.transfer ≡ Transfer.InHand o
-    pub node : (d.nodes to).node ≡ transferred (f to).node (Transfer.InHand (o + l))
-    pub map : (d.nodes to).map ≡ (f to).map
-    pub kept : (n c : ℕ) → dirty (f to).staging n c ≡ 1 → dirty (d.nodes to).staging n c ≡ 1
-    pub got : (n c : ℕ) → o ≤ byte_of n c → byte_of n c < o + l → dirty zs n c ≡ 1 → dirty (d.nodes to).staging n c ≡ 1
-    pub most : o + l ≤ 8192
+  len-zs : length zs ≡ 8192
+  len-zs = (sound-fact (f from).node.chunks (f from).map (sane from).good.map).len
 
-  -- or it was refused, and nothing changed
-  pub data Sent : Type 0 where
-    refused : ((k : ℕ) → d.nodes k ≡ f k) → d.reply ≡ Reply.Failed → Sent
-    taken : Took → d.reply ≡ Reply.Good Brought.Nothing → Sent
+  source : (o : ℕ) (g : ℕ → Station) → Partly o g → (g from).map ≡ zs
+  source o g p = split from to (λ q. rw q p.map) (λ q. ap (λ (x : Station). x.map) (p.others from q))
+
+  -- what a delivery came to, o bytes having been taken before it
+  record Came (o : ℕ) (ls : List ℕ) (d : Delivered) : Type 0 where
+    bytes : ℕ
+    partly : Partly bytes d.nodes
+    all : (b : Brought) → d.reply ≡ Reply.Good b → bytes ≡ o + total ls
 
   never : {A : Type 0} (b : Brought) → Reply.Failed ≡ Reply.Good b → A
   never b e = absurd (let z : ◌≡◌ {A = ℕ} 0 1 = cc in let y : ⊥ = omega arith in y)
@@ -114,108 +101,147 @@ module _ (chunks from to : ℕ) (f : ℕ → Station) (sane : (k : ℕ) → Sane
   was-bad Answer.Done e = never Brought.Nothing (sym e)
   was-bad (Answer.Version v) e = never (Brought.Version v) (sym e)
 
-  len-zs : length zs ≡ 8192
-  len-zs = (sound-fact (f from).node.chunks (f from).map (sane from).good.map).len
+  -- both were good, or the first or the second was not
+  choose : (P : Delivered → Type 0) (p q : Reply) (next this stop : Delivered) → (p ≡ Reply.Failed → P stop) → (q ≡ Reply.Failed → P this) → ((b c : Brought) → p ≡ Reply.Good b → q ≡ Reply.Good c → P next) → P (if_good p (if_good q next this) stop)
+  choose P Reply.Failed q next this stop x y z = x refl
+  choose P (Reply.Good b) Reply.Failed next this stop x y z = y refl
+  choose P (Reply.Good b) (Reply.Good c) next this stop x y z = z b c refl refl
 
-  len-staging : length (f to).staging ≡ 8192
-  len-staging = (sound-fact (f to).node.chunks (f to).staging (sane to).good.staging).len
-
-  abbrev s' : Station
-  s' = (takes_from o l from to f).station
-
-  at_place : (t : Transfer) → in_hand t ≡ true → o ≡ states.taken t → t ≡ Transfer.InHand o
-  at_place Transfer.Nothing e q = clash e refl
-  at_place (Transfer.InHand bytes) e q = ap Transfer.InHand (sym q)
-
-  took_it : is_accepted (does (f from) (Event.give_part o l)).answer ≡ true → is_accepted (takes_from o l from to f).answer ≡ true → d ≡ record { nodes = upd f to s'; reply = Reply.Good Brought.Nothing } → Took
-  unfolding law part_taken transferred map_by staging_by map_after staging_after taken_in give_part_refusal take_part_refusal
-  took_it x y e =
-      let a = (give_part-passed (f from).node (lent (f from)) o l (took (Event.give_part o l) (f from) x).none).1 in
+  -- one more part
+  one : (o l : ℕ) (g : ℕ → Station) → Partly o g → is_accepted (does (g from) (Event.give_part o l)).answer ≡ true → is_accepted (takes_from o l from to g).answer ≡ true → Partly (o + l) (upd g to (takes_from o l from to g).station)
+  unfolding law part_taken transferred map_by staging_by map_after staging_after taken_in give_part_refusal
+  one o l g p x y =
+      let a = (give_part-passed (g from).node (lent (g from)) o l (took (Event.give_part o l) (g from) x).none).1 in
       let w : o + l ≤ 8192 = a.within in
-      let t = took (Event.take_part o (part_of o l zs)) (f to) y in
+      let z = source o g p in
+      let t = took (Event.take_part o (part_of o l (g from).map)) (g to) y in
       let n : length (part_of o l zs) ≡ l = length-part_of o l zs (omega (arith, len-zs, w)) in
-      let s : d.nodes to ≡ _ = ap (λ (u : Delivered). u.nodes to) e ∙ (upd_same f to s' ∙ t.is) in
-      let z = take_part-passed (f to).node (lent (f to)) o (length (part_of o l zs)) (clean_from (f to).node.chunks o (part_of o l zs)) t.none in
+      let n' : length (part_of o l (g from).map) ≡ l = ap (λ (u : List ℕ). length (part_of o l u)) z ∙ n in
+      let s = upd_same g to (takes_from o l from to g).station ∙ t.is in
       record {
-        others = λ k q. ap (λ (u : Delivered). u.nodes k) e ∙ upd_other f to k s' q;
-        was = at_place (f to).node.transfer z.0.from z.1.here;
-        node = ap (λ (u : Station). u.node) s ∙ ap (λ (u : ℕ). transferred (f to).node (Transfer.InHand (o + u))) n;
-        map = ap (λ (u : Station). u.map) s;
-        kept = λ i c h. subst (λ (u : Station). dirty u.staging i c ≡ 1) (sym s) (stays-part o (part_of o l zs) (f to).staging i c len-staging h);
-        got = λ i c b b' h. subst (λ (u : Station). dirty u.staging i c ≡ 1) (sym s) (gets-part o l zs (f to).staging i c len-staging (omega (arith, len-zs, w)) b b' h);
+        others = λ k q. upd_other g to k (takes_from o l from to g).station q ∙ p.others k q;
+        node = ap (λ (u : Station). u.node) s ∙ (ap (λ (u : Node). transferred u (Transfer.InHand (o + length (part_of o l (g from).map)))) p.node ∙ ap (λ (u : ℕ). transferred (f to).node (Transfer.InHand (o + u))) n');
+        map = ap (λ (u : Station). u.map) s ∙ p.map;
+        staging = ap (λ (u : Station). u.staging) s ∙ (ap (λ (u : List ℕ). or_part o (part_of o l u) (g to).staging) z ∙ (ap (or_part o (part_of o l zs)) p.staging ∙ parts_more o l (f to).staging zs (omega (arith, len-zs, w))));
+        kept = λ i c h. subst (λ (u : Station). dirty u.staging i c ≡ 1) (sym s) (stays-part o (part_of o l (g from).map) (g to).staging i c p.size (p.kept i c h));
+        size = ap (λ (u : Station). length u.staging) s ∙ (length_part o (part_of o l (g from).map) (g to).staging ∙ p.size);
         most = w;
       }
 
-  pub sent : Sent
-  unfolding send
-  sent = at (reply_of (does (f from) (Event.give_part o l)).answer) (reply_of (takes_from o l from to f).answer) refl refl
-    where
-      same : is_accepted (takes_from o l from to f).answer ≡ false → (k : ℕ) → upd f to s' k ≡ f k
-      same z k = split k to
-          (λ q. rw (q, upd_same f to s') (stays (Event.take_part o (part_of o l zs)) (f to) z))
-          (λ q. upd_other f to k s' q)
+  -- a part that was refused, by either node
+  not-given : (o l : ℕ) (ls : List ℕ) (g : ℕ → Station) → Partly o g → Came o (l ∷ ls) (record { nodes = g; reply = Reply.Failed })
+  not-given o l ls g p = record { bytes = o; partly = p; all = λ b e. never b e }
 
-      at : (p q : Reply) → reply_of (does (f from) (Event.give_part o l)).answer ≡ p → reply_of (takes_from o l from to f).answer ≡ q → Sent
-      at Reply.Failed q x y = refused (λ k. ap (λ (u : Delivered). u.nodes k) e) (ap (λ (u : Delivered). u.reply) e)
-        where
-          e : d ≡ record { nodes = f; reply = Reply.Failed }
-          e = ap (λ (u : Reply). if_good u (if_good (reply_of (takes_from o l from to f).answer) (record { nodes = upd f to s'; reply = Reply.Good Brought.Nothing }) (by_one f to (takes_from o l from to f))) (record { nodes = f; reply = Reply.Failed })) x
-      at (Reply.Good b) Reply.Failed x y = refused (λ k. ap (λ (u : Delivered). u.nodes k) e ∙ same (was-bad (takes_from o l from to f).answer y) k) (ap (λ (u : Delivered). u.reply) e ∙ y)
-        where
-          e : d ≡ by_one f to (takes_from o l from to f)
-          e = (λ i. if_good (x i) (if_good (y i) (record { nodes = upd f to s'; reply = Reply.Good Brought.Nothing }) (by_one f to (takes_from o l from to f))) (record { nodes = f; reply = Reply.Failed }))
-      at (Reply.Good b) (Reply.Good c) x y = taken (took_it (was-good (does (f from) (Event.give_part o l)).answer b x) (was-good (takes_from o l from to f).answer c y) e) (ap (λ (u : Delivered). u.reply) e)
-        where
-          e : d ≡ record { nodes = upd f to s'; reply = Reply.Good Brought.Nothing }
-          e = (λ i. if_good (x i) (if_good (y i) (record { nodes = upd f to s'; reply = Reply.Good Brought.Nothing }) (by_one f to (takes_from o l from to f))) (record { nodes = f; reply = Reply.Failed }))
+  not_taken : (o l : ℕ) (ls : List ℕ) (g : ℕ → Station) → Partly o g → is_accepted (takes_from o l from to g).answer ≡ false → Came o (l ∷ ls) (by_one g to (takes_from o l from to g))
+  not_taken o l ls g p y =
+      let s = upd_same g to (takes_from o l from to g).station ∙ stays (Event.take_part o (part_of o l (g from).map)) (g to) y in
+      record {
+        bytes = o;
+        partly = record {
+          others = λ k q. upd_other g to k (takes_from o l from to g).station q ∙ p.others k q;
+          node = ap (λ (u : Station). u.node) s ∙ p.node;
+          map = ap (λ (u : Station). u.map) s ∙ p.map;
+          staging = ap (λ (u : Station). u.staging) s ∙ p.staging;
+          kept = λ i c h. subst (λ (u : Station). dirty u.staging i c ≡ 1) (sym s) (p.kept i c h);
+          size = ap (λ (u : Station). length u.staging) s ∙ p.size;
+          most = p.most;
+        };
+        all = λ b e. clash (was-good (takes_from o l from to g).answer b e) y;
+      }
+
+  -- one part, given and taken, and the rest
+  then : (o l : ℕ) (ls : List ℕ) (d : Delivered) → Came (o + l) ls d → Came o (l ∷ ls) d
+  then o l ls d r = record { bytes = r.bytes; partly = r.partly; all = λ b e. r.all b e ∙ add_assoc o l (total ls) }
+
+  parts : (ls : List ℕ) (o : ℕ) (g : ℕ → Station) → Partly o g → Came o ls (send ls o from to g)
+  unfolding send
+  parts [] o g p = record { bytes = o; partly = p; all = λ b e. sym (add-zero o) }
+  parts (l ∷ ls) o g p =
+      choose (Came o (l ∷ ls)) (reply_of (does (g from) (Event.give_part o l)).answer) (reply_of (takes_from o l from to g).answer) _ _ _
+      (λ x. not-given o l ls g p)
+      (λ y. not_taken o l ls g p (was-bad (takes_from o l from to g).answer y))
+      (λ b c x y. then o l ls _ (parts ls (o + l) (upd g to (takes_from o l from to g).station) (one o l g p (was-good (does (g from) (Event.give_part o l)).answer b x) (was-good (takes_from o l from to g).answer c y))))
+
+  -- ---- where a transfer begins, and where none can
+  begins : (f to).node.transfer ≡ Transfer.InHand 0 → Partly 0 f
+  unfolding transferred
+  begins e = record {
+    others = λ k q. refl;
+    node = ap (λ (t : Transfer). transferred (f to).node t) e;
+    map = refl;
+    staging = sym (parts_none (f to).staging zs);
+    kept = λ i c h. h;
+    size = (sound-fact (f to).node.chunks (f to).staging (sane to).good.staging).len;
+    most = omega arith;
+  }
+
+  -- nothing of it was taken
+  record Untouched (ls : List ℕ) (d : Delivered) : Type 0 where
+    same : (k : ℕ) → d.nodes k ≡ f k
+    none : (b : Brought) → d.reply ≡ Reply.Good b → total ls ≡ 0
+
+  untouched : ((f to).node.transfer ≡ Transfer.InHand 0 → ⊥) → (ls : List ℕ) → Untouched ls (send ls 0 from to f)
+  unfolding send take_part_refusal
+  untouched never-there [] = record { same = λ k. refl; none = λ b e. refl }
+  untouched never-there (l ∷ ls) =
+      choose (Untouched (l ∷ ls)) (reply_of (does (f from) (Event.give_part 0 l)).answer) (reply_of (takes_from 0 l from to f).answer) _ _ _
+      (λ x. record { same = λ k. refl; none = λ b e. never b e })
+      (λ y. let z = was-bad (takes_from 0 l from to f).answer y in record {
+        same = λ k. split k to (λ q. rw (q, upd_same f to (takes_from 0 l from to f).station) (stays (Event.take_part 0 (part_of 0 l (f from).map)) (f to) z)) (λ q. upd_other f to k (takes_from 0 l from to f).station q);
+        none = λ b e. never b (sym y ∙ e);
+      })
+      (λ b c x y.
+      let t = take_part-passed (f to).node (lent (f to)) 0 (length (part_of 0 l (f from).map)) (clean_from (f to).node.chunks 0 (part_of 0 l (f from).map)) (took (Event.take_part 0 (part_of 0 l (f from).map)) (f to) (was-good (takes_from 0 l from to f).answer c y)).none in
+      absurd (never-there (at_zero (f to).node.transfer t.0.from t.1.here)))
+    where
+      at_zero : (t : Transfer) → in_hand t ≡ true → 0 ≡ taken t → t ≡ Transfer.InHand 0
+      at_zero Transfer.Nothing e q = clash e refl
+      at_zero (Transfer.InHand bytes) e q = ap Transfer.InHand (sym q)
 
   -- ---- as it is seen
-  module _ (off off' : Bool) (v v' : ℕ) (a g a' g' : m.Map) (t t' : m.Transfer) (h : Holds off (f to) v a g t) (h' : Holds off' (f from) v' a' g' t') (k : Took) where
-    abbrev r : Station
-    r = d.nodes to
+  module _ (v v' : ℕ) (a g a' g' : m.Map) (t t' : m.Transfer) (h : Holds (f to) v a g t) (h' : Holds (f from) v' a' g' t') where
+    -- the receiver is what it was, if not for what was added to staging; or it has taken all of the source's map
+    pub data Sent (ls : List ℕ) (d : Delivered) : Type 0 where
+      part : Holds (d.nodes to) v a g t → ((b : Brought) → d.reply ≡ Reply.Good b → total ls ≡ 8192 → ⊥) → Sent ls d
+      whole : m.opened t ≡ true → Holds (d.nodes to) v a (m.merge g a') m.Transfer.Got → Sent ls d
 
-    -- more is to come: nothing is seen of it
-    pub more : leb map_bytes (o + l) ≡ false → Holds off r v a g t
+    begun : (f to).node.transfer ≡ Transfer.InHand 0 → m.Transfer.Begun ≡ t
+    begun e = ap transfer_of (sym e) ∙ h.tr
+
+    some : (f to).node.transfer ≡ Transfer.InHand 0 → (ls : List ℕ) (d : Delivered) → Came 0 ls d → Sent ls d
     unfolding transferred
-    more q = record {
-      ver = λ y. ap (λ (x : Node). x.version) k.node ∙ h.ver y;
-      away = λ y. (ap (λ (x : Node). is_joined x.state) k.node ∙ (h.away y).0, (h.away y).1);
-      map = λ n c u. subst (λ (xs : List ℕ). dirty xs n c ≡ 1) (sym k.map) (h.map n c u);
-      stg = λ n c u. k.kept n c (h.stg n c u);
-      tr = ap (λ (x : Node). transfer_of x.transfer) k.node ∙ (ap (λ (x : Bool). pick x m.Transfer.Got m.Transfer.Begun) q ∙ (ap (λ (x : Bool). pick x m.Transfer.Got m.Transfer.Begun) (sym below) ∙ (ap transfer_of (sym k.was) ∙ h.tr)));
-    }
+    some e ls d c = by_cases (leb map_bytes c.bytes) full less
       where
-        below : leb map_bytes o ≡ false
-        below = by_cases (leb map_bytes o) (λ z. absurd (let y = leb-true map_bytes o z in let x = leb-false map_bytes (o + l) q in let w : ⊥ = omega arith in w)) (λ z. z)
+        full : leb map_bytes c.bytes ≡ true → Sent ls d
+        full q =
+            let l = leb-true map_bytes c.bytes q in
+            let i : c.bytes ≡ 8192 = (let u = c.partly.most in omega arith) in
+            let z : (d.nodes to).staging ≡ or_in (f to).staging zs = c.partly.staging ∙ (ap (λ (x : ℕ). or_from 0 x (f to).staging zs) i ∙ parts_whole (f to).staging zs (sound-fact (f to).node.chunks (f to).staging (sane to).good.staging).len len-zs) in
+            whole (ap m.opened (sym (begun e))) (record {
+              ver = ap (λ (x : Node). x.version) c.partly.node ∙ h.ver;
+              map = λ n k u. subst (λ (xs : List ℕ). dirty xs n k ≡ 1) (sym c.partly.map) (h.map n k u);
+              stg = λ n k u. subst (λ (xs : List ℕ). dirty xs n k ≡ 1) (sym z)
+                  (let b = from_either (f to).staging zs n k (sound-fact (f to).node.chunks (f to).staging (sane to).good.staging).len len-zs in
+                  by_cases (g n k) (λ y. b.0 (h.stg n k y)) (λ y. b.1 (h'.map n k (rw y at u))));
+              tr = ap (λ (x : Node). transfer_of x.transfer) c.partly.node ∙ rw q refl;
+            })
 
-    pub parted : Parted o a' (f to) → Parted (o + l) a' r
-    parted p e n c b u = elim (dec_lt (byte_of n c) o) [
-      | yes y ↦ k.kept n c (p k.was n c y u)
-      | no y ↦ k.got n c (omega arith) b (h'.map n c u)
-    ]
+        less : leb map_bytes c.bytes ≡ false → Sent ls d
+        less q = part (record {
+          ver = ap (λ (x : Node). x.version) c.partly.node ∙ h.ver;
+          map = λ n k u. subst (λ (xs : List ℕ). dirty xs n k ≡ 1) (sym c.partly.map) (h.map n k u);
+          stg = λ n k u. c.partly.kept n k (h.stg n k u);
+          tr = ap (λ (x : Node). transfer_of x.transfer) c.partly.node ∙ (ap (λ (x : Bool). pick x m.Transfer.Got m.Transfer.Begun) q ∙ begun e);
+        }) (λ b r w. let y = leb-false map_bytes c.bytes q in let z = c.all b r in omega arith)
 
-    -- all came
-    pub opened : m.opened t ≡ true
-    opened = ap m.opened (sym h.tr) ∙ (ap (λ (x : Transfer). m.opened (transfer_of x)) k.was ∙ is_open (leb map_bytes o))
+    -- any parts
+    pub sent : (ls : List ℕ) → ((k : ℕ) → k ≢ to → (send ls 0 from to f).nodes k ≡ f k) × Sent ls (send ls 0 from to f)
+    sent ls = go (f to).node.transfer refl
       where
-        is_open : (b : Bool) → m.opened (pick b m.Transfer.Got m.Transfer.Begun) ≡ true
-        is_open true = refl
-        is_open false = refl
+        nothing : ((f to).node.transfer ≡ Transfer.InHand 0 → ⊥) → ((k : ℕ) → k ≢ to → (send ls 0 from to f).nodes k ≡ f k) × Sent ls (send ls 0 from to f)
+        nothing n = let u = untouched n ls in ((λ k q. u.same k), part (subst (λ (x : Station). Holds x v a g t) (sym (u.same to)) h) (λ b r w. let z = u.none b r in omega arith))
 
-    pub whole : leb map_bytes (o + l) ≡ true → Parted o a' (f to) → Holds off r v a (m.merge g a') m.Transfer.Got
-    unfolding transferred
-    whole q p = record {
-      ver = λ y. ap (λ (x : Node). x.version) k.node ∙ h.ver y;
-      away = λ y. (ap (λ (x : Node). is_joined x.state) k.node ∙ (h.away y).0, (h.away y).1);
-      map = λ n c u. subst (λ (xs : List ℕ). dirty xs n c ≡ 1) (sym k.map) (h.map n c u);
-      stg = λ n c u. by_cases (g n c)
-          (λ y. k.kept n c (h.stg n c y))
-          (λ y. let w : a' n c ≡ true = rw y at u in parted' n c w);
-      tr = ap (λ (x : Node). transfer_of x.transfer) k.node ∙ ap (λ (x : Bool). pick x m.Transfer.Got m.Transfer.Begun) q;
-    }
-      where
-        parted' : (n c : ℕ) → a' n c ≡ true → dirty r.staging n c ≡ 1
-        parted' n c w =
-            let i = dirty-in zs n c (h'.map n c w) in
-            let b = placed zs n c len-zs i.0 i.1 in
-            parted p (ap (λ (x : Node). x.transfer) k.node) n c (let y = leb-true map_bytes (o + l) q in omega (arith, len-zs, b)) w
+        go : (x : Transfer) → (f to).node.transfer ≡ x → ((k : ℕ) → k ≢ to → (send ls 0 from to f).nodes k ≡ f k) × Sent ls (send ls 0 from to f)
+        go Transfer.Nothing e = nothing (λ q. let z : Transfer.Nothing ≡ Transfer.InHand 0 = sym e ∙ q in absurd (let y : ◌≡◌ {A = ℕ} 0 1 = cc in let w : ⊥ = omega arith in w))
+        go (Transfer.InHand zero) e = let c = parts ls 0 f (begins e) in (c.partly.others, some e ls (send ls 0 from to f) c)
+        go (Transfer.InHand (suc b)) e = nothing (λ q. let z : Transfer.InHand (suc b) ≡ Transfer.InHand 0 = sym e ∙ q in absurd (let y : suc b ≡ 0 = cc in let w : ⊥ = omega arith in w))

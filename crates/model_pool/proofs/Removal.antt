@@ -198,7 +198,7 @@ pub removes : (p : Pool) (sound : Bool) (id : ℕ) (mode : Mode) (w : m.World) �
     → RemovedBy (remove p sound id mode) id mode w
 unfolding remove
 removes p sound id mode w v y k o =
-    picked (λ (t : Turn). RemovedBy t id mode w) (eqb (remove_refusal p sound id mode) 0) (gone (remove_begun p id mode)) (refused p (remove_refusal p sound id mode))
+    picked (λ (t : Turn). RemovedBy t id mode w) (eqb (remove_refusal p sound id mode) 0) (gone p (remove_begun p id mode)) (refused p (remove_refusal p sound id mode))
     (λ e. let z = eqb-true (remove_refusal p sound id mode) 0 e in begins p id mode w v y k (given p sound id mode z) (o z))
     (λ e. tt)
 

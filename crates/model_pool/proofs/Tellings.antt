@@ -18,7 +18,7 @@ use Rattle.rules_pool.specs.Exit.{refused}
 use Rattle.rules_client.specs.Links.{down_refusal, down_at, down_done, link_down, check_refusal, check_done, store_check, rejoin_refusal, rejoin, try_refusal, try_run}
 use Rattle.rules_client.specs.Enables.{enable_refusal, enable_done, enable, maintenance_refusal, maintenance_done, maintenance}
 use Rattle.rules_client.specs.Answers.{answer_refusal, answered, answer}
-use Rattle.rules_world.specs.Together.{told_in}
+use Rattle.rules_world.specs.Whole.{told_in}
 
 -- of anything that holds of no message: so of a turn that is done or refused
 module _ (P : Told → Type 0) (nothing : P Told.Nothing) where

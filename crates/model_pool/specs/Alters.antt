@@ -22,7 +22,7 @@ join_taken t id = record { owe = t.owe; acked = t.acked; been = m.upd t.been id 
 
 -- every node without the row of id
 abbrev pub row_gone : m.Nodes → ℕ → m.Nodes
-row_gone n id = record { ver = n.ver; map = s.rowless id n.map; stg = n.stg; tr = n.tr; off = n.off }
+row_gone n id = record { ver = n.ver; map = s.rowless id n.map; stg = n.stg; tr = n.tr }
 
 -- node id enabled by hand, with the pool's version and members
 abbrev pub by_hand : m.World → ℕ → m.Nodes
@@ -31,7 +31,6 @@ by_hand w id = record {
   map = m.upd w.nodes.map id (m.within w.pool.mem (w.nodes.map id));
   stg = m.upd w.nodes.stg id m.none;
   tr = m.upd w.nodes.tr id m.Transfer.Shut;
-  off = w.nodes.off;
 }
 
 -- chunk c was written to every NORMAL node, and acknowledged
@@ -43,7 +42,7 @@ written_in w c = (s.written c w).past
 
 -- chunk c of m was synced
 abbrev pub synced_at : m.Nodes → ℕ → ℕ → m.Nodes
-synced_at n i c = record { ver = n.ver; map = s.bitless i c n.map; stg = n.stg; tr = n.tr; off = n.off }
+synced_at n i c = record { ver = n.ver; map = s.bitless i c n.map; stg = n.stg; tr = n.tr }
 
 abbrev pub synced_in : m.Past → ℕ → ℕ → m.Past
 synced_in t i c = record { owe = m.upd t.owe i (m.upd (t.owe i) c 0); acked = t.acked; been = t.been; ever = t.ever; wait = t.wait }

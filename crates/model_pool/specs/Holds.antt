@@ -1,10 +1,9 @@
 -- A node seen as one of the simplified pool: its stored version and its transfer as they are, and of its two maps that they hold at least what is seen.
-use Rattle.std.specs.Prelude.{◌≡◌, Bool, true, false, ℕ, leb}
+use Rattle.std.specs.Prelude.{◌≡◌, true, ℕ, leb}
 use Rattle.laws_words.specs.Words.{pick}
 use Rattle.rules_base.specs.Limits.{map_bytes}
 use Rattle.rules_base.specs.Chunk.{dirty}
 use Rattle.rules_node.specs.declared.Transfer.{Transfer}
-use Rattle.rules_node.specs.States.{is_joined}
 use Rattle.laws_node.proofs.Theorems.{Good}
 use Rattle.rules_world.specs.Station.{Station, face}
 use Rattle.model_pool.specs.Model as m
@@ -13,17 +12,15 @@ abbrev pub transfer_of : Transfer → m.Transfer
 transfer_of Transfer.Nothing = m.Transfer.Shut
 transfer_of (Transfer.InHand bytes) = pick (leb map_bytes bytes) m.Transfer.Got m.Transfer.Begun
 
--- off: nothing is said of its version but that it counts as 0; it has not joined
-pub record Holds (off : Bool) (s : Station) (v : ℕ) (f g : m.Map) (t : m.Transfer) : Type 0 where
-  pub ver : off ≡ false → s.node.version ≡ v
-  pub away : off ≡ true → (is_joined s.node.state ≡ false) × (v ≡ 0)
+pub record Holds (s : Station) (v : ℕ) (f g : m.Map) (t : m.Transfer) : Type 0 where
+  pub ver : s.node.version ≡ v
   pub map : (n c : ℕ) → f n c ≡ true → dirty s.map n c ≡ 1
   pub stg : (n c : ℕ) → g n c ≡ true → dirty s.staging n c ≡ 1
   pub tr : transfer_of s.node.transfer ≡ t
 
 -- the nodes of all ids
 pub record Held (f : ℕ → Station) (n : m.Nodes) : Type 0 where
-  pub at : (j : ℕ) → Holds (n.off j) (f j) (n.ver j) (n.map j) (n.stg j) (n.tr j)
+  pub at : (j : ℕ) → Holds (f j) (n.ver j) (n.map j) (n.stg j) (n.tr j)
 
 -- what stays true of a node: it keeps its rules and its two maps are sound; it is that of its id, with the pool's chunk count; one that is registered by create has version 0
 pub record Sane (chunks j : ℕ) (s : Station) : Type 0 where

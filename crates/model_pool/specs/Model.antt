@@ -186,13 +186,12 @@ pub record Hand : Type 0 where
   pub chosen : Bool
   pub says : ℕ
 
--- the nodes: stored versions, maps, staging, transfers; off: it is that of a leg that extend took in and that is to come, so nothing is said of its store
+-- the nodes: stored versions, maps, staging, transfers
 pub record Nodes : Type 0 where
   pub ver : ℕ → ℕ
   pub map : ℕ → Map
   pub stg : ℕ → Map
   pub tr : ℕ → Transfer
-  pub off : ℕ → Bool
 
 -- What is remembered of the events so far, and no side holds. owe m c is 0, or the version sent with the earliest acknowledged write of chunk c that missed m and stands; acked: the chunks of
 -- acknowledged writes; been: the client took the node's join; ever: the node joined; wait: it joined by create, and the client has not taken that join.

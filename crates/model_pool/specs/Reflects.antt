@@ -1,7 +1,5 @@
 -- A world of the rules seen as one of the simplified pool.
-use Rattle.std.specs.Prelude.{◌≡◌, true, false, ℕ, ◌<◌, T}
-use Rattle.rules_base.specs.Chunk.{byte_of, dirty}
-use Rattle.rules_pool.specs.declared.Message.{Message}
+use Rattle.std.specs.Prelude.{◌≡◌, false, ℕ, T}
 use Rattle.rules_pool.specs.declared.Brought.{Brought}
 use Rattle.rules_pool.specs.declared.Reply.{Reply}
 use Rattle.rules_pool.specs.Jobs.{is_idle}
@@ -10,17 +8,11 @@ use Rattle.model_pool.specs.Model as m
 use Rattle.model_pool.specs.Steps as s
 use Rattle.model_pool.specs.Mirror.{awaited_of, Shows}
 use Rattle.model_pool.specs.Holds.{Held, Sane}
-use Rattle.rules_node.specs.declared.Transfer.{Transfer}
-use Rattle.rules_world.specs.Station.{Station}
 use Rattle.rules_world.specs.Whole.{Fate, World}
-
--- of a map sent to the node s, the bytes below o came: where its transfer is still at that place, staging has what the map f is seen to hold there
-abbrev pub Parted : ℕ → m.Map → Station → Type 0
-Parted o f s = s.node.transfer ≡ Transfer.InHand o → (n c : ℕ) → byte_of n c < o → f n c ≡ true → dirty s.staging n c ≡ 1
 
 -- what became of the awaited message: it is under way on both sides; or a good reply came, of a message that was accepted, to MAP_GET_VER with the version
 pub record Reads (f : Fate) (h : m.Hand) : Type 0 where
-  pub under : (o : ℕ) → f ≡ Fate.under_way o → h.fate ≡ m.Fate.Under
+  pub under : f ≡ Fate.under_way → h.fate ≡ m.Fate.Under
   pub good : (b : Brought) → f ≡ Fate.came (Reply.Good b) → (h.fate ≡ m.Fate.Taken) × (T (m.asks h.job) → b ≡ Brought.Version h.says)
 
 pub record Reflects (w : World) (a : m.World) : Type 0 where
@@ -31,7 +23,6 @@ pub record Reflects (w : World) (a : m.World) : Type 0 where
   pub held : Held w.nodes a.nodes
   pub awaits : is_idle w.pool.job ≡ false → w.awaited ≡ awaited_of w.pool
   pub reads : is_idle w.pool.job ≡ false → Reads w.fate a.hand
-  pub partly : is_idle w.pool.job ≡ false → (o from to : ℕ) → w.fate ≡ Fate.under_way o → w.awaited ≡ Message.Send from to → Parted o (a.nodes.map from) (w.nodes to)
 
 -- the world w is reached by a course from a, which remembers the same
 pub record Comes (w : World) (a : m.World) : Type 0 where
@@ -39,4 +30,3 @@ pub record Comes (w : World) (a : m.World) : Type 0 where
   pub course : s.Course a to
   pub reflects : Reflects w to
   pub past : to.past ≡ a.past
-  pub off : to.nodes.off ≡ a.nodes.off

@@ -48,15 +48,11 @@ heard w says' =
 
 -- stored versions and maps change
 abbrev pub at_nodes : World → (ℕ → ℕ) → (ℕ → Map) → World
-at_nodes w ver' map' = with_nodes w (record { ver = ver'; map = map'; stg = w.nodes.stg; tr = w.nodes.tr; off = w.nodes.off })
+at_nodes w ver' map' = with_nodes w (record { ver = ver'; map = map'; stg = w.nodes.stg; tr = w.nodes.tr })
 
 -- staging changes
 abbrev pub transfers : World → (ℕ → Map) → (ℕ → Transfer) → World
-transfers w stg' tr' = with_nodes w (record { ver = w.nodes.ver; map = w.nodes.map; stg = stg'; tr = tr'; off = w.nodes.off })
-
--- a leg is to come, or came
-abbrev pub turned : World → (ℕ → Bool) → World
-turned w off' = with_nodes w (record { ver = w.nodes.ver; map = w.nodes.map; stg = w.nodes.stg; tr = w.nodes.tr; off = off' })
+transfers w stg' tr' = with_nodes w (record { ver = w.nodes.ver; map = w.nodes.map; stg = stg'; tr = tr' })
 
 -- what is owed changes, and which chunks were acknowledged
 abbrev pub owing : World → (ℕ → ℕ → ℕ) → (ℕ → Bool) → World
@@ -174,17 +170,11 @@ pub data Next (w : World) : World → Type 0 where
   -- ---- a node's own events
   -- the store of a node that never joined is created, added or deleted: any version
   Stored : (j v : ℕ) → w.past.ever j ≡ false → Next w (at_nodes w (upd w.nodes.ver j v) (upd w.nodes.map j none))
-  -- it stands in any transfer
-  Placed : (j : ℕ) (t : Transfer) → w.past.ever j ≡ false → Next w (transfers w (upd w.nodes.stg j none) (upd w.nodes.tr j t))
   -- it joins for the first time, by create with version 0, or by assemble
   Born : (j : ℕ) (create : Bool) → w.past.ever j ≡ false → (create ≡ true → w.nodes.ver j ≡ 0)
       → Next w (lived w w.past.been (upd w.past.ever j true) (upd w.past.wait j create))
   -- a transfer is dropped: unregister, MAP_DISABLE, enable 0, leave
   Drop : (j : ℕ) → Next w (transfers w (upd w.nodes.stg j none) (upd w.nodes.tr j Shut))
-  -- a map with which a store of version 0 vouches for nothing is forgotten
-  Blank : (j : ℕ) → w.nodes.ver j ≡ 0 → Next w (at_nodes w w.nodes.ver (upd w.nodes.map j none))
-  -- a leg is to come, or came
-  Turned : (j : ℕ) (b : Bool) → Next w (turned w (upd w.nodes.off j b))
   -- another node stands at an id that is neither a member nor in session
   Replaced : (j : ℕ) → w.pool.mem j ≡ false → w.pool.ses j ≡ Gone
       → Next w (lived w (upd w.past.been j false) (upd w.past.ever j false) (upd w.past.wait j false))

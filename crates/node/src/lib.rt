@@ -287,16 +287,6 @@ pub fn event(s: StorageNode, e: NodeEvent, map: &mut [u8], staging: &mut [u8]) -
     finish(t, lent, w, map, staging)
 }
 
-// Any event; part is what TakePart takes.
-pub fn call(s: StorageNode, e: NodeEvent, map: &mut [u8], staging: &mut [u8], part: &[u8]) -> Out
-    ensures { Meets (event_of e part.now) (held s) map.old staging.old (came result) map.new staging.new }
-{
-    let NodeEvent::TakePart(offset, length, m) = e else {
-        return event(s, e, map, staging);
-    };
-    s.take_part(map, staging, offset, part)
-}
-
 // What the rules say to such an event, with the number that the lent maps refuse with.
 fn turn_of(n: Node, lent: u64, e: NodeEvent) -> Turn
     ensures { result ≡ turn_of (event_of e []) n lent }

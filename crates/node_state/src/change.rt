@@ -3,7 +3,6 @@ ghost use Rattle.std.specs.Prelude.{◌≡◌, [], ◌∷◌, ◌++◌, ◌+◌,
 ghost use Rattle.laws_words.specs.Words.{pick};
 ghost use Rattle.rules_node.specs.Change.{
   fresh,
-  having,
   went_to,
   equipped,
   taken_over,
@@ -37,15 +36,16 @@ pub fn fresh(id: u64, chunks: u64) -> Node
     }
 }
 
-// In this state, with this transfer.
-fn standing(n: Node, s: State, t: Transfer) -> Node
-    ensures { result ≡ having n s n.store n.create n.members n.version n.kept n.held t }
+// Another state.
+pub fn went_to(n: Node, to: State) -> Node
+    ensures { result ≡ went_to n to }
 {
+    let t = n.transfer;
     let k = n.kept;
     Node {
         id: n.id,
         chunks: n.chunks,
-        state: s,
+        state: to,
         store: n.store,
         create: n.create,
         members: n.members,
@@ -54,14 +54,6 @@ fn standing(n: Node, s: State, t: Transfer) -> Node
         held: n.held,
         transfer: t,
     }
-}
-
-// Another state.
-pub fn went_to(n: Node, to: State) -> Node
-    ensures { result ≡ went_to n to }
-{
-    let t = n.transfer;
-    standing(n, to, t)
 }
 
 // A store or none, marked create or not.
@@ -146,7 +138,19 @@ pub fn transferred(n: Node, t: Transfer) -> Node
     ensures { result ≡ transferred n t }
 {
     let s = n.state;
-    standing(n, s, t)
+    let k = n.kept;
+    Node {
+        id: n.id,
+        chunks: n.chunks,
+        state: s,
+        store: n.store,
+        create: n.create,
+        members: n.members,
+        version: n.version,
+        kept: k,
+        held: n.held,
+        transfer: t,
+    }
 }
 
 // Staging dropped or committed.

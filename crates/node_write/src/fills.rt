@@ -40,6 +40,6 @@ pub fn fill(n: Node, lent: u64, member: u64, version: u64) -> Turn
 fn filled(n: Node, version: u64) -> Node
     ensures { result ≡ filled n version }
 {
-    let top = map_numbers::numbers::larger(n.version, version);
+    let top = crate::writes::write::larger(n.version, version);
     change::stored_version(n, top)
 }

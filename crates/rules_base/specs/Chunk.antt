@@ -13,7 +13,7 @@ there m c = ltb m 16 && ltb c 4096
 unfoldable pub byte_of : ℕ → ℕ → ℕ
 byte_of m c = 512 * m + c / 8
 
--- member m's chunk c: 1 where it is dirty, 0 where it is clean or has no bit (R-2)
+-- member m's chunk c: 1 where it is dirty, 0 where it is clean or has no bit
 unfoldable pub dirty : List ℕ → ℕ → ℕ → ℕ
 dirty xs m c = pick (there m c) (bit (get_or xs (byte_of m c) 0) (c % 8)) 0
 

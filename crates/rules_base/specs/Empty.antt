@@ -1,4 +1,4 @@
--- Empty rows of a map. (R-24)
+-- Empty rows of a map.
 use Rattle.std.specs.Prelude.{Bool, List, ℕ, zero, suc, eqb}
 use Rattle.laws_words.specs.Words.{pick}
 use Rattle.rules_base.specs.Sets.{with}

@@ -1,4 +1,4 @@
--- A row set for every chunk of the volume. It has a meaning at a list of any length and at any number. (R-16, R-62)
+-- A row set for every chunk of the volume. It has a meaning at a list of any length and at any number.
 use Rattle.std.specs.Prelude.{List, ℕ, zero, suc}
 use Rattle.rules_base.specs.Chunk.{chunk_marked}
 

@@ -3,15 +3,15 @@ use Rattle.std.specs.Prelude.{ℕ, ◌+◌, ◌-◌, ◌^◌, ◌≤◌}
 use Rattle.std.proofs.Common.{arith}
 use Rattle.rules_base.specs.declared.Numbers.{Numbers}
 
--- member ids are 0 to members - 1 (R-1)
+-- member ids are 0 to members - 1
 abbrev pub members : ℕ
 members = 16
 
--- a pool has 1 to chunk_limit chunks (R-1)
+-- a pool has 1 to chunk_limit chunks
 abbrev pub chunk_limit : ℕ
 chunk_limit = 4096
 
--- a map has this many bytes (R-2)
+-- a map has this many bytes
 abbrev pub map_bytes : ℕ
 map_bytes = 8192
 

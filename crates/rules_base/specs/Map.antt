@@ -59,7 +59,7 @@ unfoldable pub clean_from : ℕ → ℕ → List ℕ → Bool
 clean_from n i [] = true
 clean_from n i (x ∷ xs) = eqb (spare n i x) 0 && clean_from n (suc i) xs
 
--- sound: exactly 8,192 bytes, and no bit set past the chunk count n (R-2)
+-- sound: exactly 8,192 bytes, and no bit set past the chunk count n
 unfoldable pub sound : ℕ → List ℕ → Bool
 sound n xs = eqb (length xs) map_bytes && clean_from n 0 xs
 

@@ -1,4 +1,4 @@
--- How summaries follow a chunk that was marked or cleared: only the places above it are looked at. xs is the map after the change. Every definition has a meaning at lists of any length and at (R-71)
+-- How summaries follow a chunk that was marked or cleared: only the places above it are looked at. xs is the map after the change. Every definition has a meaning at lists of any length and at
 -- any number.
 use Rattle.std.specs.Prelude.{Bool, List, ℕ, ◌-◌, ◌*◌, ◌/◌, ◌%◌, ◌^◌, get_or, set}
 use Rattle.std.specs.Int.Bits.{bit_and, bit_or}

@@ -1,4 +1,4 @@
--- What must hold of mended summaries. Each is a type; the files of proofs/ have its proof under the same name in small letters. xs is a map of 8,192 bytes. (R-71)
+-- What must hold of mended summaries. Each is a type; the files of proofs/ have its proof under the same name in small letters. xs is a map of 8,192 bytes.
 use Rattle.std.specs.Prelude.{◌≡◌, List, ℕ, length}
 use Rattle.rules_base.specs.Chunk.{cleared, marked_for}
 use Rattle.rules_base.specs.Summary.{summaries_of}

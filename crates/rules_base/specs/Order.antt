@@ -23,7 +23,7 @@ pub record First (ts : List Test) (n : ℕ) : Type 0 where
 abbrev pub None : List Test → Type 0
 None ts = (n : ℕ) → has_place n places ≡ true → applies n ts ≡ false
 
--- What `refusal` gives, of any tests: the first that applies; 0 where none does. (R-4)
+-- What `refusal` gives, of any tests: the first that applies; 0 where none does.
 abbrev pub FirstApplies : Type 0
 FirstApplies = (ts : List Test) → refusal ts ≢ 0 → First ts (refusal ts)
 

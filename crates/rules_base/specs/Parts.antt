@@ -8,7 +8,7 @@ use Rattle.rules_base.specs.Map.{replaced}
 abbrev pub part_bytes : ℕ
 part_bytes = 1024
 
--- there is a part of this length at the offset: 1 to 1,024 bytes, none of them past a map's end (R-64)
+-- there is a part of this length at the offset: 1 to 1,024 bytes, none of them past a map's end
 abbrev pub is_part : ℕ → ℕ → Bool
 is_part offset length = (leb 1 length && leb length part_bytes) && leb (offset + length) map_bytes
 
@@ -16,6 +16,6 @@ is_part offset length = (leb 1 length && leb length part_bytes) && leb (offset +
 unfoldable pub part_of : ℕ → ℕ → List ℕ → List ℕ
 part_of offset length xs = take length (drop offset xs)
 
--- a part ORed into a map at its offset (R-65)
+-- a part ORed into a map at its offset
 unfoldable pub or_part : ℕ → List ℕ → List ℕ → List ℕ
 or_part offset part xs = replaced offset (offset + length part) (λ k x. bit_or x (get_or part (k - offset) 0)) xs

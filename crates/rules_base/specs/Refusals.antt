@@ -2,7 +2,7 @@
 use Rattle.std.specs.Prelude.{Bool, false, ◌||◌, List, [], ◌∷◌, ℕ, eqb}
 use Rattle.laws_words.specs.Words.{pick}
 
--- The order in which the numbers are tried. 16 to 19, which requests after the base name, have their places. (R-4)
+-- The order in which the numbers are tried. 16 to 19, which requests after the base name, have their places.
 abbrev pub places : List ℕ
 places = 1 ∷ 2 ∷ 18 ∷ 3 ∷ 4 ∷ 5 ∷ 6 ∷ 7 ∷ 8 ∷ 9 ∷ 17 ∷ 10 ∷ 11 ∷ 19 ∷ 12 ∷ 13 ∷ 14 ∷ 15 ∷ 16 ∷ []
 
@@ -28,6 +28,6 @@ abbrev pub first_of : List ℕ → List Test → ℕ
 first_of [] ts = 0
 first_of (n ∷ ns) ts = pick (applies n ts) n (first_of ns ts)
 
--- The refusal of an event that has these tests; a number that it does not name does not apply. (R-4)
+-- The refusal of an event that has these tests; a number that it does not name does not apply.
 abbrev pub refusal : List Test → ℕ
 refusal ts = first_of places ts

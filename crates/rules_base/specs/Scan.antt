@@ -1,4 +1,4 @@
--- What the scan for soundness gathers; the laws of proofs/ show that it is 0 exactly where no bit past the chunk count is set. (R-2)
+-- What the scan for soundness gathers; the laws of proofs/ show that it is 0 exactly where no bit past the chunk count is set.
 use Rattle.std.specs.Prelude.{List, ℕ, zero, suc, ◌+◌, ◌-◌, ◌*◌, ◌/◌, ◌%◌, ◌^◌, leb, get_or}
 use Rattle.std.specs.Int.Bits.{bit_or}
 use Rattle.laws_words.specs.Words.{pick}

@@ -38,7 +38,7 @@ unfoldable pub opens : List ℕ → List ℕ → ℕ → ℕ → ℕ → ℕ →
 opens words xs m start l i = lit words xs m l i && ltb start (16 ^ l * (i + 1))
 
 -- What the search finds under place i of level l, and at how many places it looks, this one with them: nothing where it does not go down; a chunk that is dirty; else the first finding of the 16 places
--- below, which are looked at one after the other. (R-72)
+-- below, which are looked at one after the other.
 unfoldable pub searched : List ℕ → List ℕ → ℕ → ℕ → ℕ → ℕ → Sought
 searched words xs m start zero i = sought (pick (opens words xs m start zero i) (Found.At i) Found.Nothing) 1
 searched words xs m start (suc l) i = pick (opens words xs m start (suc l) i) (plus 1 (among (searched words xs m start l) (16 * i) 16)) (sought Found.Nothing 1)

@@ -6,13 +6,13 @@ use Rattle.rules_base.specs.Summary.{agree, lit}
 use Rattle.rules_base.specs.declared.Found.{Found}
 use Rattle.rules_base.specs.Search.{first_dirty, sought, searched, row_searched}
 
--- What reading the row finds: the first chunk that is dirty, not before the start and below the chunk count; or there is none. (R-84)
+-- What reading the row finds: the first chunk that is dirty, not before the start and below the chunk count; or there is none.
 pub record Reads : Type 0 where
   pub at : (xs : List ℕ) (m start n c : ℕ) → first_dirty xs m start n ≡ Found.At c
       → (start ≤ c) × ((c < n) × ((dirty xs m c ≡ 1) × ((k : ℕ) → start ≤ k → k < c → dirty xs m k ≡ 0)))
   pub nothing : (xs : List ℕ) (m start n : ℕ) → first_dirty xs m start n ≡ Found.Nothing → (k : ℕ) → start ≤ k → k < n → dirty xs m k ≡ 0
 
--- Where the summaries agree with the map, the search finds what reading the whole row finds, for every row and start, (R-72)
+-- Where the summaries agree with the map, the search finds what reading the whole row finds, for every row and start,
 abbrev pub AsReading : Type 0
 AsReading = (words xs : List ℕ) → agree words xs ≡ true → (m start : ℕ) → (row_searched words xs m start).found ≡ first_dirty xs m start 4096
 
@@ -21,7 +21,7 @@ abbrev pub AsReadingChunks : Type 0
 AsReadingChunks =
     (words xs : List ℕ) → agree words xs ≡ true → (n : ℕ) → sound n xs ≡ true → (m start : ℕ) → (row_searched words xs m start).found ≡ first_dirty xs m start n
 
--- Under a place whose bit is clear it opens nothing, whatever the words and the map hold there: it looks at that place alone. (R-72)
+-- Under a place whose bit is clear it opens nothing, whatever the words and the map hold there: it looks at that place alone.
 abbrev pub ClearSkips : Type 0
 ClearSkips = (words xs : List ℕ) (m start l i : ℕ) → lit words xs m l i ≡ false → searched words xs m start l i ≡ sought Found.Nothing 1
 

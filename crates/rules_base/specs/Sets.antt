@@ -4,7 +4,7 @@ use Rattle.std.specs.Prelude.{Bool, ◌&&◌, ℕ, zero, suc, ◌+◌, ◌-◌, 
 use Rattle.std.specs.Int.Bits.{bit_and, bit_or}
 use Rattle.laws_words.specs.Words.{pick, one, bit}
 
--- i is in the set s (R-1)
+-- i is in the set s
 unfoldable pub has : ℕ → ℕ → Bool
 has s i = ltb i 16 && eqb (bit s i) 1
 

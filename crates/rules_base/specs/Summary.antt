@@ -41,7 +41,7 @@ unfoldable pub words_to : List ℕ → ℕ → List ℕ
 words_to xs zero = []
 words_to xs (suc n) = words_to xs n ++ (word_at xs n ∷ [])
 
--- the summaries of a map (R-71)
+-- the summaries of a map
 unfoldable pub summaries_of : List ℕ → List ℕ
 summaries_of xs = words_to xs 96
 
@@ -50,7 +50,7 @@ unfoldable pub every : ℕ → (ℕ → Bool) → Bool
 every zero t = true
 every (suc n) t = every n t && t n
 
--- summaries agree with a map: they are 96 words, and each is the map's (R-71)
+-- summaries agree with a map: they are 96 words, and each is the map's
 unfoldable pub agree : List ℕ → List ℕ → Bool
 agree words xs = eqb (length words) 96 && every 96 (λ j. eqb (get_or words j 0) (word_at xs j))
 

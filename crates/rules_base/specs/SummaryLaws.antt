@@ -7,7 +7,7 @@ pub record OneSummary : Type 0 where
   pub own : (words xs : List ℕ) → agree words xs ≡ true → words ≡ summaries_of xs
   pub agrees : (xs : List ℕ) → agree (summaries_of xs) xs ≡ true
 
--- Where they agree, a place of any level is marked exactly when some chunk under it is dirty, (R-71)
+-- Where they agree, a place of any level is marked exactly when some chunk under it is dirty,
 abbrev pub Meaning : Type 0
 Meaning = (words xs : List ℕ) → agree words xs ≡ true → (m l i : ℕ) → is_place m l i ≡ true → lit words xs m l i ≡ under xs m l i
 

@@ -13,7 +13,7 @@ use Rattle.rules_pool.specs.Changes.{entered}
 use Rattle.rules_pool.specs.declared.Who.{Who}
 use Rattle.rules_pool.specs.declared.Move.{Move}
 use Rattle.rules_pool.specs.Run.{takes}
-use Rattle.rules_client.specs.Common.{lent_tests}
+use Rattle.rules_pool.specs.StateRules.{valid_pool}
 use Rattle.rules_pool.specs.Jobs.{is_idle}
 use Rattle.rules_pool.specs.Exit.{refused, accepted}
 use Rattle.rules_pool.specs.declared.Posted.{Posted}
@@ -21,20 +21,19 @@ use Rattle.rules_pool.specs.Recovery.{with_roster, gone_on, disabling}
 use Rattle.rules_client.specs.Removal as removal
 use Rattle.rules_client.specs.Remove.{gone}
 
--- something is awaited, and this is its number (R-42)
+-- something is awaited, and this is its number
 abbrev pub awaits : Pool → ℕ → Bool
 awaits p number = not (is_idle p.job) && eqb number p.number
 
 -- `sound` says that the lent client map is
 abbrev pub answer_tests : Pool → Bool → ℕ → List Test
 answer_tests p sound number =
-    lent_tests p sound
-    (test 13 (not (awaits p number)) ∷ [])
+    test 1 (not (valid_pool p)) ∷ test 2 (not sound) ∷ test 13 (not (awaits p number)) ∷ []
 
 unfoldable pub answer_refusal : Pool → Bool → ℕ → ℕ
 answer_refusal p sound number = refusal (answer_tests p sound number)
 
--- who became NORMAL, if one did (R-45)
+-- who became NORMAL, if one did
 abbrev pub entered_by : Who → Roster → Roster
 entered_by Who.Nobody ro = ro
 entered_by (Who.One id) ro = entered ro id
@@ -45,12 +44,12 @@ moved_on p m = gone_on m.next (with_roster p (entered_by m.normal p.roster))
 
 -- an answer in a run: MAP_DISABLE if one gets it, and the answers taken so far, this one with them
 abbrev pub reported : Pool → Move → Turn
-reported p m = accepted (moved_on p m).pool (Outcome.Taken m.taken) (disabling m.disable) (moved_on p m).awaited Effect.Keep
+reported p m = accepted p (moved_on p m).pool (Outcome.Taken m.taken) (disabling m.disable) (moved_on p m).awaited Effect.Keep
 
 abbrev pub answered : Job → Pool → Reply → Turn
 answered Job.Idle p a = refused p 13
 answered (Job.Running r) p a = reported p (takes p.roster.members p.roster.version r a)
-answered (Job.Removing m) p a = gone (removal.removal_answered m p a)
+answered (Job.Removing m) p a = gone p (removal.removal_answered m p a)
 
 unfoldable pub answer : Pool → Bool → ℕ → Reply → Turn
 answer p sound number a =

@@ -34,7 +34,7 @@ pub record Out : Type 0 where
   pub answer : Answer
   pub client : Client
 
--- a fresh pool, sync or not: no session, no member, version 1, nothing awaited (R-6)
+-- a fresh pool, sync or not: no session, no member, version 1, nothing awaited
 abbrev pub fresh_pool : Bool → ℕ → Pool
 fresh_pool sync chunks =
     record {
@@ -56,7 +56,7 @@ handed c t = record { answer = t.answer; client = record { pool = t.pool; check 
 abbrev pub check_handed : Client → Checked → Out
 check_handed c k = record { answer = k.answer; client = record { pool = c.pool; check = k.check } }
 
--- what is done to the client map (R-27)
+-- what is done to the client map
 abbrev pub carried : Effect → List ℕ → List ℕ
 carried Effect.Keep xs = xs
 carried (Effect.Mark s c) xs = marked_for xs s c

@@ -1,4 +1,4 @@
--- All events of the client: those of its pool, each with its data (crate events), and those of map check. What an event hands back is what the contracts of the client's methods say. (R-3)
+-- All events of the client: those of its pool, each with its data (crate events), and those of map check. What an event hands back is what the contracts of the client's methods say.
 use Rattle.std.specs.Prelude.{◌≡◌, Bool, List, ℕ}
 use Rattle.rules_base.specs.Refusals.{Test}
 use Rattle.rules_pool.specs.declared.Effect.{Effect}
@@ -8,11 +8,10 @@ use Rattle.rules_client.specs.Client.{Out}
 use Rattle.rules_client.specs.Client.{handed, carried, sound_for, check_handed, tick_turn, check_turn}
 use Rattle.rules_client.specs.Events as pool
 
+-- of_pool: an event of the pool. tick: the client's map. check_answer: map, the tick's number, member, empty or not.
 pub data Event : Type 0 where
   of_pool : pool.Event → Event
-  -- the client's map
   tick : List ℕ → Event
-  -- map, the tick's number, member, empty or not
   check_answer : List ℕ → ℕ → ℕ → Bool → Event
 
 -- its refusal is the first of these that applies

@@ -1,4 +1,4 @@
--- All events of the client, each with its data; where a map is lent, with the map's bytes; and what each is. What an event hands back is what the contracts of the client's methods say. (R-3)
+-- All events of the client, each with its data; where a map is lent, with the map's bytes; and what each is. What an event hands back is what the contracts of the client's methods say.
 use Rattle.std.specs.Prelude.{Bool, List, ℕ}
 use Rattle.rules_base.specs.Refusals.{Test}
 use Rattle.rules_pool.specs.declared.Mode.{Mode}
@@ -18,10 +18,10 @@ use Rattle.rules_client.specs.Answers as Answers
 use Rattle.rules_pool.specs.declared.Pool.{Pool}
 use Rattle.rules_client.specs.Client.{carried, sound_for, extend_turn, remove_turn, write_turn, answer_turn, clean_to, synced_turn}
 
+-- join create: id. join assemble: id, set, version. remove: map, id, mode. write: map, chunk, reached set. synced: a NORMAL node's map, member, chunk.
+-- answer: map, number, reply. extend: map.
 pub data Event : Type 0 where
-  -- id
   join_create : ℕ → Event
-  -- id, set, version
   join_assemble : ℕ → ℕ → ℕ → Event
   enable : ℕ → Event
   maintenance : ℕ → Event
@@ -29,15 +29,10 @@ pub data Event : Type 0 where
   store_check : ℕ → Event
   rejoin : ℕ → Event
   try_run : Event
-  -- map, id, mode
   remove : List ℕ → ℕ → Mode → Event
-  -- map, chunk, reached set
   write : List ℕ → ℕ → ℕ → Event
-  -- a NORMAL node's map, member, chunk
   synced : List ℕ → ℕ → ℕ → Event
-  -- map, number, reply
   answer : List ℕ → ℕ → Reply → Event
-  -- map
   extend : List ℕ → Event
 
 -- the map that is lent, if any

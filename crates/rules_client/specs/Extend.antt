@@ -15,22 +15,23 @@ use Rattle.rules_pool.specs.Sessions.{ids_of}
 use Rattle.rules_pool.specs.Changes.{enrolled, member_entered}
 use Rattle.rules_pool.specs.Recovery.{with_roster}
 use Rattle.rules_pool.specs.Exit.{refused, tried_with}
-use Rattle.rules_client.specs.Common.{lent_tests}
+use Rattle.rules_pool.specs.StateRules.{valid_pool}
 use Rattle.rules_pool.specs.Jobs.{is_idle}
 
--- the lowest id that is neither a member nor held by a session, 16 where there is none (R-16)
+-- the lowest id that is neither a member nor held by a session, 16 where there is none
 unfoldable pub picked : Roster → ℕ
 picked ro = lowest (ids_of Kind.Unused ro)
 
--- `sound` says that the lent client map is. (R-16)
+-- `sound` says that the lent client map is.
 abbrev pub extend_tests : Pool → Bool → List Test
 extend_tests p sound =
-    lent_tests p sound
-    (test 5 p.roster.sync
+    test 1 (not (valid_pool p))
+    ∷ test 2 (not sound)
+    ∷ test 5 p.roster.sync
     ∷ test 6 (not (is_idle p.job))
     ∷ test 11 (eqb (ids_of Kind.Normals p.roster) 0)
     ∷ test 19 (eqb (ids_of Kind.Unused p.roster) 0)
-    ∷ [])
+    ∷ []
 
 unfoldable pub extend_refusal : Pool → Bool → ℕ
 extend_refusal p sound = refusal (extend_tests p sound)
@@ -43,11 +44,10 @@ extended ro id = member_entered (enrolled ro id State.Reconnecting) id
 abbrev pub extend_told : Roster → ℕ → Told
 extend_told ro id = Told.Extended (ids_of Kind.Told ro) (ids_of Kind.Normals ro) id ro.version
 
--- The new member's row is set for every chunk in the client map. Then recovery is tried. (R-16)
+-- The new member's row is set for every chunk in the client map. Then recovery is tried.
 unfoldable pub extend_done : Pool → ℕ → Turn
-extend_done p id = tried_with (with_roster p (extended p.roster id)) (Outcome.Picked id) (extend_told p.roster id) (Effect.FillRow id p.chunks)
+extend_done p id = tried_with p (with_roster p (extended p.roster id)) (Outcome.Picked id) (extend_told p.roster id) (Effect.FillRow id p.chunks)
 
--- (R-16)
 unfoldable pub extend : Pool → Bool → Turn
 extend p sound =
     pick (eqb (extend_refusal p sound) 0)

@@ -1,7 +1,6 @@
 pub mod Answers
 pub mod Client
 pub mod ClientEvents
-pub mod Common
 pub mod Enables
 pub mod Events
 pub mod Extend

@@ -8,14 +8,14 @@ use Rattle.rules_pool.specs.declared.Pool.{Pool}
 use Rattle.rules_pool.specs.declared.Message.{Message}
 use Rattle.rules_pool.specs.declared.Told.{Told}
 use Rattle.rules_pool.specs.declared.Outcome.{Outcome}
+use Rattle.rules_pool.specs.declared.Answer.{Answer}
 use Rattle.rules_pool.specs.declared.Effect.{Effect}
 use Rattle.rules_pool.specs.declared.Turn.{Turn}
 use Rattle.rules_pool.specs.Session.{is_free}
 use Rattle.rules_pool.specs.declared.Kind.{Kind}
 use Rattle.rules_pool.specs.Sessions.{session_at, ids_of}
-use Rattle.rules_client.specs.Common.{lent_tests}
+use Rattle.rules_pool.specs.StateRules.{valid_pool}
 use Rattle.rules_pool.specs.Jobs.{is_idle}
-use Rattle.rules_pool.specs.Exit.{refused, accepted}
 use Rattle.rules_pool.specs.Breaking.{breaks}
 use Rattle.rules_client.specs.declared.Check.{Check}
 use Rattle.rules_client.specs.declared.Checked.{Checked}
@@ -24,27 +24,23 @@ use Rattle.rules_client.specs.declared.Checked.{Checked}
 abbrev pub no_check : Check
 no_check = record { tick = 0; due = 0; once = 0 }
 
--- what a turn of the pool comes to beside the check k: the pool stays
-abbrev pub beside : Turn → Check → Checked
-beside t k = record { answer = t.answer; check = k; effect = t.effect }
+-- an accepted event that awaits nothing
+abbrev pub tells_of : Told → Answer
+tells_of told = Answer.Done (record { outcome = Outcome.Plain; told = told; awaited = Message.Nothing; number = 0 })
 
 -- a refusal changes nothing
-abbrev pub declined : Pool → Check → ℕ → Checked
-declined p k why = beside (refused p why) k
-
--- an accepted one awaits nothing
-abbrev pub done : Pool → Told → Effect → Check → Checked
-done p told effect k = beside (accepted p Outcome.Plain told Message.Nothing effect) k
+abbrev pub declined : Check → ℕ → Checked
+declined k why = record { answer = Answer.Refused why; check = k; effect = Effect.Keep }
 
 -- ---- tick: `sound` says that the lent client map is, `full` which ids have a row in it that is not empty
 
--- (R-24)
 abbrev pub tick_tests : Pool → Bool → List Test
 tick_tests p sound =
-    lent_tests p sound
-    (test 5 p.roster.sync
+    test 1 (not (valid_pool p))
+    ∷ test 2 (not sound)
+    ∷ test 5 p.roster.sync
     ∷ test 6 (not (is_idle p.job))
-    ∷ [])
+    ∷ []
 
 unfoldable pub tick_refusal : Pool → Bool → ℕ
 tick_refusal p sound = refusal (tick_tests p sound)
@@ -53,34 +49,35 @@ tick_refusal p sound = refusal (tick_tests p sound)
 abbrev pub asked : Pool → ℕ → ℕ
 asked p full = ids_of (Kind.Reached full) p.roster
 
--- The tick's number rises, modulo 2^32; those asked are due, and no others; what stands once stays. (R-24)
+-- The tick's number rises, modulo 2^32; those asked are due, and no others; what stands once stays.
 abbrev pub ticked : Check → ℕ → Check
 ticked k ids = record { tick = (k.tick + 1) % 4294967296; due = ids; once = k.once }
 
--- MAP_CHECK with the tick's number goes to each that is asked, not awaited. (R-24)
+-- MAP_CHECK with the tick's number goes to each that is asked, not awaited.
 unfoldable pub tick : Pool → Check → Bool → ℕ → Checked
 tick p k sound full =
     pick (eqb (tick_refusal p sound) 0)
-    (done p (Told.Checks (asked p full) (ticked k (asked p full)).tick) Effect.Keep (ticked k (asked p full)))
-    (declined p k (tick_refusal p sound))
+    (record { answer = tells_of (Told.Checks (asked p full) (ticked k (asked p full)).tick); check = ticked k (asked p full); effect = Effect.Keep })
+    (declined k (tick_refusal p sound))
 
 -- ---- the answer of member m to the tick with this number: its row is empty, or not
 
--- "Answers carry their tick's number; another number, or a member whose answer is not due, is refusal 13." (R-25)
+-- "Answers carry their tick's number; another number, or a member whose answer is not due, is refusal 13."
 abbrev pub answer_tests : Pool → Check → Bool → ℕ → ℕ → List Test
 answer_tests p k sound number m =
-    lent_tests p sound
-    (test 3 (ltb 15 m)
+    test 1 (not (valid_pool p))
+    ∷ test 2 (not sound)
+    ∷ test 3 (ltb 15 m)
     ∷ test 5 p.roster.sync
     ∷ test 6 (not (is_idle p.job))
     ∷ test 7 (is_free (session_at p.roster m).state)
     ∷ test 13 (not (eqb number k.tick && has k.due m))
-    ∷ [])
+    ∷ []
 
 unfoldable pub answer_refusal : Pool → Check → Bool → ℕ → ℕ → ℕ
 answer_refusal p k sound number m = refusal (answer_tests p k sound number m)
 
--- The answer is no longer due. An empty one stands where none did; one that is not empty, or the second in a row, leaves none standing. (R-25)
+-- The answer is no longer due. An empty one stands where none did; one that is not empty, or the second in a row, leaves none standing.
 abbrev pub answered : Check → ℕ → Bool → Check
 answered k m empty =
     record {
@@ -89,18 +86,17 @@ answered k m empty =
       once = pick (empty && not (has k.once m)) (with k.once m) (without k.once m);
     }
 
--- the second empty one in a row zeroes the client row (R-25)
+-- the second empty one in a row zeroes the client row
 abbrev pub clears : Check → ℕ → Bool → Effect
 clears k m empty = pick (empty && has k.once m) (Effect.ZeroRow m) Effect.Keep
 
 unfoldable pub answer : Pool → Check → Bool → ℕ → ℕ → Bool → Checked
 answer p k sound number m empty =
     pick (eqb (answer_refusal p k sound number m) 0)
-    (done p Told.Nothing (clears k m empty) (answered k m empty))
-    (declined p k (answer_refusal p k sound number m))
+    (record { answer = tells_of Told.Nothing; check = answered k m empty; effect = clears k m empty })
+    (declined k (answer_refusal p k sound number m))
 
 -- ---- what an event of the pool leaves of the check: where it breaks the row, no answer stands; tick and due stay
 
--- (R-26)
 abbrev pub after : Check → Pool → Turn → Check
 after k before t = pick (breaks before t) (record { tick = k.tick; due = k.due; once = 0 }) k

@@ -37,15 +37,14 @@ abbrev pub tellable : Stage → Roster → ℕ
 tellable Stage.Leave ro = ids_of Kind.Told ro
 tellable (Stage.Info peer) ro = ids_of (Kind.Later peer) ro
 
--- (R-33)
 unfoldable pub due : Stage → Roster → ℕ
 due st ro = pick ro.sync 16 (lowest (tellable st ro))
 
--- the awaited message of the removal of id (R-24)
+-- the awaited message of the removal of id
 abbrev pub asked : Pool → ℕ → Stage → Message → Posted
 asked p id st m = posted p (Job.Removing (record { id = id; stage = st })) m
 
--- The session is freed; if none is left the client map is zeroed. A sync pool has no map. (R-34)
+-- The session is freed; if none is left the client map is zeroed. A sync pool has no map.
 unfoldable pub freed_from : Pool → ℕ → Effect → Gone
 freed_from p id effect =
     record {
@@ -53,21 +52,21 @@ freed_from p id effect =
       effect = pick (eqb (ids_of Kind.Present (freed p.roster id)) 0 && not p.roster.sync) Effect.ZeroAll effect;
     }
 
--- After LEAVE_POOL or a POOL_INFO: the next peer is told, after the last the session is freed. (R-33)
+-- After LEAVE_POOL or a POOL_INFO: the next peer is told, after the last the session is freed.
 unfoldable pub onward : Pool → ℕ → Stage → Effect → Gone
 onward p id st effect =
     pick (ltb (due st p.roster) 16)
     (record { posted = asked p id (Stage.Info (due st p.roster)) (Message.Info (due st p.roster) (op_of (state_of p id)) id); effect = effect })
     (freed_from p id effect)
 
--- LEAVE is done or not owed: delete takes out member entry and client row. A sync pool has neither. (R-33)
+-- LEAVE is done or not owed: delete takes out member entry and client row. A sync pool has neither.
 unfoldable pub departed : Pool → ℕ → Gone
 departed p id =
     pick (is_deleting (state_of p id) && not p.roster.sync)
     (onward (with_roster p (member_dropped p.roster id)) id Stage.Leave (Effect.ZeroRow id))
     (onward p id Stage.Leave Effect.Keep)
 
--- The removal of a REMOVING session starts, or starts over: LEAVE_POOL only if it is owed. (R-33, R-36)
+-- The removal of a REMOVING session starts, or starts over: LEAVE_POOL only if it is owed.
 unfoldable pub started : Pool → ℕ → Gone
 started p id =
     pick (is_owed (state_of p id))
@@ -78,7 +77,7 @@ started p id =
 abbrev pub paid : Pool → ℕ → Pool
 paid p id = with_roster p (went p.roster id (State.Removing (mode_of (state_of p id)) false))
 
--- a failed answer halts the removal (R-35)
+-- a failed answer halts the removal
 abbrev pub halted : Pool → Gone
 halted p = record { posted = quiet (removal_ended p); effect = Effect.Keep }
 

@@ -1,4 +1,4 @@
--- The client's contracts leave nothing open. (R-3)
+-- The client's contracts leave nothing open.
 use Rattle.std.specs.Prelude.{◌≡◌, Bool, ℕ}
 use Rattle.rules_client.specs.Client.{Client}
 use Rattle.rules_client.specs.Client.{Out}

@@ -20,7 +20,7 @@ last_io members chosen chunk xs = pick (eqb (dirty xs chosen chunk) 1) xs (marke
 unfoldable pub last_io_at : Node → ℕ → ℕ → List ℕ → List ℕ
 last_io_at n chosen i xs = pick (is_kept n i) (last_io n.members chosen (get_or n.kept i 0) xs) xs
 
--- LAST_IO_TO_MAP: each kept chunk, in order of arrival (R-69)
+-- LAST_IO_TO_MAP: each kept chunk, in order of arrival
 unfoldable pub last_ios : Node → ℕ → List ℕ → List ℕ
 last_ios n chosen xs = run_at (last_io_at n chosen) 16 0 xs
 

@@ -1,5 +1,5 @@
 -- The fresh node, and the named changes that the events of a node are made of. Each names what it changes; all else stays.
-use Rattle.std.specs.Prelude.{Bool, false, List, [], ◌∷◌, ◌++◌, ℕ, ◌+◌, ltb, drop, replicate}
+use Rattle.std.specs.Prelude.{Bool, false, [], ◌∷◌, ◌++◌, ℕ, ◌+◌, ltb, drop, replicate}
 use Rattle.laws_words.specs.Words.{pick}
 use Rattle.rules_base.specs.Sets.{with, without}
 use Rattle.rules_node.specs.declared.State.{State}
@@ -22,33 +22,53 @@ fresh id chunks =
       transfer = Transfer.Nothing;
     }
 
--- The node with these values, in the order of its fields: its id and its chunk count stay.
-abbrev pub having : Node → State → Bool → Bool → ℕ → ℕ → List ℕ → ℕ → Transfer → Node
-having n state store create members version kept held transfer =
+-- another state
+unfoldable pub went_to : Node → State → Node
+went_to n to =
     record {
       id = n.id;
       chunks = n.chunks;
-      state = state;
-      store = store;
-      create = create;
-      members = members;
-      version = version;
-      kept = kept;
-      held = held;
-      transfer = transfer;
+      state = to;
+      store = n.store;
+      create = n.create;
+      members = n.members;
+      version = n.version;
+      kept = n.kept;
+      held = n.held;
+      transfer = n.transfer;
     }
-
--- another state
-unfoldable pub went_to : Node → State → Node
-went_to n to = having n to n.store n.create n.members n.version n.kept n.held n.transfer
 
 -- a store or none, marked create or not
 unfoldable pub equipped : Node → Bool → Bool → Node
-equipped n store create = having n n.state store create n.members n.version n.kept n.held n.transfer
+equipped n store create =
+    record {
+      id = n.id;
+      chunks = n.chunks;
+      state = n.state;
+      store = store;
+      create = create;
+      members = n.members;
+      version = n.version;
+      kept = n.kept;
+      held = n.held;
+      transfer = n.transfer;
+    }
 
 -- a member set taken over
 unfoldable pub taken_over : Node → ℕ → Node
-taken_over n s = having n n.state n.store n.create s n.version n.kept n.held n.transfer
+taken_over n s =
+    record {
+      id = n.id;
+      chunks = n.chunks;
+      state = n.state;
+      store = n.store;
+      create = n.create;
+      members = s;
+      version = n.version;
+      kept = n.kept;
+      held = n.held;
+      transfer = n.transfer;
+    }
 
 -- a member entered
 unfoldable pub member_entered : Node → ℕ → Node
@@ -60,19 +80,67 @@ member_dropped n m = taken_over n (without n.members m)
 
 -- a version stored
 unfoldable pub stored_version : Node → ℕ → Node
-stored_version n v = having n n.state n.store n.create n.members v n.kept n.held n.transfer
+stored_version n v =
+    record {
+      id = n.id;
+      chunks = n.chunks;
+      state = n.state;
+      store = n.store;
+      create = n.create;
+      members = n.members;
+      version = v;
+      kept = n.kept;
+      held = n.held;
+      transfer = n.transfer;
+    }
 
--- a chunk number kept: it arrives last, and of seventeen the first is gone (R-59)
+-- a chunk number kept: it arrives last, and of seventeen the first is gone
 unfoldable pub kept_chunk : Node → ℕ → Node
-kept_chunk n c = having n n.state n.store n.create n.members n.version (drop 1 n.kept ++ (c ∷ [])) (pick (ltb n.held 16) (n.held + 1) 16) n.transfer
+kept_chunk n c =
+    record {
+      id = n.id;
+      chunks = n.chunks;
+      state = n.state;
+      store = n.store;
+      create = n.create;
+      members = n.members;
+      version = n.version;
+      kept = drop 1 n.kept ++ (c ∷ []);
+      held = pick (ltb n.held 16) (n.held + 1) 16;
+      transfer = n.transfer;
+    }
 
 -- the kept chunks gone
 unfoldable pub forgotten : Node → Node
-forgotten n = having n n.state n.store n.create n.members n.version (replicate 16 0) 0 n.transfer
+forgotten n =
+    record {
+      id = n.id;
+      chunks = n.chunks;
+      state = n.state;
+      store = n.store;
+      create = n.create;
+      members = n.members;
+      version = n.version;
+      kept = replicate 16 0;
+      held = 0;
+      transfer = n.transfer;
+    }
 
 -- how far the transfer is
 unfoldable pub transferred : Node → Transfer → Node
-transferred n t = having n n.state n.store n.create n.members n.version n.kept n.held t
+transferred n t =
+    record {
+      id = n.id;
+      chunks = n.chunks;
+      state = n.state;
+      store = n.store;
+      create = n.create;
+      members = n.members;
+      version = n.version;
+      kept = n.kept;
+      held = n.held;
+      transfer = t;
+    }
 
 -- staging dropped or committed: no transfer is in hand (the staging map is zeroed beside it)
 unfoldable pub ended_transfer : Node → Node

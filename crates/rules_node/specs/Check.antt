@@ -14,7 +14,6 @@ check_tests n lent = common_tests n lent (test 3 (ltb 15 n.id) ∷ [])
 unfoldable pub check_refusal : Node → ℕ → ℕ
 check_refusal n lent = refusal (check_tests n lent)
 
--- (R-70)
 unfoldable pub map_check : Node → ℕ → Bool → Checked
 map_check n lent clean =
     pick (eqb (check_refusal n lent) 0)

@@ -1,4 +1,4 @@
--- A map cut into consecutive parts. (R-65)
+-- A map cut into consecutive parts.
 use Rattle.std.specs.Prelude.{◌≡◌, Bool, true, ◌&&◌, List, [], ◌∷◌, ℕ, ◌+◌, leb}
 use Rattle.rules_base.specs.Limits.{map_bytes}
 use Rattle.rules_base.specs.Parts.{part_bytes, part_of}

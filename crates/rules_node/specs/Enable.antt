@@ -30,7 +30,6 @@ enable1_refusal n lent version set = refusal (enable1_tests n lent version set)
 unfoldable pub enabled : Node → ℕ → ℕ → Node
 enabled n version set = instructed (ended_transfer (went_to n State.Normal)) version set
 
--- (R-57)
 unfoldable pub enable1 : Node → ℕ → ℕ → ℕ → Turn
 enable1 n lent version set =
     settled (enable1_refusal n lent version set) n (turn Answer.Done (enabled n version set) (does (OnMap.KeepRows set) OnStaging.Zero))
@@ -51,10 +50,8 @@ stop_refusal n lent = refusal (stop_tests n lent)
 unfoldable pub disabled : Node → Node
 disabled n = ended_transfer (went_to n State.NoIo)
 
--- (R-58)
 unfoldable pub enable0 : Node → ℕ → Turn
 enable0 n lent = settled (stop_refusal n lent) n (turn Answer.Done (disabled n) (does OnMap.Keep OnStaging.Zero))
 
--- (R-58)
 unfoldable pub fault : Node → ℕ → Turn
 fault n lent = settled (stop_refusal n lent) n (turn Answer.Done (went_to n State.NoIo) (does OnMap.Keep OnStaging.Keep))

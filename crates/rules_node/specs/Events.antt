@@ -1,4 +1,4 @@
--- The events of a node as one type, and what each is: one case an event. Taking a part carries its bytes. (R-3)
+-- The events of a node as one type, and what each is: one case an event. Taking a part carries its bytes.
 use Rattle.std.specs.Prelude.{Bool, List, ℕ, length}
 use Rattle.rules_base.specs.Refusals.{Test}
 use Rattle.rules_base.specs.Map.{clean_from}
@@ -15,40 +15,29 @@ use Rattle.rules_node.specs.Fill as Fill
 use Rattle.rules_node.specs.Serve as Serve
 use Rattle.rules_node.specs.Hand as Hand
 
+-- register_add: set, version. unregister, leave: delete. join_create: set. enable1: version, set. write: chunk, set, version. synced: member, chunk.
+-- pool_info: what, member. map_ready: keep. give_part: offset, length. take_part: offset, the bytes. map_done: enabling, version, set. last_io_to_map: the chosen.
+-- fill: member, version.
 pub data Event : Type 0 where
   register_create : Event
-  -- set, version
   register_add : ℕ → ℕ → Event
-  -- delete
   unregister : Bool → Event
-  -- set
   join_create : ℕ → Event
   assemble : Event
-  -- delete
   leave : Bool → Event
-  -- version, set
   enable1 : ℕ → ℕ → Event
   enable0 : Event
   fault : Event
-  -- chunk, set, version
   write : ℕ → ℕ → ℕ → Event
-  -- member, chunk
   synced : ℕ → ℕ → Event
-  -- what, member
   pool_info : Op → ℕ → Event
-  -- keep
   map_ready : Bool → Event
-  -- offset, length
   give_part : ℕ → ℕ → Event
-  -- offset, the bytes
   take_part : ℕ → List ℕ → Event
-  -- enabling, version, set
   map_done : Bool → ℕ → ℕ → Event
   map_disable : Event
   map_get_ver : Event
-  -- the chosen
   last_io_to_map : ℕ → Event
-  -- member, version
   fill : ℕ → ℕ → Event
 
 -- the part that is lent to be taken, if any

@@ -1,4 +1,4 @@
--- The node with its lent maps: xs the map's bytes, ys those of staging. An event gives an answer and the next state, and leaves both maps. (R-3)
+-- The node with its lent maps: xs the map's bytes, ys those of staging. An event gives an answer and the next state, and leaves both maps.
 use Rattle.std.specs.Prelude.{◌≡◌, true, not, ◌&&◌, List, ℕ, eqb, length, replicate}
 use Rattle.laws_words.specs.Words.{pick}
 use Rattle.rules_base.specs.Limits.{map_bytes}

@@ -29,7 +29,6 @@ fill_refusal n lent member version = refusal (fill_tests n lent member version)
 unfoldable pub filled : Node → ℕ → Node
 filled n version = stored_version n (max n.version version)
 
--- (R-62)
 unfoldable pub fill : Node → ℕ → ℕ → ℕ → Turn
 fill n lent member version =
     settled (fill_refusal n lent member version) n (turn Answer.Done (filled n version) (does (OnMap.FillRow member) OnStaging.Keep))

@@ -5,7 +5,6 @@ use Rattle.rules_base.specs.Summary.{summaries_of}
 use Rattle.rules_base.specs.Mend.{mended, mended_for}
 use Rattle.rules_node.specs.declared.OnMap.{OnMap}
 
--- (R-71)
 unfoldable pub followed : OnMap → List ℕ → List ℕ → List ℕ
 followed OnMap.Keep xs words = words
 followed (OnMap.Mark set chunk) xs words = mended_for xs set chunk words

@@ -39,7 +39,6 @@ take_part_refusal n lent offset length clean = refusal (take_part_tests n lent o
 unfoldable pub part_taken : Node → ℕ → ℕ → Node
 part_taken n offset length = transferred n (Transfer.InHand (offset + length))
 
--- (R-65)
 unfoldable pub take_part : Node → ℕ → ℕ → ℕ → Bool → Turn
 take_part n lent offset length clean =
     settled (take_part_refusal n lent offset length clean) n (turn Answer.Done (part_taken n offset length) (does OnMap.Keep (OnStaging.Or offset)))
@@ -62,17 +61,14 @@ abbrev pub done_to : Bool → State → State
 done_to true s = State.Normal
 done_to false s = s
 
--- (R-66)
 unfoldable pub committed : Node → Bool → ℕ → ℕ → Node
 committed n enabling version set = instructed (ended_transfer (went_to n (done_to enabling n.state))) version set
 
--- (R-66)
 unfoldable pub map_done : Node → ℕ → Bool → ℕ → ℕ → Turn
 map_done n lent enabling version set =
     settled (map_done_refusal n lent version set) n (turn Answer.Done (committed n enabling version set) (does (OnMap.Commit set) OnStaging.Zero))
 
 -- ---- MAP_DISABLE drops staging
 
--- (R-67)
 unfoldable pub map_disable : Node → ℕ → Turn
 map_disable n lent = settled (hand_refusal n lent) n (turn Answer.Done (ended_transfer n) (does OnMap.Keep OnStaging.Zero))

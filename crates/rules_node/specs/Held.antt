@@ -1,4 +1,4 @@
--- A node with its two maps, and what events leave of it. (R-50)
+-- A node with its two maps, and what events leave of it.
 use Rattle.std.specs.Prelude.{List, [], ◌∷◌, ℕ}
 use Rattle.rules_node.specs.Face.{StorageNode}
 use Rattle.rules_node.specs.Events.{Event}

@@ -30,21 +30,20 @@ pool_info_tests n lent op member =
 unfoldable pub pool_info_refusal : Node → ℕ → Op → ℕ → ℕ
 pool_info_refusal n lent op member = refusal (pool_info_tests n lent op member)
 
--- add-create enters the member, remove-delete drops it (R-61)
+-- add-create enters the member, remove-delete drops it
 unfoldable pub informed : Op → Node → ℕ → Node
 informed Op.AddCreate n member = member_entered n member
 informed Op.AddAssemble n member = n
 informed Op.RemoveDelete n member = member_dropped n member
 informed Op.RemoveDisassemble n member = n
 
--- both zero its row (R-61)
+-- both zero its row
 abbrev pub informs : Op → ℕ → OnMap
 informs Op.AddCreate member = OnMap.ZeroRow member
 informs Op.AddAssemble member = OnMap.Keep
 informs Op.RemoveDelete member = OnMap.ZeroRow member
 informs Op.RemoveDisassemble member = OnMap.Keep
 
--- (R-61)
 unfoldable pub pool_info : Node → ℕ → Op → ℕ → Turn
 pool_info n lent op member =
     settled (pool_info_refusal n lent op member) n (turn Answer.Done (informed op n member) (does (informs op member) OnStaging.Keep))

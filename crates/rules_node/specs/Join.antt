@@ -31,13 +31,11 @@ join_create_refusal n lent set = refusal (join_create_tests n lent set)
 unfoldable pub joined_create : Node → ℕ → Node
 joined_create n set = taken_over (equipped (went_to n State.Created) n.store false) (with set n.id)
 
--- (R-54)
 unfoldable pub join_create : Node → ℕ → ℕ → Turn
 join_create n lent set = settled (join_create_refusal n lent set) n (turn Answer.Done (joined_create n set) (does (own_row n) OnStaging.Keep))
 
 -- ---- assemble or rejoin: REGISTERED unmarked, NORMAL, NO_IO with store, to NO_IO
 
--- (R-55)
 abbrev pub assembles : State → Bool → Bool → Bool
 assembles s store create = (is_registered s && not create) || (is_normal s || (is_no_io s && store))
 
@@ -51,7 +49,6 @@ assemble_tests n lent =
 unfoldable pub assemble_refusal : Node → ℕ → ℕ
 assemble_refusal n lent = refusal (assemble_tests n lent)
 
--- (R-55)
 unfoldable pub assemble : Node → ℕ → Turn
 assemble n lent = settled (assemble_refusal n lent) n (turn Answer.Done (went_to n State.NoIo) (does OnMap.Keep OnStaging.Keep))
 
@@ -71,11 +68,9 @@ leave_refusal n lent = refusal (leave_tests n lent)
 unfoldable pub left : Node → Node
 left n = ended_transfer (went_to n (left_to n.store))
 
--- (R-56)
 abbrev pub leaves : Bool → Node → OnMap
 leaves true n = own_row n
 leaves false n = OnMap.Keep
 
--- (R-56)
 unfoldable pub leave : Node → ℕ → Bool → Turn
 leave n lent delete = settled (leave_refusal n lent) n (turn Answer.Done (left n) (does (leaves delete n) OnStaging.Zero))

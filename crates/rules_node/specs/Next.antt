@@ -14,7 +14,6 @@ next_tests n lent member start = common_tests n lent (test 3 (ltb 15 n.id || ltb
 unfoldable pub next_refusal : Node → ℕ → ℕ → ℕ → ℕ
 next_refusal n lent member start = refusal (next_tests n lent member start)
 
--- (R-72)
 unfoldable pub next_dirty : Node → ℕ → ℕ → ℕ → Found → Next
 next_dirty n lent member start found =
     pick (eqb (next_refusal n lent member start) 0) (Next.Is found) (Next.Refused (next_refusal n lent member start))

@@ -26,13 +26,12 @@ register_create_refusal n lent = refusal (register_create_tests n lent)
 unfoldable pub registered_create : Node → Node
 registered_create n = instructed (forgotten (equipped (went_to n State.Registered) true true)) 0 (with 0 n.id)
 
--- (R-51)
 unfoldable pub register_create : Node → ℕ → Turn
 register_create n lent = settled (register_create_refusal n lent) n (turn Answer.Done (registered_create n) (does OnMap.Zero OnStaging.Keep))
 
 -- ---- register add (set, version): EMPTY to REGISTERED unmarked, map kept; NO_IO without store gets its store
 
--- where a store can be added (R-52)
+-- where a store can be added
 abbrev pub takes_store : State → Bool → Bool
 takes_store s store = is_empty s || (is_no_io s && not store)
 
@@ -59,14 +58,13 @@ register_add_refusal n lent set version = refusal (register_add_tests n lent set
 unfoldable pub registered_add : Node → ℕ → ℕ → Node
 registered_add n set version = instructed (equipped (went_to n (added_to n.state)) true false) version set
 
--- (R-52)
 unfoldable pub register_add : Node → ℕ → ℕ → ℕ → Turn
 register_add n lent set version =
     settled (register_add_refusal n lent set version) n (turn Answer.Done (registered_add n set version) (does OnMap.Keep OnStaging.Keep))
 
 -- ---- unregister: REGISTERED to EMPTY, mark gone (delete zeroes map, members, version); NO_IO with store stays, without it, staging dropped
 
--- where a store can be given up: delete not in NO_IO (R-53)
+-- where a store can be given up: delete not in NO_IO
 abbrev pub gives_store : State → Bool → Bool → Bool
 gives_store s store delete = is_registered s || (is_no_io s && (store && not delete))
 
@@ -109,7 +107,6 @@ drops_staging State.Created = OnStaging.Keep
 drops_staging State.Normal = OnStaging.Keep
 drops_staging State.NoIo = OnStaging.Zero
 
--- (R-53)
 unfoldable pub unregister : Node → ℕ → Bool → Turn
 unregister n lent delete =
     settled (unregister_refusal n lent delete) n (turn Answer.Done (unregistered n delete) (does (wipes delete) (drops_staging n.state)))

@@ -29,7 +29,6 @@ abbrev pub fills : Bool → OnStaging
 fills true = OnStaging.Fill
 fills false = OnStaging.Zero
 
--- (R-63)
 unfoldable pub map_ready : Node → ℕ → Bool → Turn
 map_ready n lent keep = settled (serve_refusal n lent) n (turn Answer.Done (readied n) (does OnMap.Keep (fills keep)))
 
@@ -42,13 +41,11 @@ give_part_tests n lent offset length =
 unfoldable pub give_part_refusal : Node → ℕ → ℕ → ℕ → ℕ
 give_part_refusal n lent offset length = refusal (give_part_tests n lent offset length)
 
--- (R-64)
 unfoldable pub give_part : Node → ℕ → ℕ → ℕ → Turn
 give_part n lent offset length = settled (give_part_refusal n lent offset length) n (turn Answer.Done n (does OnMap.Keep OnStaging.Keep))
 
 -- ---- MAP_GET_VER: the answer carries the version
 
--- (R-68)
 unfoldable pub map_get_ver : Node → ℕ → Turn
 map_get_ver n lent = settled (serve_refusal n lent) n (turn (Answer.Version n.version) n (does OnMap.Keep OnStaging.Keep))
 
@@ -61,6 +58,5 @@ last_io_tests n lent chosen =
 unfoldable pub last_io_refusal : Node → ℕ → ℕ → ℕ
 last_io_refusal n lent chosen = refusal (last_io_tests n lent chosen)
 
--- (R-69)
 unfoldable pub last_io_to_map : Node → ℕ → ℕ → Turn
 last_io_to_map n lent chosen = settled (last_io_refusal n lent chosen) n (turn Answer.Done n (does (OnMap.LastIos chosen) OnStaging.Keep))

@@ -32,7 +32,7 @@ store_ok State.NoIo store = true
 abbrev pub standing : State → Bool → Bool → Bool → Bool → Bool
 standing s store create hand own = (is_empty s || own) && ((not create || is_registered s) && (store_ok s store && (not hand || (is_no_io s && store))))
 
--- 1 to 4,096 chunks; how the node stands; ids of its set below 16; version at most 2^63 - 17; kept chunks; at most 8,192 bytes taken (R-75)
+-- 1 to 4,096 chunks; how the node stands; ids of its set below 16; version at most 2^63 - 17; kept chunks; at most 8,192 bytes taken
 abbrev pub rules : Node → List Bool
 rules n =
     (leb 1 n.chunks && leb n.chunks chunk_limit)
@@ -43,6 +43,5 @@ rules n =
     ∷ leb (taken n.transfer) map_bytes
     ∷ []
 
--- (R-75)
 unfoldable pub valid : Node → Bool
 valid n = all (rules n)

@@ -48,7 +48,7 @@ is_joined State.Created = true
 is_joined State.Normal = true
 is_joined State.NoIo = true
 
--- serving: CREATED, NORMAL or NO_IO with a store (R-50)
+-- serving: CREATED, NORMAL or NO_IO with a store
 abbrev pub is_serving : Node → Bool
 is_serving n = is_joined n.state && n.store
 

@@ -30,7 +30,7 @@ pub data Kind : Type 0 where
 abbrev pub stays : State → State → Bool
 stays from to = (is_created from && is_created to) || ((is_normal from && is_normal to) || (is_no_io from && is_no_io to))
 
--- the table: event, from, to (R-50)
+-- the table: event, from, to
 abbrev pub legal : Kind → State → State → Bool
 legal register_create from to = is_empty from && is_registered to
 legal register_add from to = (is_empty from && is_registered to) || (is_no_io from && is_no_io to)

@@ -29,7 +29,7 @@ turn a n e = record { answer = a; node = n; effect = e }
 abbrev pub refused : ℕ → Node → Turn
 refused why n = turn (Answer.Refused why) n nothing
 
--- the turn t of an event at the node n, whose refusal is why (0: none) (R-3)
+-- the turn t of an event at the node n, whose refusal is why (0: none)
 unfoldable pub settled : ℕ → Node → Turn → Turn
 settled why n t = pick (eqb why 0) t (refused why n)
 

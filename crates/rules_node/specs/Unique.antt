@@ -1,4 +1,4 @@
--- A node's contracts leave nothing open. (R-3)
+-- A node's contracts leave nothing open.
 use Rattle.std.specs.Prelude.{◌≡◌, List, ℕ}
 use Rattle.rules_node.specs.Face.{StorageNode}
 use Rattle.rules_node.specs.Face.{Out}

@@ -25,11 +25,9 @@ write_tests n lent chunk set version =
 unfoldable pub write_refusal : Node → ℕ → ℕ → ℕ → ℕ → ℕ
 write_refusal n lent chunk set version = refusal (write_tests n lent chunk set version)
 
--- (R-79)
 unfoldable pub written : Node → ℕ → ℕ → Node
 written n chunk version = kept_chunk (stored_version n (max n.version version)) chunk
 
--- (R-59)
 unfoldable pub write : Node → ℕ → ℕ → ℕ → ℕ → Turn
 write n lent chunk set version =
     settled (write_refusal n lent chunk set version) n (turn Answer.Done (written n chunk version) (does (OnMap.Mark set chunk) OnStaging.Keep))
@@ -47,6 +45,5 @@ synced_tests n lent member chunk =
 unfoldable pub synced_refusal : Node → ℕ → ℕ → ℕ → ℕ
 synced_refusal n lent member chunk = refusal (synced_tests n lent member chunk)
 
--- (R-60)
 unfoldable pub synced : Node → ℕ → ℕ → ℕ → Turn
 synced n lent member chunk = settled (synced_refusal n lent member chunk) n (turn Answer.Done n (does (OnMap.Clear member chunk) OnStaging.Keep))

@@ -3,19 +3,17 @@
 
 use rules_base::Found;
 
-// What a node answers to map check.
+// Empty: the node's own row is, and the node is NORMAL.
 #[derive(Clone, Copy)]
 pub enum Checked {
     Refused(u64),
-    // whether the node is NORMAL and its own row is empty
     Empty(bool),
 }
 
-// What a node answers that is asked for the next dirty chunk.
+// Is: what was found, a chunk or nothing.
 #[derive(Clone, Copy)]
 pub enum Next {
     Refused(u64),
-    // a chunk, or nothing
     Is(Found),
 }
 
@@ -52,35 +50,27 @@ pub struct Node {
     pub transfer: Transfer,
 }
 
-// What is done to the node's map.
+// What is done to the node's map. Mark: a set, a chunk. Clear: a member, a chunk. LastIos: the chosen. ZeroRow: a member. KeepRows: of a set.
+// Commit: staging in its place, with the rows of a set. FillRow: every chunk of a member.
 #[derive(Clone, Copy)]
 pub enum OnMap {
     Keep,
-    // a set, a chunk
     Mark(u64, u64),
-    // a member, a chunk
     Clear(u64, u64),
-    // the chosen
     LastIos(u64),
-    // a member
     ZeroRow(u64),
     Zero,
-    // of a set
     KeepRows(u64),
-    // staging in its place, with the rows of a set
     Commit(u64),
-    // every chunk of a member
     FillRow(u64),
 }
 
-// What is done to the staging map.
+// What is done to the staging map. Fill: the map copied into it. Or: the part that was lent for taking ORed in, from an offset on.
 #[derive(Clone, Copy)]
 pub enum OnStaging {
     Keep,
     Zero,
-    // the map copied into it
     Fill,
-    // the part that was lent for taking ORed in, from an offset on
     Or(u64),
 }
 
@@ -90,12 +80,11 @@ pub struct Effect {
     pub staging: OnStaging,
 }
 
-// What a node answers to an event.
+// Version: the answer to MAP_GET_VER.
 #[derive(Clone, Copy)]
 pub enum Answer {
     Refused(u64),
     Done,
-    // to MAP_GET_VER
     Version(u64),
 }
 

@@ -53,6 +53,5 @@ changed_to before after (suc n) = changed_to before after n || not (same_record 
 abbrev pub has_run : Pool → Pool → Bool
 has_run before after = is_running before.job || is_running after.job
 
--- (R-26)
 unfoldable pub breaks : Pool → Turn → Bool
 breaks before t = is_accepted t.answer && (acknowledges t.answer || (changed_to before.roster t.pool.roster 16 || has_run before t.pool))

@@ -14,27 +14,26 @@ use Rattle.rules_pool.specs.declared.Next.{Next}
 abbrev pub start : Phase → ℕ → ℕ → Next
 start p source left = Next.On (record { phase = p; source = source; left = left; taken = 0 })
 
--- 1: some session NORMAL and a candidate exists. Source: lowest NORMAL id; receivers: the candidates. (R-39)
+-- 1: some session NORMAL and a candidate exists. Source: lowest NORMAL id; receivers: the candidates.
 abbrev pub case1 : ℕ → ℕ → Next
 case1 normals candidates = pick (eqb candidates 0) Next.Over (start (Phase.Spread Step.Ready) (lowest normals) candidates)
 
--- 2: none NORMAL, and the last authoritative session is a candidate. It is the source; the other candidates receive. (R-40)
+-- 2: none NORMAL, and the last authoritative session is a candidate. It is the source; the other candidates receive.
 abbrev pub case2 : ℕ → ℕ → Next
 case2 marked candidates =
     pick (has candidates (lowest marked)) (start (Phase.Enable false) (lowest marked) (without candidates (lowest marked))) Next.Over
 
--- 3: none NORMAL, none marked, membership not empty, every member's session a candidate. All are asked for their version. (R-41)
+-- 3: none NORMAL, none marked, membership not empty, every member's session a candidate. All are asked for their version.
 abbrev pub case3 : ℕ → ℕ → Next
 case3 members strays = pick (eqb members 0 || not (eqb strays 0)) Next.Over (start (Phase.Versions 0) (lowest members) members)
 
--- (R-38)
 unfoldable pub case_of : ℕ → ℕ → ℕ → ℕ → ℕ → Next
 case_of normals candidates marked strays members =
     pick (not (eqb normals 0)) (case1 normals candidates)
     (pick (not (eqb marked 0)) (case2 marked candidates)
     (case3 members strays))
 
--- A run begins exactly when the version is at most 2^63 - 34 and one case holds. (R-38)
+-- A run begins exactly when the version is at most 2^63 - 34 and one case holds.
 unfoldable pub begun : Roster → Next
 begun ro =
     pick (ltb version_limit ro.version) Next.Over

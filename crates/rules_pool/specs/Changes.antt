@@ -32,7 +32,7 @@ numbered ro n v =
       past = ro.past;
     }
 
--- The version raised: the view of the pool changes. (R-21)
+-- The version raised: the view of the pool changes.
 abbrev pub raised : Roster → Roster
 raised ro = numbered ro ro.count (more ro.version)
 
@@ -55,28 +55,28 @@ all_unmarked ro =
 
 -- ---- the named changes
 
--- A session enters NORMAL: one more in the count, and the mark goes from every session. A sync pool has neither. (R-20, R-22)
+-- A session enters NORMAL: one more in the count, and the mark goes from every session. A sync pool has neither.
 unfoldable pub entered : Roster → ℕ → Roster
 entered ro id =
     pick ro.sync
     (stored ro id (moved (session_at ro id) State.Normal))
     (numbered (stored (all_unmarked ro) id (moved (session_at ro id) State.Normal)) (more ro.count) ro.version)
 
--- The record after leaving NORMAL: `last` says that nobody else is NORMAL. Removal marks nobody. (R-22)
+-- The record after leaving NORMAL: `last` says that nobody else is NORMAL. Removal marks nobody.
 abbrev pub arrived : Session → Way → Bool → Session
 arrived s (Way.Failed cause) last = marked (moved s (State.Failed cause)) last
 arrived s Way.Maintenance last = marked (flagged (moved s State.Reconnecting) true) last
 arrived s (Way.Removing mode owed) last = moved s (State.Removing mode owed)
 
 -- A session leaves NORMAL: one less in the count; the version rises; if the count comes to 0 on a way to FAILED or maintenance, it is marked.
--- A sync pool has no count, version change or mark. (R-20, R-21)
+-- A sync pool has no count, version change or mark.
 unfoldable pub left : Roster → ℕ → Way → Roster
 left ro id w =
     pick ro.sync
     (stored ro id (arrived (session_at ro id) w false))
     (raised (numbered (stored ro id (arrived (session_at ro id) w (eqb (ro.count - 1) 0))) (ro.count - 1) ro.version))
 
--- a session enters FAILED, with its cause (R-23)
+-- a session enters FAILED, with its cause
 unfoldable pub failed : Roster → ℕ → Cause → Roster
 failed ro id cause =
     pick (is_normal (session_at ro id).state)
@@ -87,7 +87,7 @@ failed ro id cause =
 unfoldable pub went : Roster → ℕ → State → Roster
 went ro id to = stored ro id (moved (session_at ro id) to)
 
--- LEAVE_POOL is owed on the way from this state to REMOVING (R-32)
+-- LEAVE_POOL is owed on the way from this state to REMOVING
 abbrev pub owes : State → Bool
 owes State.Free = true
 owes State.Created = true
@@ -96,7 +96,7 @@ owes (State.Failed cause) = false
 owes State.Reconnecting = true
 owes (State.Removing m owed) = owed
 
--- A session enters REMOVING; mark and flag go. (R-22)
+-- A session enters REMOVING; mark and flag go.
 unfoldable pub removing : Roster → ℕ → Mode → Roster
 removing ro id mode =
     pick (is_normal (session_at ro id).state)

@@ -3,13 +3,13 @@ use Rattle.std.specs.Prelude.{Bool, true, false, ℕ, eqb}
 use Rattle.rules_pool.specs.declared.Stage.{Stage}
 use Rattle.rules_pool.specs.declared.Job.{Job}
 
--- no job is in hand (R-28, R-29)
+-- no job is in hand
 abbrev pub is_idle : Job → Bool
 is_idle Job.Idle = true
 is_idle (Job.Running r) = false
 is_idle (Job.Removing m) = false
 
--- a run is in hand (R-28)
+-- a run is in hand
 abbrev pub is_running : Job → Bool
 is_running Job.Idle = false
 is_running (Job.Running r) = true

@@ -14,7 +14,7 @@ use Rattle.rules_pool.specs.Run.{awaited_in}
 use Rattle.rules_pool.specs.declared.Posted.{Posted}
 use Rattle.rules_pool.specs.Cases.{begun}
 
--- Awaited messages are numbered from 1, modulo 2^32: one counter for runs and removals, never restarted. (R-42)
+-- Awaited messages are numbered from 1, modulo 2^32: one counter for runs and removals, never restarted.
 abbrev pub next_number : ℕ → ℕ
 next_number n = (n + 1) % 4294967296
 
@@ -22,7 +22,7 @@ next_number n = (n + 1) % 4294967296
 abbrev pub with_roster : Pool → Roster → Pool
 with_roster p ro = record { roster = ro; job = p.job; number = p.number; chunks = p.chunks }
 
--- The awaited message of a job is sent: the one place where a message is numbered. (R-42)
+-- The awaited message of a job is sent: the one place where a message is numbered.
 unfoldable pub posted : Pool → Job → Message → Posted
 posted p j m =
     record {
@@ -38,7 +38,7 @@ quiet p = record { pool = p; awaited = Message.Nothing }
 abbrev pub jobless : Pool → Pool
 jobless p = record { roster = p.roster; job = Job.Idle; number = p.number; chunks = p.chunks }
 
--- The one end of every run: finished, failed or cut off. The version rises, whatever came of it. (R-21)
+-- The one end of every run: finished, failed or cut off. The version rises, whatever came of it.
 abbrev pub run_ended : Pool → Pool
 run_ended p = jobless (with_roster p (raised p.roster))
 
@@ -60,7 +60,7 @@ abbrev pub beginning : Next → Pool → Posted
 beginning Next.Over p = quiet p
 beginning (Next.On r) p = sent_by p r
 
--- Recovery is tried. (R-37)
+-- Recovery is tried.
 unfoldable pub tried : Pool → Posted
 tried p = beginning (begun p.roster) p
 
@@ -69,7 +69,7 @@ abbrev pub disabling : Who → Told
 disabling Who.Nobody = Told.Nothing
 disabling (Who.One id) = Told.Disable id
 
--- the same, but not to this session (R-48)
+-- the same, but not to this session
 abbrev pub disabling_but : ℕ → Who → Told
 disabling_but id Who.Nobody = Told.Nothing
 disabling_but id (Who.One x) = pick (eqb x id) Told.Nothing (Told.Disable x)

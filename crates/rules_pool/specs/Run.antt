@@ -20,7 +20,7 @@ hand r = lowest r.left
 abbrev pub rest : Run → ℕ
 rest r = without r.left (lowest r.left)
 
--- Each awaited answer, good or failed, raises the count by one. By the state rules it is below the limit before; a higher one stays. (R-49)
+-- Each awaited answer, good or failed, raises the count by one. By the state rules it is below the limit before; a higher one stays.
 abbrev pub counted : ℕ → ℕ
 counted taken = pick (ltb taken answer_limit) (taken + 1) taken
 
@@ -32,25 +32,25 @@ go r p source left = Next.On (record { phase = p; source = source; left = left; 
 abbrev pub ahead : Run → Phase → Next
 ahead r p = go r p r.source r.left
 
--- Receivers ascending; a run is over when none is left in its enabling spread. (R-41)
+-- Receivers ascending; a run is over when none is left in its enabling spread.
 abbrev pub to_spread : Run → ℕ → Next
 to_spread r left = pick (eqb left 0) Next.Over (go r (Phase.Spread Step.Ready) r.source left)
 
--- The gather, from each other member to the chosen; then ENABLE_POOL to the chosen. (R-41)
+-- The gather, from each other member to the chosen; then ENABLE_POOL to the chosen.
 abbrev pub to_gather : ℕ → Run → ℕ → ℕ → Next
 to_gather members r source left =
     pick (eqb left 0) (go r (Phase.Enable true) source (without members source)) (go r (Phase.Gather Step.Ready) source left)
 
--- LAST_IO_TO_MAP to all; then the gather. (R-41)
+-- LAST_IO_TO_MAP to all; then the gather.
 abbrev pub to_last : ℕ → Run → ℕ → ℕ → Next
 to_last members r source left =
     pick (eqb left 0) (to_gather members r source (without members source)) (go r Phase.LastIo source left)
 
--- The spread without enable, from the chosen to each other member; then LAST_IO_TO_MAP. (R-41)
+-- The spread without enable, from the chosen to each other member; then LAST_IO_TO_MAP.
 abbrev pub to_base : ℕ → Run → ℕ → ℕ → Next
 to_base members r source left = pick (eqb left 0) (to_last members r source members) (go r (Phase.Base Step.Ready) source left)
 
--- MAP_GET_VER to all; then the spread without enable. (R-41)
+-- MAP_GET_VER to all; then the spread without enable.
 abbrev pub to_versions : ℕ → Run → ℕ → ℕ → ℕ → Next
 to_versions members r best source left =
     pick (eqb left 0) (to_base members r source (without members source)) (go r (Phase.Versions best) source left)
@@ -70,19 +70,18 @@ receiver r = receiver_at r.phase r
 abbrev pub went_on : Run → Next → Move
 went_on r n = record { next = n; taken = counted r.taken; normal = Who.Nobody; disable = Who.Nobody }
 
--- (R-45)
 abbrev pub became_normal : Run → Next → ℕ → Move
 became_normal r n id = record { next = n; taken = counted r.taken; normal = Who.One id; disable = Who.Nobody }
 
--- the run ends, with MAP_DISABLE if a receiver was in hand (R-47)
+-- the run ends, with MAP_DISABLE if a receiver was in hand
 abbrev pub ended : Run → Move
 ended r = record { next = Next.Over; taken = counted r.taken; normal = Who.Nobody; disable = receiver r }
 
--- MAP_DISABLE to the receiver, and it is passed over (R-46)
+-- MAP_DISABLE to the receiver, and it is passed over
 abbrev pub passed_over : Run → Move
 passed_over r = record { next = to_spread r (rest r); taken = counted r.taken; normal = Who.Nobody; disable = receiver r }
 
--- A failed answer. (R-44)
+-- A failed answer.
 abbrev pub failed_at : Phase → Run → Move
 failed_at (Phase.Versions best) r = ended r
 failed_at (Phase.Base s) r = ended r
@@ -91,11 +90,10 @@ failed_at (Phase.Gather s) r = ended r
 failed_at (Phase.Enable every) r = ended r
 failed_at (Phase.Spread s) r = passed_over r
 
--- (R-47)
 unfoldable pub failed_answer : Run → Move
 failed_answer r = failed_at r.phase r
 
--- A good answer to MAP_GET_VER: without a version, or with one above the pool's, it is a failed one. The highest is chosen, ties to the lowest id. (R-44)
+-- A good answer to MAP_GET_VER: without a version, or with one above the pool's, it is a failed one. The highest is chosen, ties to the lowest id.
 abbrev pub version_brought : ℕ → ℕ → ℕ → Run → Brought → Move
 version_brought members version best r Brought.Nothing = failed_answer r
 version_brought members version best r (Brought.Version v) =
@@ -135,7 +133,6 @@ abbrev pub takes : ℕ → ℕ → Run → Reply → Move
 takes members version r Reply.Failed = failed_answer r
 takes members version r (Reply.Good b) = good members version r b
 
--- (R-43)
 abbrev pub step_message : Step → ℕ → ℕ → Bool → Bool → ℕ → ℕ → Message
 step_message Step.Ready from to keep enable version members = Message.Ready to keep
 step_message Step.Send from to keep enable version members = Message.Send from to
@@ -150,6 +147,5 @@ awaited_at (Phase.Gather s) members version r = step_message s (hand r) r.source
 awaited_at (Phase.Enable every) members version r = Message.Enable r.source version members
 awaited_at (Phase.Spread s) members version r = step_message s r.source (hand r) false true version members
 
--- (R-43)
 unfoldable pub awaited_in : ℕ → ℕ → Run → Message
 awaited_in members version r = awaited_at r.phase members version r

@@ -1,4 +1,4 @@
--- One session record: the tests on its state, and the ways to change it; the test on a message. (R-5)
+-- One session record: the tests on its state, and the ways to change it; the test on a message.
 use Rattle.std.specs.Prelude.{Bool, true, false, ◌&&◌, ◌||◌, not}
 use Rattle.rules_pool.specs.declared.Mode.{Mode}
 use Rattle.rules_pool.specs.declared.Cause.{Cause}

@@ -1,4 +1,4 @@
--- The sixteen session records as one thing: reading and storing one, the sets read off them, and the named changes. (R-5)
+-- The sixteen session records as one thing: reading and storing one, the sets read off them, and the named changes.
 -- Every definition has a meaning at any id: past 15 there is no session, and storing changes nothing.
 use Rattle.std.specs.Prelude.{Bool, ◌&&◌, ◌||◌, not, ℕ, ltb, get_or, set}
 use Rattle.laws_words.specs.Gather.{gather}

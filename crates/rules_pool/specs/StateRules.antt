@@ -16,7 +16,7 @@ use Rattle.rules_pool.specs.Still.{possible}
 
 -- The sessions with their numbers: the count right; at most one mark, none while one is NORMAL; version at least 1, version + count at most the top; the
 -- membership a set of ids, empty in a sync pool; and no record that alone breaks a rule (mark and maintenance only on FAILED or RECONNECTING; in a non-sync
--- pool every session but a REMOVING one a member; in a sync pool no mark, flag or RECONNECTING). (R-31, R-73)
+-- pool every session but a REMOVING one a member; in a sync pool no mark, flag or RECONNECTING).
 abbrev pub roster_rules : Roster → List Bool
 roster_rules ro =
     eqb ro.count (pick ro.sync 0 (size (ids_of Kind.Normals ro)))
@@ -65,7 +65,7 @@ hand_ok (Phase.Gather s) left = not (eqb left 0)
 hand_ok (Phase.Enable every) left = true
 hand_ok (Phase.Spread s) left = not (eqb left 0)
 
--- A run: in no sync pool; version at most the limit; those left are ids, somebody, and candidates; its source; count plus answers still possible at most the limit. (R-74)
+-- A run: in no sync pool; version at most the limit; those left are ids, somebody, and candidates; its source; count plus answers still possible at most the limit.
 abbrev pub run_rules : Roster → Run → List Bool
 run_rules ro r =
     not ro.sync
@@ -85,7 +85,7 @@ abbrev pub stage_ok : Stage → ℕ → Bool
 stage_ok Stage.Leave id = true
 stage_ok (Stage.Info peer) id = ltb peer 16 && not (eqb peer id)
 
--- In a removal its session is REMOVING. (R-74)
+-- In a removal its session is REMOVING.
 abbrev pub job_ok : Job → Roster → Bool
 job_ok Job.Idle ro = true
 job_ok (Job.Running r) ro = run_ok ro r
@@ -95,6 +95,5 @@ job_ok (Job.Removing m) ro = is_removing (session_at ro m.id).state && stage_ok 
 abbrev pub rules : Pool → List Bool
 rules p = leb 1 p.chunks ∷ leb p.chunks chunk_limit ∷ roster_ok p.roster ∷ job_ok p.job p.roster ∷ []
 
--- (R-73)
 unfoldable pub valid_pool : Pool → Bool
 valid_pool p = all (rules p)

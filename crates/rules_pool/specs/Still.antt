@@ -20,6 +20,5 @@ possible_at (Phase.Gather s) l k o = 3 * l - steps_done s + 1 + 3 * o
 possible_at (Phase.Enable every) l k o = 1 + 3 * l
 possible_at (Phase.Spread s) l k o = 3 * l - steps_done s
 
--- (R-74)
 unfoldable pub possible : ℕ → Run → ℕ
 possible members r = possible_at r.phase (size r.left) (size members) (size members - 1)

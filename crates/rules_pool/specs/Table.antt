@@ -3,7 +3,7 @@ use Rattle.std.specs.Prelude.{Bool, false, ◌&&◌, ◌||◌, not}
 use Rattle.rules_pool.specs.declared.State.{State}
 use Rattle.rules_pool.specs.Session.{is_normal, is_failed, is_reconnecting, is_removing}
 
--- In a pool that is sync or not, a session may go from the first state to the second. A session that is not there goes nowhere, and REMOVING is the last state. (R-5)
+-- In a pool that is sync or not, a session may go from the first state to the second. A session that is not there goes nowhere, and REMOVING is the last state.
 abbrev pub legal : Bool → State → State → Bool
 legal sync State.Free to = false
 legal sync State.Created to = is_normal to || ((is_reconnecting to && not sync) || (is_failed to || is_removing to))

@@ -4,43 +4,28 @@
 
 use rules_base::Op;
 
-// What a set of ids is made of: those of the sixteen for which this holds.
+// What a set of ids is made of. Present: has a session. Maintained: flagged. Owed: REMOVING, and LEAVE_POOL is owed. Told: POOL_INFO goes there; Later: and the id is above the given one. Strays: of the set, no
+// candidate. Reached, Unreached: NORMAL, in the set or not. Abnormal: of the set, not NORMAL. Listed: on the mark list of a write. Odd: the record alone
+// breaks a state rule. Link, Io: FAILED with this cause. Unused: neither a member nor held by a session.
 #[derive(Clone, Copy)]
 pub enum Kind {
-    // has a session
     Present,
     Normals,
-    // may take part in a run
     Candidates,
-    // carries the mark
     Marked,
-    // flagged for maintenance
     Maintained,
-    // REMOVING, with delete
     Deleting,
-    // REMOVING, and LEAVE_POOL is owed
     Owed,
-    // POOL_INFO goes there
     Told,
-    // POOL_INFO goes there, and the id is above the given one
     Later(u64),
-    // of the set, no candidate
     Strays(u64),
-    // NORMAL, and in the set
     Reached(u64),
-    // NORMAL, and not in the set
     Unreached(u64),
-    // of the set, not NORMAL
     Abnormal(u64),
-    // on the mark list of a write
     Listed,
-    // the record alone breaks a state rule
     Odd,
-    // FAILED, its link went down
     Link,
-    // FAILED, a write did not reach it
     Io,
-    // neither a member nor held by a session
     Unused,
 }
 
@@ -96,17 +81,15 @@ pub enum Cause {
     Io,
 }
 
-// A session's state.
+// A session's state. Free: the id has no session. FAILED carries its cause, so that a cause stands exactly while a session is FAILED. REMOVING carries its
+// mode, and whether LEAVE_POOL is still owed.
 #[derive(Clone, Copy)]
 pub enum State {
-    // the id has no session
     Free,
     Created,
     Normal,
-    // with its cause, so that a cause stands exactly while a session is FAILED
     Failed(Cause),
     Reconnecting,
-    // with its mode, and whether LEAVE_POOL is still owed
     Removing(Mode, bool),
 }
 
@@ -143,18 +126,15 @@ pub enum Step {
     Done,
 }
 
-// The phase of a recovery run.
+// The phase of a recovery run. Versions carries the highest version so far. Base is the spread without enable, Spread the one with it. Enable carries whether
+// the run is one of case 3: there every member is to stay a candidate until the enabling spread begins.
 #[derive(Clone, Copy)]
 pub enum Phase {
-    // with the highest version so far
     Versions(u64),
-    // the spread without enable
     Base(Step),
     LastIo,
     Gather(Step),
-    // with whether the run is one of case 3: there every member is to stay a candidate until the enabling spread begins
     Enable(bool),
-    // the spread with enable
     Spread(Step),
 }
 
@@ -167,12 +147,10 @@ pub struct Run {
     pub taken: u64,
 }
 
-// What a removal awaits.
+// What a removal awaits: LEAVE_POOL of its own session, or POOL_INFO of a peer.
 #[derive(Clone, Copy)]
 pub enum Stage {
-    // LEAVE_POOL of its own session
     Leave,
-    // POOL_INFO of a peer
     Info(u64),
 }
 
@@ -198,56 +176,42 @@ pub struct Pool {
     pub chunks: u64,
 }
 
-// The awaited message: first to whom, then what it carries.
+// The awaited message: to whom, and what it carries. Ready: keep. Send: the receiver. Done: enable, version, set. LastIo: the chosen. Enable: version, set.
 #[derive(Clone, Copy)]
 pub enum Message {
     Nothing,
     GetVersion(u64),
-    // keep
     Ready(u64, bool),
-    // the receiver
     Send(u64, u64),
-    // enable, version, set
     Done(u64, bool, u64, u64),
-    // the chosen
     LastIo(u64, u64),
-    // version, set
     Enable(u64, u64, u64),
-    // mode
     Leave(u64, Mode),
-    // what, member
     Info(u64, Op, u64),
 }
 
-// The messages that are not awaited; an event sends at most one kind.
+// The messages that are not awaited; an event sends at most one kind. Marks: to each of a set, chunk, list, version. Clears: to each of a set, member,
+// chunk. Infos: to each of a set, what, member. Disable: MAP_DISABLE. Off: ENABLE 0. Extended: POOL_INFO of a member added by create to each of a set, then
+// its fill to each of another: others, normals, member, version. Checks: MAP_CHECK to each of a set, the tick's number.
 #[derive(Clone, Copy)]
 pub enum Told {
     Nothing,
-    // to each of a set: chunk, list, version
     Marks(u64, u64, u64, u64),
-    // to each of a set: member, chunk
     Clears(u64, u64, u64),
-    // to each of a set: what, member
     Infos(u64, Op, u64),
-    // MAP_DISABLE
     Disable(u64),
-    // ENABLE 0
     Off(u64),
-    // POOL_INFO of a member added by create to each of a set, then its fill to each of another: others, normals, member, version
     Extended(u64, u64, u64, u64),
-    // MAP_CHECK to each of a set: the tick's number
     Checks(u64, u64),
 }
 
-// What an accepted event reports beside its messages.
+// What an accepted event reports beside its messages. Taken: the awaited answers taken so far in the run. Written: acknowledged or not, and the mark list.
+// Picked: the id that extend picked.
 #[derive(Clone, Copy)]
 pub enum Outcome {
     Plain,
-    // the awaited answers taken so far in the run
     Taken(u64),
-    // acknowledged or not, and the mark list
     Written(bool, u64),
-    // the id that extend picked
     Picked(u64),
 }
 
@@ -280,16 +244,13 @@ pub enum Reply {
     Good(Brought),
 }
 
-// What is to be done to the client map.
+// What is to be done to the client map: nothing, mark a set at a chunk, zero a member's row, zero all, set a member's row for every chunk below a count.
 #[derive(Clone, Copy)]
 pub enum Effect {
     Keep,
-    // a set, a chunk
     Mark(u64, u64),
-    // a member's row
     ZeroRow(u64),
     ZeroAll,
-    // a member's row, for every chunk below a count
     FillRow(u64, u64),
 }
 

@@ -1,26 +1,25 @@
--- A history of a pool from fresh, and what it says of nodes and chunks. (R-78)
+-- A history of a pool from fresh, and what it says of nodes and chunks.
 use Rattle.std.specs.Prelude.{◌≡◌, Bool, true, false, ◌&&◌, ◌||◌, not, ℕ, ◌≤◌, eqb}
-use Rattle.laws_words.specs.Words.{pick}
-use Rattle.rules_base.specs.Sets.{has}
-use Rattle.rules_pool.specs.Session.{is_free}
-use Rattle.rules_node.specs.States.{is_joined}
 use Rattle.rules_base.specs.Limits.{chunk_limit}
 use Rattle.rules_client.specs.Extend.{picked}
 use Rattle.rules_node.specs.declared.Node.{Node}
+use Rattle.rules_node.specs.Change as change
 use Rattle.rules_client.specs.Client.{fresh_pool}
 use Rattle.rules_client.specs.Events.{Event}
-use Rattle.rules_world.specs.Station.{Station, Lived}
-use Rattle.rules_world.specs.Whole.{World, state_in, Own, event_of, Happening, accepts, acknowledges, takes, after}
+use Rattle.rules_node.specs.Events as storage
+use Rattle.rules_world.specs.Station.{both_sound}
+use Rattle.rules_world.specs.Whole.{World, Happening, accepts, acknowledges, takes, after}
 
 -- ---- histories
 
--- "One non-sync pool from fresh", with 1 to 4,096 chunks, and "nodes that keep the rules": they may have lived before, in any pool, and stand in any state that their events left.
+-- "One non-sync pool from fresh", with 1 to 4,096 chunks; every node is fresh, with any two sound maps.
 pub record Starts (w : World) : Type 0 where
   pub chunks : ℕ
   pub some : 1 ≤ chunks
   pub most : chunks ≤ chunk_limit
   pub pool : w.pool ≡ fresh_pool false chunks
-  pub nodes : (j : ℕ) → Lived j chunks (w.nodes j)
+  pub node : (j : ℕ) → (w.nodes j).node ≡ change.fresh j chunks
+  pub maps : (j : ℕ) → both_sound (w.nodes j) ≡ true
 
 -- a history that came to this world
 pub data History : World → Type 0 where
@@ -29,31 +28,75 @@ pub data History : World → Type 0 where
 
 -- ---- what it says
 
--- a join, of either kind; one by create
-abbrev pub is_join : Own → Bool
-is_join Own.register_create = false
-is_join (Own.register_add set version) = false
-is_join (Own.unregister delete) = false
-is_join (Own.join_create set) = true
-is_join Own.assemble = true
-is_join Own.fault = false
+-- Where an event of a node comes from: its store is created afresh, added with a version, or given up, deleted or not; it joins by create, or by assemble (or again); a fault; or a message of the client.
+pub data Origin : Type 0 where
+  afresh : Origin
+  added : ℕ → Origin
+  given_up : Bool → Origin
+  joins_create : Origin
+  joins_assemble : Origin
+  fault : Origin
+  message : Origin
 
-abbrev pub is_creation : Own → Bool
-is_creation Own.register_create = false
-is_creation (Own.register_add set version) = false
-is_creation (Own.unregister delete) = false
-is_creation (Own.join_create set) = true
-is_creation Own.assemble = false
-is_creation Own.fault = false
+abbrev pub origin_of : storage.Event → Origin
+origin_of storage.Event.register_create = Origin.afresh
+origin_of (storage.Event.register_add set version) = Origin.added version
+origin_of (storage.Event.unregister delete) = Origin.given_up delete
+origin_of (storage.Event.join_create set) = Origin.joins_create
+origin_of storage.Event.assemble = Origin.joins_assemble
+origin_of (storage.Event.leave delete) = Origin.message
+origin_of (storage.Event.enable1 version set) = Origin.message
+origin_of storage.Event.enable0 = Origin.message
+origin_of storage.Event.fault = Origin.fault
+origin_of (storage.Event.write chunk set version) = Origin.message
+origin_of (storage.Event.synced member chunk) = Origin.message
+origin_of (storage.Event.pool_info op member) = Origin.message
+origin_of (storage.Event.map_ready keep) = Origin.message
+origin_of (storage.Event.give_part offset length) = Origin.message
+origin_of (storage.Event.take_part offset part) = Origin.message
+origin_of (storage.Event.map_done enable version set) = Origin.message
+origin_of storage.Event.map_disable = Origin.message
+origin_of storage.Event.map_get_ver = Origin.message
+origin_of (storage.Event.last_io_to_map chosen) = Origin.message
+origin_of (storage.Event.fill member version) = Origin.message
+
+-- a join, of either kind; one by create
+abbrev pub is_join : Origin → Bool
+is_join Origin.afresh = false
+is_join (Origin.added version) = false
+is_join (Origin.given_up delete) = false
+is_join Origin.joins_create = true
+is_join Origin.joins_assemble = true
+is_join Origin.fault = false
+is_join Origin.message = false
+
+abbrev pub is_creation : Origin → Bool
+is_creation Origin.afresh = false
+is_creation (Origin.added version) = false
+is_creation (Origin.given_up delete) = false
+is_creation Origin.joins_create = true
+is_creation Origin.joins_assemble = false
+is_creation Origin.fault = false
+is_creation Origin.message = false
+
+abbrev pub is_message : Origin → Bool
+is_message Origin.afresh = false
+is_message (Origin.added version) = false
+is_message (Origin.given_up delete) = false
+is_message Origin.joins_create = false
+is_message Origin.joins_assemble = false
+is_message Origin.fault = false
+is_message Origin.message = true
 
 -- the store stays what it is: neither created afresh nor deleted, nor added with another version than the node's
-abbrev pub keeps_store : Own → Node → Bool
-keeps_store Own.register_create n = false
-keeps_store (Own.register_add set version) n = eqb version n.version
-keeps_store (Own.unregister delete) n = not delete
-keeps_store (Own.join_create set) n = true
-keeps_store Own.assemble n = true
-keeps_store Own.fault n = true
+abbrev pub keeps_store : Origin → Node → Bool
+keeps_store Origin.afresh n = false
+keeps_store (Origin.added version) n = eqb version n.version
+keeps_store (Origin.given_up delete) n = not delete
+keeps_store Origin.joins_create n = true
+keeps_store Origin.joins_assemble n = true
+keeps_store Origin.fault n = true
+keeps_store Origin.message n = true
 
 -- the id that an event of the client takes into the pool, if it is accepted: that of a join, or the one that extend picks
 abbrev pub takes_in : Event → World → ℕ → Bool
@@ -87,61 +130,27 @@ writes (Event.synced xs member chunk) c = false
 writes (Event.answer xs number reply) c = false
 writes (Event.extend xs) c = false
 
--- Extend takes an id in at which no node has joined: its leg is to come.
-abbrev pub is_to_come : Event → Station → Bool
-is_to_come (Event.join_create id) s = false
-is_to_come (Event.join_assemble id set version) s = false
-is_to_come (Event.enable id) s = false
-is_to_come (Event.maintenance id) s = false
-is_to_come (Event.link_down id) s = false
-is_to_come (Event.store_check id) s = false
-is_to_come (Event.rejoin id) s = false
-is_to_come Event.try_run s = false
-is_to_come (Event.remove xs id mode) s = false
-is_to_come (Event.write xs chunk reached) s = false
-is_to_come (Event.synced xs member chunk) s = false
-is_to_come (Event.answer xs number reply) s = false
-is_to_come (Event.extend xs) s = not (is_joined s.node.state)
-
--- the node's own join of either kind, accepted
-abbrev pub joins_by : World → ℕ → Own → ℕ → Bool
-joins_by w k e j = eqb j k && (is_join e && takes (w.nodes k) (event_of e))
-
--- The node that stands at the id has joined in this history: by its own event, or because the client took it in.
+-- The node that stands at the id has joined: by its own event, or because extend took it in.
 abbrev pub joined_by : World → Happening → ℕ → Bool → Bool
-joined_by w (Happening.node k e) j was = was || joins_by w k e j
-joined_by w (Happening.client e got) j was = pick (takes_in e w j && accepts w e) (not (is_to_come e (w.nodes j))) was
+joined_by w (Happening.node k e) j was = was || (eqb j k && (is_join (origin_of e) && takes (w.nodes k) e))
+joined_by w (Happening.client e got) j was = was || (takes_in e w j && accepts w e)
 joined_by w (Happening.hand_enable k) j was = was
-joined_by w (Happening.arrives l) j was = was
-joined_by w (Happening.another k s) j was = was && not (eqb j k)
+joined_by w (Happening.arrives lengths) j was = was
+joined_by w (Happening.breaks_off lengths) j was = was
+joined_by w (Happening.another k xs ys) j was = was && not (eqb j k)
 
 abbrev pub joined : {w : World} → History w → ℕ → Bool
 joined (start w s) j = false
 joined (then w x h) j = joined_by w x j (joined h j)
 
--- The id is neither a member nor held by a session.
-abbrev pub is_outside : World → ℕ → Bool
-is_outside w j = not (has w.pool.roster.members j) && is_free (state_in w j)
-
--- Extend took the id in, and its leg is to come: no node has joined there since. A node that comes to the id when it is free again is not that leg's.
-abbrev pub to_come_by : World → Happening → ℕ → Bool → Bool
-to_come_by w (Happening.node k e) j was = was && not (joins_by w k e j)
-to_come_by w (Happening.client e got) j was = pick (takes_in e w j && accepts w e) (is_to_come e (w.nodes j)) was
-to_come_by w (Happening.hand_enable k) j was = was
-to_come_by w (Happening.arrives l) j was = was
-to_come_by w (Happening.another k s) j was = was && not (eqb j k && is_outside w k)
-
-abbrev pub to_come : {w : World} → History w → ℕ → Bool
-to_come (start w s) j = false
-to_come (then w x h) j = to_come_by w x j (to_come h j)
-
 -- It joined by create, and the client has not taken that join.
 abbrev pub waits_by : World → Happening → ℕ → Bool → Bool
-waits_by w (Happening.node k e) j was = was || (eqb j k && (is_creation e && takes (w.nodes k) (event_of e)))
+waits_by w (Happening.node k e) j was = was || (eqb j k && (is_creation (origin_of e) && takes (w.nodes k) e))
 waits_by w (Happening.client e got) j was = was && not (takes_in e w j && accepts w e)
 waits_by w (Happening.hand_enable k) j was = was
-waits_by w (Happening.arrives l) j was = was
-waits_by w (Happening.another k s) j was = was && not (eqb j k)
+waits_by w (Happening.arrives lengths) j was = was
+waits_by w (Happening.breaks_off lengths) j was = was
+waits_by w (Happening.another k xs ys) j was = was && not (eqb j k)
 
 abbrev pub waits : {w : World} → History w → ℕ → Bool
 waits (start w s) j = false
@@ -152,8 +161,9 @@ abbrev pub acked_by : World → Happening → ℕ → Bool → Bool
 acked_by w (Happening.node k e) c was = was
 acked_by w (Happening.client e got) c was = was || (writes e c && acknowledges w e)
 acked_by w (Happening.hand_enable k) c was = was
-acked_by w (Happening.arrives l) c was = was
-acked_by w (Happening.another k s) c was = was
+acked_by w (Happening.arrives lengths) c was = was
+acked_by w (Happening.breaks_off lengths) c was = was
+acked_by w (Happening.another k xs ys) c was = was
 
 abbrev pub acked : {w : World} → History w → ℕ → Bool
 acked (start w s) c = false

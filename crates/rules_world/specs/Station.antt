@@ -1,10 +1,9 @@
--- A storage node with its bytes, and an event at it: what the node's own methods answer, and what they leave. (R-77, R-78)
-use Rattle.std.specs.Prelude.{◌≡◌, Bool, true, ◌&&◌, List, ℕ}
+-- A storage node with its bytes, and an event at it: what the node's own methods answer, and what they leave.
+use Rattle.std.specs.Prelude.{◌≡◌, Bool, ◌&&◌, List, ℕ}
 use Rattle.rules_base.specs.Map.{sound}
 use Rattle.rules_base.specs.Summary.{summaries_of}
 use Rattle.rules_node.specs.declared.Answer.{Answer}
 use Rattle.rules_node.specs.declared.Node.{Node}
-use Rattle.rules_node.specs.Change.{fresh}
 use Rattle.rules_node.specs.Face.{StorageNode}
 use Rattle.rules_node.specs.Events.{Event}
 use Rattle.rules_node.specs.Face.{answers, map_left, staging_left}
@@ -43,8 +42,3 @@ does s e =
 -- What an event leaves is such a node again: the value that it hands back is that of the node left.
 abbrev pub FaceStays : Type 0
 FaceStays = (s : Station) (e : Event) → (answers e (face s) s.map s.staging).node ≡ face (does s e).station
-
--- A node of this id and chunk count that kept the rules so far, whatever it went through: it was fresh, with any two sound maps, and then came any events, accepted or refused.
-pub data Lived (id chunks : ℕ) : Station → Type 0 where
-  new : (s : Station) → s.node ≡ fresh id chunks → both_sound s ≡ true → Lived id chunks s
-  then : (s : Station) (e : Event) → Lived id chunks s → Lived id chunks (does s e).station

@@ -1,10 +1,8 @@
--- The client and its nodes together, and one exchange of a recovery run: the message that the client sent and awaits goes to its node, and that node's (R-77)
+-- The client and its nodes together, and one exchange of a recovery run: the message that the client sent and awaits goes to its node, and that node's
 -- answer goes back to the client, under the message's number.
-use Rattle.std.specs.Prelude.{Bool, List, [], ◌∷◌, ◌++◌, ℕ, zero, suc, ◌+◌, eqb}
+use Rattle.std.specs.Prelude.{List, [], ◌∷◌, ℕ, zero, suc, ◌+◌, eqb}
 use Rattle.laws_words.specs.Words.{pick}
-use Rattle.rules_base.specs.Sets.{has}
 use Rattle.rules_base.specs.Parts.{part_of}
-use Rattle.rules_base.specs.declared.Op.{Op}
 use Rattle.rules_pool.specs.declared.Job.{Job}
 use Rattle.rules_pool.specs.declared.Pool.{Pool}
 use Rattle.rules_pool.specs.declared.Message.{Message}
@@ -71,46 +69,16 @@ deliver lengths (Message.Enable to version members) f = by_one f to (does (f to)
 deliver lengths (Message.Leave to mode) f = by_one f to (does (f to) (Event.leave (is_delete mode)))
 deliver lengths (Message.Info to op member) f = by_one f to (does (f to) (Event.pool_info op member))
 
--- ---- what the client tells without awaiting it
-
-abbrev pub when_to : Bool → Event → List Event
-when_to to e = pick to (e ∷ []) []
-
--- the events that it is at node j, in their order
-abbrev pub due_to : Told → ℕ → List Event
-due_to Told.Nothing j = []
-due_to (Told.Marks to chunk list version) j = when_to (has to j) (Event.write chunk list version)
-due_to (Told.Clears to member chunk) j = when_to (has to j) (Event.synced member chunk)
-due_to (Told.Infos to op member) j = when_to (has to j) (Event.pool_info op member)
-due_to (Told.Disable to) j = when_to (eqb to j) Event.map_disable
-due_to (Told.Off to) j = when_to (eqb to j) Event.enable0
-due_to (Told.Checks to tick) j = []
-due_to (Told.Extended others normals member version) j = when_to (has others j) (Event.pool_info Op.AddCreate member) ++ when_to (has normals j) (Event.fill member version)
-
--- a node after events
-abbrev pub after_all : List Event → Station → Station
-after_all [] s = s
-after_all (e ∷ es) s = after_all es (does s e).station
-
--- the node of id j when what was told has come to it
-abbrev pub told_at : Told → ℕ → Station → Station
-told_at t j s = after_all (due_to t j) s
-
--- Of what is told, what a run tells: MAP_DISABLE alone.
-abbrev pub in_run : Told → Told
-in_run Told.Nothing = Told.Nothing
-in_run (Told.Marks to chunk list version) = Told.Nothing
-in_run (Told.Clears to member chunk) = Told.Nothing
-in_run (Told.Infos to op member) = Told.Nothing
-in_run (Told.Disable to) = Told.Disable to
-in_run (Told.Off to) = Told.Nothing
-in_run (Told.Extended others normals member version) = Told.Nothing
-in_run (Told.Checks to tick) = Told.Nothing
-
--- what an event told: a refused one nothing
-abbrev pub told_in : Answer → Told
-told_in (Answer.Refused n) = Told.Nothing
-told_in (Answer.Done s) = s.told
+-- The one message of a run that is not awaited, MAP_DISABLE, delivered. The others are sent by other events: they reach no node here.
+abbrev pub tell : Told → (ℕ → Station) → ℕ → Station
+tell Told.Nothing f = f
+tell (Told.Marks to chunk list version) f = f
+tell (Told.Clears to member chunk) f = f
+tell (Told.Infos to op member) f = f
+tell (Told.Disable to) f = upd f to (does (f to) Event.map_disable).station
+tell (Told.Off to) f = f
+tell (Told.Extended others normals member version) f = f
+tell (Told.Checks to tick) f = f
 
 -- ---- the client hears the answer
 
@@ -128,12 +96,10 @@ abbrev pub last_sent : Answer → Sent → Sent
 last_sent (Answer.Refused n) before = before
 last_sent (Answer.Done s) before = s
 
--- the nodes after what the client sends in a run without awaiting it; what other events tell reaches no node here
-abbrev pub tell : Told → (ℕ → Station) → ℕ → Station
-tell t f j = told_at (in_run t) j (f j)
-
+-- the nodes after what the client sends without awaiting it
 abbrev pub afterward : Answer → (ℕ → Station) → ℕ → Station
-afterward a f = tell (told_in a) f
+afterward (Answer.Refused n) f = f
+afterward (Answer.Done s) f = tell s.told f
 
 abbrev pub heard : World → (ℕ → Station) → Turn → World
 heard w f t =

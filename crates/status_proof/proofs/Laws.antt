@@ -7,21 +7,20 @@ use Prim.Native.Nat.{ℕ, zero, suc, ◌+◌, ◌*◌, ◌/◌, ◌%◌, ◌≤�
 use native.Mathlib.Nat.{mul-pos, zero-mul, div-add-mod'}
 use native.Mathlib.Decide.{ℕ_discrete}
 use native.Mathlib.Omega.{arith}
-use borrow.Author.Tests.{eqb-true, eq-eqb, ne_eqb, leb-true, ltb-true, lt-ltb, not-true}
-use lib.Dec.{eqb, leb, ltb}
+use borrow.Author.Tests.{eqb-true, eq-eqb, ne_eqb, leb-true, not-true}
+use lib.Dec.{eqb, leb}
 use lib.ListN.{length}
 use lib.Seq.{sets}
 use Rattle.laws_words.specs.Words.{pick}
 use Rattle.laws_words.specs.Tests.{by_cases, clash, and_left, and_right, and-false}
-use Rattle.rules_base.specs.Map.{row_of}
 use Rattle.status_row.specs.Volume.{row_sound, volume_good}
 use Rattle.status_row.specs.Descriptors.{Desc, total, word_at, descs_from, descs_of}
 use Rattle.status_row.proofs.DescriptorsLaws.{size-cases, volume}
 use Rattle.status_row.specs.declared.writer.Wrote.{Wrote}
-use Rattle.status_row.specs.Writing.{status_of, write_refusal, write_answer, write_leaves, member_answer, member_leaves}
+use Rattle.status_row.specs.Writing.{status_of, write_refusal, write_answer, write_leaves}
 use Rattle.status_row.specs.Reading.{desc_good, every_good, status_good, flags_of, painted, read_refusal, read_leaves}
 use Rattle.status_row.proofs.ReaderLaws.{good_from, good-descs}
-use Rattle.status_proof.specs.Laws.{Writes, Largest, SameRow, TakenMost, Untouched, ChunkSize, BadInput, NotWritten, MembersRow, Worked}
+use Rattle.status_proof.specs.Laws.{Writes, Largest, SameRow, TakenMost, Untouched, BadInput, Worked}
 use Rattle.status_proof.proofs.Back.{back}
 use Rattle.status_proof.proofs.Written.{written}
 use Rattle.status_proof.proofs.Cases.{two_runs, longest-clean, longest-dirty, alternating, same-neighbours}
@@ -148,70 +147,14 @@ bad-descriptor n s bs i h e = rw (bad-at s bs (length bs / 8) 0 i (omega arith) 
 bad-nothing : (n s : ℕ) → volume_good n s ≡ true → status_good n s [] ≡ false
 bad-nothing n s g = bad_sum n s [] (λ e. let v = volume n s g in let p : 0 < n * s = mul-pos v.from (omega (arith, v.least)) in let q : total (descs_of []) ≡ 0 = unfold total descs_of descs_from in refl in let z : ⊥ = omega (arith, e, p, q) in z)
 
--- each fault of a descriptor
-bad-zero : (s b f : ℕ) → b ≡ 0 → desc_good s b f ≡ false
-unfolding desc_good
-bad-zero s b f e = rw (eq-eqb b 0 e)
-
-bad-part : (s b f : ℕ) → (b % s ≡ 0 → ⊥) → desc_good s b f ≡ false
-unfolding desc_good
-bad-part s b f d = rw (ne_eqb (b % s) 0 d) (and-false (not (eqb b 0)))
-
-bad-flag : (s b f : ℕ) → 2 ≤ f → desc_good s b f ≡ false
-unfolding desc_good
-bad-flag s b f h = rw (le-ltb-no f h, and-false (eqb (b % s) 0)) (and-false (not (eqb b 0)))
-  where
-    le-ltb-no : (f : ℕ) → 2 ≤ f → ltb f 2 ≡ false
-    le-ltb-no f h = by_cases (ltb f 2) (λ t. let l : f < 2 = ltb-true f 2 t in absurd (let z : ⊥ = omega arith in z)) (λ e. e)
-
--- the chunk sizes are those powers of two
-a-size : (n s : ℕ) → volume_good n s ≡ true → ChunkSize s
-a-size n s g =
-    size-cases ChunkSize (12, omega arith, omega arith, refl) (13, omega arith, omega arith, refl) (14, omega arith, omega arith, refl) (15, omega arith, omega arith, refl) (16, omega arith, omega arith, refl)
-    (17, omega arith, omega arith, refl) (18, omega arith, omega arith, refl) (19, omega arith, omega arith, refl) (20, omega arith, omega arith, refl) s (volume n s g).size
-
-no-volume : (n s : ℕ) → (volume_good n s ≡ true → ⊥) → volume_good n s ≡ false
-no-volume n s d = by_cases (volume_good n s) (λ g. absurd (d g)) (λ e. e)
-
 pub bad-input : BadInput
 bad-input n s bs xs e = record {
-  zero-length = λ i h q. not_good n s bs xs e (bad-descriptor n s bs i h (bad-zero s (word_at bs (8 * i)) (word_at bs (8 * i + 4)) q));
-  no_chunks = λ i h d. not_good n s bs xs e (bad-descriptor n s bs i h (bad-part s (word_at bs (8 * i)) (word_at bs (8 * i + 4)) d));
-  flag = λ i h f. not_good n s bs xs e (bad-descriptor n s bs i h (bad-flag s (word_at bs (8 * i)) (word_at bs (8 * i + 4)) f));
+  volume = λ q. refused-20 n s bs xs e (rw q);
   bytes = λ d. not_good n s bs xs e (bad-bytes n s bs d);
+  descriptor = λ i h q. not_good n s bs xs e (bad-descriptor n s bs i h q);
   sum = λ d. not_good n s bs xs e (bad_sum n s bs d);
-  size = λ d. refused-20 n s bs xs e (rw (no-volume n s (λ g. d (a-size n s g))));
-  count = λ d. refused-20 n s bs xs e (rw (no-volume n s (λ g. let v = volume n s g in d (v.from, v.upto))));
   nothing = λ q. rw q (by_cases (volume_good n s) (λ g. not_good n s [] xs e (bad-nothing n s g)) (λ g. refused-20 n s [] xs e (rw g)));
 }
-
--- ---- writing
-not-written-20 : (n s : ℕ) (xs out : List ℕ) → row_sound n xs ≡ true → (volume_good n s && leb 32768 (length out)) ≡ false → (write_answer n s xs out ≡ Wrote.Refused 20) × (write_leaves n s xs out ≡ out)
-unfolding write_answer write_leaves write_refusal
-not-written-20 n s xs out e q = (rw (e, q) refl, rw (e, q) refl)
-
-pub not_written : NotWritten
-not_written n s xs out e =
-    record {
-      size = λ d. not-written-20 n s xs out e (rw (no-volume n s (λ g. d (a-size n s g))) refl);
-      few = λ h. not-written-20 n s xs out e (rw (short (length out) h) (and-false (volume_good n s)));
-    }
-  where
-    short : (k : ℕ) → k < 32768 → leb 32768 k ≡ false
-    short k h = by_cases (leb 32768 k) (λ t. let l : 32768 ≤ k = leb-true 32768 k t in absurd (let z : ⊥ = omega arith in z)) (λ e. e)
-
--- ---- one member's row
-pub members-row : MembersRow
-unfolding member_answer member_leaves row_of
-members-row n s xs m out =
-    record {
-      row = λ e l. (rw (eq-eqb (length xs) 8192 e, lt-ltb m 16 (omega arith)) refl, rw (eq-eqb (length xs) 8192 e, lt-ltb m 16 (omega arith)) refl);
-      another-length = λ d. (rw (ne_eqb (length xs) 8192 d) refl, rw (ne_eqb (length xs) 8192 d) refl);
-      no_member = λ e l. (rw (eq-eqb (length xs) 8192 e, high m l) refl, rw (eq-eqb (length xs) 8192 e, high m l) refl);
-    }
-  where
-    high : (m : ℕ) → 16 ≤ m → ltb m 16 ≡ false
-    high m l = by_cases (ltb m 16) (λ t. let h : m < 16 = ltb-true m 16 t in absurd (let z : ⊥ = omega arith in z)) (λ e. e)
 
 pub worked : Worked
 worked = record {

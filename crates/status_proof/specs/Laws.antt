@@ -3,8 +3,8 @@ use Rattle.std.specs.Prelude.{◌≡◌, ◌⊎◌, Bool, true, false, not, ◌&
 use Rattle.status_row.specs.Volume.{row_sound, volume_good}
 use Rattle.status_row.specs.Descriptors.{Desc, total, word_at, descs_of}
 use Rattle.status_row.specs.declared.writer.Wrote.{Wrote}
-use Rattle.status_row.specs.Writing.{status_of, write_answer, write_leaves, member_answer, member_leaves}
-use Rattle.status_row.specs.Reading.{status_good, read_refusal, read_leaves}
+use Rattle.status_row.specs.Writing.{status_of, write_answer, write_leaves}
+use Rattle.status_row.specs.Reading.{desc_good, status_good, read_refusal, read_leaves}
 
 -- ---- what is written
 -- no descriptor covers nothing
@@ -47,7 +47,7 @@ pub record Row (xs : List ℕ) : Type 0 where
   pub len : length xs ≡ 512
   pub byte : (k : ℕ) → get_or xs k 0 < 2 ^ 8
 
--- Writing then reading gives the same row: the k bytes that writing says it wrote are taken into any sound row, which is then the one that was written. (R-81)
+-- Writing then reading gives the same row: the k bytes that writing says it wrote are taken into any sound row, which is then the one that was written.
 abbrev pub SameRow : Type 0
 SameRow = (n s : ℕ) (xs ys out : List ℕ) (k : ℕ) → Row xs → Row ys → row_sound n ys ≡ true → write_answer n s xs out ≡ Wrote.Bytes k → (read_refusal n s (take k (write_leaves n s xs out)) ys ≡ 0) × (read_leaves n s (take k (write_leaves n s xs out)) ys ≡ xs)
 
@@ -56,47 +56,26 @@ abbrev pub TakenMost : Type 0
 TakenMost = (n s : ℕ) (bs : List ℕ) → volume_good n s ≡ true → status_good n s bs ≡ true → length bs ≤ 8 * n
 
 -- ---- what is refused
--- A refusal is 2 or 20, and touches nothing. (R-81)
+-- A refusal is 2 or 20, and touches nothing.
 pub record Untouched : Type 0 where
   pub writing : (n s : ℕ) (xs out : List ℕ) (r : ℕ) → write_answer n s xs out ≡ Wrote.Refused r → ((r ≡ 2) ⊎ (r ≡ 20)) × (write_leaves n s xs out ≡ out)
   pub reading : (n s : ℕ) (bs xs : List ℕ) → (read_refusal n s bs xs ≡ 0) ⊎ (((read_refusal n s bs xs ≡ 2) ⊎ (read_refusal n s bs xs ≡ 20)) × (read_leaves n s bs xs ≡ xs))
 
--- "The chunk size is a power of two from 4,096 to 1,048,576 bytes."
-abbrev pub ChunkSize : ℕ → Type 0
-ChunkSize s = (k : ℕ) × (12 ≤ k) × (k ≤ 20) × (s ≡ 2 ^ k)
-
--- With a sound row lent: "a zero length, a length that is no whole number of chunks, another flag bit, bytes that are no whole number of descriptors, or a total other than the volume is
--- refused (number 20) with the row untouched; so is another chunk size". Descriptor i has its length in the word at byte 8i, its flags in the word at 8i + 4.
+-- With a sound row lent, each input that the request names is refused with 20.
 pub record Refuses (n s : ℕ) (bs xs : List ℕ) : Type 0 where
-  pub zero-length : (i : ℕ) → i < length bs / 8 → word_at bs (8 * i) ≡ 0 → read_refusal n s bs xs ≡ 20
-  pub no_chunks : (i : ℕ) → i < length bs / 8 → (word_at bs (8 * i) % s ≡ 0 → ⊥) → read_refusal n s bs xs ≡ 20
-  pub flag : (i : ℕ) → i < length bs / 8 → 2 ≤ word_at bs (8 * i + 4) → read_refusal n s bs xs ≡ 20
+  -- another chunk count or chunk size
+  pub volume : volume_good n s ≡ false → read_refusal n s bs xs ≡ 20
+  -- no whole number of descriptors
   pub bytes : (length bs % 8 ≡ 0 → ⊥) → read_refusal n s bs xs ≡ 20
+  -- somewhere a zero length, a length that is no whole number of chunks, or another flag bit
+  pub descriptor : (i : ℕ) → i < length bs / 8 → desc_good s (word_at bs (8 * i)) (word_at bs (8 * i + 4)) ≡ false → read_refusal n s bs xs ≡ 20
+  -- a total other than the volume
   pub sum : (total (descs_of bs) ≡ n * s → ⊥) → read_refusal n s bs xs ≡ 20
-  pub size : ¬ (ChunkSize s) → read_refusal n s bs xs ≡ 20
-  -- another chunk count; nothing at all
-  pub count : ¬ ((1 ≤ n) × (n ≤ 4096)) → read_refusal n s bs xs ≡ 20
+  -- nothing at all
   pub nothing : bs ≡ [] → read_refusal n s bs xs ≡ 20
 
 abbrev pub BadInput : Type 0
 BadInput = (n s : ℕ) (bs xs : List ℕ) → row_sound n xs ≡ true → Refuses n s bs xs
-
--- "so is another chunk size, or writing into fewer than 32,768 lent bytes, with none of them touched"
-pub record RefusesToWrite (n s : ℕ) (xs out : List ℕ) : Type 0 where
-  pub size : ¬ (ChunkSize s) → (write_answer n s xs out ≡ Wrote.Refused 20) × (write_leaves n s xs out ≡ out)
-  pub few : length out < 32768 → (write_answer n s xs out ≡ Wrote.Refused 20) × (write_leaves n s xs out ≡ out)
-
-abbrev pub NotWritten : Type 0
-NotWritten = (n s : ℕ) (xs out : List ℕ) → row_sound n xs ≡ true → RefusesToWrite n s xs out
-
--- "Give one member's row": of a map of 8,192 bytes the 512 from byte 512m on; a map of another length is 2, an id above 15 is 3, and then none of the lent bytes is touched.
-pub record OneMember (n s : ℕ) (xs : List ℕ) (m : ℕ) (out : List ℕ) : Type 0 where
-  pub row : length xs ≡ 8192 → m ≤ 15 → (member_answer n s xs m out ≡ write_answer n s (take 512 (drop (512 * m) xs)) out) × (member_leaves n s xs m out ≡ write_leaves n s (take 512 (drop (512 * m) xs)) out)
-  pub another-length : (length xs ≡ 8192 → ⊥) → (member_answer n s xs m out ≡ Wrote.Refused 2) × (member_leaves n s xs m out ≡ out)
-  pub no_member : length xs ≡ 8192 → 16 ≤ m → (member_answer n s xs m out ≡ Wrote.Refused 3) × (member_leaves n s xs m out ≡ out)
-
-abbrev pub MembersRow : Type 0
-MembersRow = (n s : ℕ) (xs : List ℕ) (m : ℕ) (out : List ℕ) → OneMember n s xs m out
 
 -- ---- worked cases
 pub record Worked : Type 0 where

@@ -38,6 +38,5 @@ painted c (f ∷ fs) xs = painted (suc c) fs (stored c f xs)
 unfoldable pub read_refusal : ℕ → ℕ → List ℕ → List ℕ → ℕ
 read_refusal n s bs xs = pick (row_sound n xs) (pick (volume_good n s && status_good n s bs) 0 20) 2
 
--- (R-81)
 unfoldable pub read_leaves : ℕ → ℕ → List ℕ → List ℕ → List ℕ
 read_leaves n s bs xs = pick (eqb (read_refusal n s bs xs) 0) (painted 0 (flags_of s (descs_of bs)) xs) xs

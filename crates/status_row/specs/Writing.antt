@@ -22,7 +22,7 @@ unfoldable pub runs : ℕ → List ℕ → List Desc
 runs s [] = []
 runs s (f ∷ fs) = runs_from s f s fs
 
--- the descriptors of a row of n chunks of s bytes, as bytes (R-81)
+-- the descriptors of a row of n chunks of s bytes, as bytes
 unfoldable pub status_of : ℕ → ℕ → List ℕ → List ℕ
 status_of n s xs = bytes_of (runs s (flags_from xs 0 n))
 

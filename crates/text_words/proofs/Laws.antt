@@ -1,15 +1,12 @@
 -- The loop over a line.
 use Prim.Native.Nat.{ℕ, suc, ◌+◌, ◌-◌, ◌≤◌, ◌<◌}
 use mathlib.Core.Path.{◌≡◌, refl, ◌∙◌}
-use mathlib.Core.Bool.{true, false}
 use mathlib.Core.List.{List, [], ◌∷◌, ◌++◌}
 use native.Mathlib.Omega.{arith}
 use borrow.Author.Tests.{eq-eqb, ne_eqb}
 use lib.ListN.{length, get_or, take, drop, length-drop}
 use lib.Seq.{take-suc, get_or-drop}
-use Rattle.text_bytes.proofs.Laws.{Rest, rest-start, rest_more, rest-stop, rest-done}
-use Rattle.text_bytes.specs.Bytes.{eq_bytes}
-use Rattle.text_words.specs.Names.{UNKNOWN, code_from}
+use Rattle.text_bytes.proofs.Laws.{Rest, rest-start, rest_more, rest-done}
 use Rattle.text_words.specs.Lines.{line_from, line_of, pushed, tok_of, empty}
 use Rattle.text_words.specs.declared.lines.Line.{Line}
 use Rattle.text_words.specs.declared.lines.Tok.{Tok}
@@ -57,46 +54,3 @@ cuts-cut {s} {l} {l'} {a} {i} t v h n e f =
 pub cuts-done : {s : List ℕ} {l l' : Line} {a i : ℕ} (t : Tok) → Cuts s l a i → length s ≤ i → t ≡ tok_of (part s a i) → l' ≡ pushed l t → l' ≡ line_of s
 unfolding line_from line_goes
 cuts-done {s} {l} {l'} {a} {i} t v h e f = f ∙ rw e (rest-done v.goes h)
-
--- the loop over a table of words: the word that has the code n begins at a, and came so far up to i
-pub record Reached : Type 0 where
-  pub code : ℕ
-  pub word : List ℕ
-
-unfoldable pub code_goes : List ℕ → Reached → List ℕ → ℕ
-code_goes w k bs = code_from w k.code k.word bs
-
-pub record Seeks (w s : List ℕ) (n a i : ℕ) : Type 0 where
-  pub low : a ≤ i
-  pub few : n ≤ i + 1
-  pub goes : Rest (code_goes w) s (code_from w 1 [] s) (record { code = n; word = part s a i }) i
-
-pub seeks-start : (w s : List ℕ) → Seeks w s 1 0 0
-unfolding code_goes
-seeks-start w s = record { low = omega arith; few = omega arith; goes = rest-start refl }
-
-pub seeks-more : {w s : List ℕ} {n a i : ℕ} → Seeks w s n a i → i < length s → (get_or s i 0 ≡ 32 → ⊥) → Seeks w s n a (i + 1)
-unfolding code_from code_goes
-seeks-more {w} {s} {n} {a} {i} v h k =
-    record {
-      low = omega (arith, v.low);
-      few = omega (arith, v.few);
-      goes = rest_more 0 v.goes h (λ ys. rw (ne_eqb _ _ k, part-more s a i v.low h) refl);
-    }
-
-pub seeks-cut : {w s : List ℕ} {n a i : ℕ} → Seeks w s n a i → i < length s → get_or s i 0 ≡ 32 → eq_bytes w (part s a i) ≡ false → Seeks w s (n + 1) (i + 1) (i + 1)
-unfolding code_from code_goes
-seeks-cut {w} {s} {n} {a} {i} v h k e =
-    record {
-      low = omega arith;
-      few = omega (arith, v.few);
-      goes = rest_more 0 v.goes h (λ ys. rw (eq-eqb _ _ k, part_none s (i + 1), e) refl);
-    }
-
-pub seeks-found : {w s : List ℕ} {n a i : ℕ} → Seeks w s n a i → i < length s → get_or s i 0 ≡ 32 → eq_bytes w (part s a i) ≡ true → n ≡ code_from w 1 [] s
-unfolding code_from code_goes
-seeks-found {w} {s} {n} {a} {i} v h k e = rest-stop 0 v.goes h (λ ys. rw (eq-eqb _ _ k, e) refl)
-
-pub seeks-done : {w s : List ℕ} {n a i : ℕ} → Seeks w s n a i → length s ≤ i → UNKNOWN ≡ code_from w 1 [] s
-unfolding code_from code_goes
-seeks-done v h = rest-done v.goes h

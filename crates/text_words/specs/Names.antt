@@ -1,5 +1,5 @@
 -- The words of a history, by their codes. 0 is no word's code: it stands for a number.
-use Rattle.std.specs.Prelude.{ℕ, ◌+◌, List, [], ◌∷◌, ◌++◌, eqb}
+use Rattle.std.specs.Prelude.{ℕ, List}
 use Prim.Native.String.{String}
 use Rattle.laws_words.specs.Words.{pick}
 use Rattle.text_bytes.specs.Bytes.{bytes, eq_bytes}
@@ -194,15 +194,105 @@ SUMMARY = 62
 abbrev pub UNKNOWN : ℕ
 UNKNOWN = 255
 
--- All words in the order of their codes, from 1 on; a space (32) ends each.
-abbrev pub table : String
-table = "pool auto join_create join_assemble enable maintenance link_down store_check try remove write synced answer node deliver poke register_create register_add unregister leave enable1 enable0 fault map_ready give_part take map_done map_disable map_get_ver last_io pool_info client row staging byte staging_byte lend lend_staging poke_node session version count chunks members take_part cut poke_got look written assembled rejoin fill extend tick check_answer map_check deliver_check due once record next summary "
+-- the code of w where it is the word, else rest
+abbrev pub word : List ℕ → String → ℕ → ℕ → ℕ
+word w s code rest = pick (eq_bytes w (bytes s)) code rest
 
--- The code of w in what is left of a table: of the word with the code n the bytes v came so far. UNKNOWN past the last word.
-unfoldable pub code_from : List ℕ → ℕ → List ℕ → List ℕ → ℕ
-code_from w n v [] = UNKNOWN
-code_from w n v (b ∷ bs) = pick (eqb b 32) (pick (eq_bytes w v) n (code_from w (n + 1) [] bs)) (code_from w n (v ++ b ∷ []) bs)
+unfoldable pub names_a : List ℕ → ℕ → ℕ
+names_a w rest =
+    word w "pool" POOL
+    (word w "auto" AUTO
+    (word w "join_create" JOIN-CREATE
+    (word w "join_assemble" JOIN-ASSEMBLE
+    (word w "enable" ENABLE
+    (word w "maintenance" MAINTENANCE
+    (word w "link_down" LINK-DOWN
+    (word w "store_check" STORE-CHECK
+    rest)))))))
+
+unfoldable pub names_b : List ℕ → ℕ → ℕ
+names_b w rest =
+    word w "try" TRY
+    (word w "remove" REMOVE
+    (word w "write" WRITE
+    (word w "synced" SYNCED
+    (word w "answer" ANSWER
+    (word w "node" NODE
+    (word w "deliver" DELIVER
+    (word w "poke" POKE
+    rest)))))))
+
+unfoldable pub names_c : List ℕ → ℕ → ℕ
+names_c w rest =
+    word w "register_create" REGISTER-CREATE
+    (word w "register_add" REGISTER-ADD
+    (word w "unregister" UNREGISTER
+    (word w "leave" LEAVE
+    (word w "enable1" ENABLE1
+    (word w "enable0" ENABLE0
+    (word w "fault" FAULT
+    (word w "map_ready" MAP-READY
+    rest)))))))
+
+unfoldable pub names_d : List ℕ → ℕ → ℕ
+names_d w rest =
+    word w "give_part" GIVE-PART
+    (word w "take" TAKE
+    (word w "map_done" MAP-DONE
+    (word w "map_disable" MAP-DISABLE
+    (word w "map_get_ver" MAP-GET-VER
+    (word w "last_io" LAST-IO
+    (word w "pool_info" POOL-INFO
+    (word w "client" CLIENT
+    rest)))))))
+
+unfoldable pub names_e : List ℕ → ℕ → ℕ
+names_e w rest =
+    word w "row" ROW
+    (word w "staging" STAGING
+    (word w "byte" BYTE
+    (word w "staging_byte" STAGING-BYTE
+    (word w "lend" LEND
+    (word w "lend_staging" LEND-STAGING
+    (word w "poke_node" POKE-NODE
+    (word w "session" SESSION
+    rest)))))))
+
+unfoldable pub names_f : List ℕ → ℕ → ℕ
+names_f w rest =
+    word w "version" VERSION
+    (word w "count" COUNT
+    (word w "chunks" CHUNKS
+    (word w "members" MEMBERS
+    (word w "take_part" TAKE-PART
+    (word w "cut" CUT
+    (word w "poke_got" POKE-GOT
+    (word w "look" LOOK
+    rest)))))))
+
+unfoldable pub names_g : List ℕ → ℕ → ℕ
+names_g w rest =
+    word w "written" WRITTEN
+    (word w "assembled" ASSEMBLED
+    (word w "rejoin" REJOIN
+    (word w "fill" FILL
+    (word w "extend" EXTEND
+    rest))))
+
+unfoldable pub names_h : List ℕ → ℕ → ℕ
+names_h w rest =
+    word w "tick" TICK
+    (word w "check_answer" CHECK-ANSWER
+    (word w "map_check" MAP-CHECK
+    (word w "deliver_check" DELIVER-CHECK
+    (word w "due" DUE
+    (word w "once" ONCE
+    (word w "record" RECORD
+    rest))))))
+
+unfoldable pub names_i : List ℕ → ℕ → ℕ
+names_i w rest = word w "next" NEXT (word w "summary" SUMMARY rest)
 
 -- The code of a word, UNKNOWN for any other bytes.
 unfoldable pub name_of : List ℕ → ℕ
-name_of w = code_from w 1 [] (bytes table)
+name_of w = names_a w (names_b w (names_c w (names_d w (names_e w (names_f w (names_g w (names_h w (names_i w UNKNOWN))))))))

@@ -11,14 +11,11 @@ pub struct Cur {
     pub kind: Got,
 }
 
-// How far a line is.
+// Part: the line goes on. Whole: it ended. End: the input ended.
 #[derive(Clone, Copy)]
 pub enum Got {
-    // it goes on
     Part,
-    // it ended
     Whole,
-    // the input ended
     End,
 }
 

@@ -1,6 +1,8 @@
 // The words of a history, by their codes.
-ghost use Rattle.std.specs.Prelude.{◌≡◌, []};
-ghost use Rattle.text_words.specs.Names.{code_from, name_of};
+ghost use Rattle.std.specs.Prelude.{◌≡◌};
+ghost use Rattle.laws_words.specs.Words.{pick};
+ghost use Rattle.text_bytes.specs.Bytes.{eq_bytes};
+ghost use Rattle.text_words.specs.Names.{names_a, names_b, names_c, names_d, names_e, names_f, names_g, names_h, names_i, name_of};
 
 use text_bytes::same;
 
@@ -131,34 +133,312 @@ pub const SUMMARY: u64 = 62;
 // The code of what is no word.
 pub const UNKNOWN: u64 = 255;
 
-// The code of a word, UNKNOWN for any other bytes. The words stand in the order of their codes, a space after each.
-pub fn name(s: &[u8]) -> u64
-    ensures { result ≡ name_of s.now }
+fn word(s: &[u8], t: &[u8], code: u64, rest: u64) -> u64
+    ensures { result ≡ pick (eq_bytes s.now t.now) code rest }
 {
-    code_in(
+    let e = same(s, t);
+    if e { code } else { rest }
+}
+
+fn names_a(s: &[u8], rest: u64) -> u64
+    ensures { result ≡ names_a s.now rest }
+{
+    word(
         s,
-        b"pool auto join_create join_assemble enable maintenance link_down store_check try remove write synced answer node deliver poke register_create register_add unregister leave enable1 enable0 fault map_ready give_part take map_done map_disable map_get_ver last_io pool_info client row staging byte staging_byte lend lend_staging poke_node session version count chunks members take_part cut poke_got look written assembled rejoin fill extend tick check_answer map_check deliver_check due once record next summary ",
+        b"pool",
+        POOL,
+        word(
+            s,
+            b"auto",
+            AUTO,
+            word(
+                s,
+                b"join_create",
+                JOIN_CREATE,
+                word(
+                    s,
+                    b"join_assemble",
+                    JOIN_ASSEMBLE,
+                    word(
+                        s,
+                        b"enable",
+                        ENABLE,
+                        word(
+                            s,
+                            b"maintenance",
+                            MAINTENANCE,
+                            word(
+                                s,
+                                b"link_down",
+                                LINK_DOWN,
+                                word(s, b"store_check", STORE_CHECK, rest),
+                            ),
+                        ),
+                    ),
+                ),
+            ),
+        ),
     )
 }
 
-// The code of a word in such a table: which of its words it is, from 1 on.
-fn code_in(s: &[u8], table: &[u8]) -> u64
-    ensures { result ≡ code_from s.now 1 [] table.now }
+fn names_b(s: &[u8], rest: u64) -> u64
+    ensures { result ≡ names_b s.now rest }
 {
-    let mut code: u64 = 1;
-    let mut a = 0;
-    let mut i = 0;
-    while i < table.len() {
-        if table[i] == 32 {
-            if same(s, &table[a..i]) {
-                return code;
-            }
-            code += 1;
-            i += 1;
-            a = i;
-            continue;
-        }
-        i += 1;
-    }
-    UNKNOWN
+    word(
+        s,
+        b"try",
+        TRY,
+        word(
+            s,
+            b"remove",
+            REMOVE,
+            word(
+                s,
+                b"write",
+                WRITE,
+                word(
+                    s,
+                    b"synced",
+                    SYNCED,
+                    word(
+                        s,
+                        b"answer",
+                        ANSWER,
+                        word(
+                            s,
+                            b"node",
+                            NODE,
+                            word(s, b"deliver", DELIVER, word(s, b"poke", POKE, rest)),
+                        ),
+                    ),
+                ),
+            ),
+        ),
+    )
+}
+
+fn names_c(s: &[u8], rest: u64) -> u64
+    ensures { result ≡ names_c s.now rest }
+{
+    word(
+        s,
+        b"register_create",
+        REGISTER_CREATE,
+        word(
+            s,
+            b"register_add",
+            REGISTER_ADD,
+            word(
+                s,
+                b"unregister",
+                UNREGISTER,
+                word(
+                    s,
+                    b"leave",
+                    LEAVE,
+                    word(
+                        s,
+                        b"enable1",
+                        ENABLE1,
+                        word(
+                            s,
+                            b"enable0",
+                            ENABLE0,
+                            word(s, b"fault", FAULT, word(s, b"map_ready", MAP_READY, rest)),
+                        ),
+                    ),
+                ),
+            ),
+        ),
+    )
+}
+
+fn names_d(s: &[u8], rest: u64) -> u64
+    ensures { result ≡ names_d s.now rest }
+{
+    word(
+        s,
+        b"give_part",
+        GIVE_PART,
+        word(
+            s,
+            b"take",
+            TAKE,
+            word(
+                s,
+                b"map_done",
+                MAP_DONE,
+                word(
+                    s,
+                    b"map_disable",
+                    MAP_DISABLE,
+                    word(
+                        s,
+                        b"map_get_ver",
+                        MAP_GET_VER,
+                        word(
+                            s,
+                            b"last_io",
+                            LAST_IO,
+                            word(s, b"pool_info", POOL_INFO, word(s, b"client", CLIENT, rest)),
+                        ),
+                    ),
+                ),
+            ),
+        ),
+    )
+}
+
+fn names_e(s: &[u8], rest: u64) -> u64
+    ensures { result ≡ names_e s.now rest }
+{
+    word(
+        s,
+        b"row",
+        ROW,
+        word(
+            s,
+            b"staging",
+            STAGING,
+            word(
+                s,
+                b"byte",
+                BYTE,
+                word(
+                    s,
+                    b"staging_byte",
+                    STAGING_BYTE,
+                    word(
+                        s,
+                        b"lend",
+                        LEND,
+                        word(
+                            s,
+                            b"lend_staging",
+                            LEND_STAGING,
+                            word(
+                                s,
+                                b"poke_node",
+                                POKE_NODE,
+                                word(s, b"session", SESSION, rest),
+                            ),
+                        ),
+                    ),
+                ),
+            ),
+        ),
+    )
+}
+
+fn names_f(s: &[u8], rest: u64) -> u64
+    ensures { result ≡ names_f s.now rest }
+{
+    word(
+        s,
+        b"version",
+        VERSION,
+        word(
+            s,
+            b"count",
+            COUNT,
+            word(
+                s,
+                b"chunks",
+                CHUNKS,
+                word(
+                    s,
+                    b"members",
+                    MEMBERS,
+                    word(
+                        s,
+                        b"take_part",
+                        TAKE_PART,
+                        word(
+                            s,
+                            b"cut",
+                            CUT,
+                            word(s, b"poke_got", POKE_GOT, word(s, b"look", LOOK, rest)),
+                        ),
+                    ),
+                ),
+            ),
+        ),
+    )
+}
+
+fn names_g(s: &[u8], rest: u64) -> u64
+    ensures { result ≡ names_g s.now rest }
+{
+    word(
+        s,
+        b"written",
+        WRITTEN,
+        word(
+            s,
+            b"assembled",
+            ASSEMBLED,
+            word(
+                s,
+                b"rejoin",
+                REJOIN,
+                word(s, b"fill", FILL, word(s, b"extend", EXTEND, rest)),
+            ),
+        ),
+    )
+}
+
+fn names_h(s: &[u8], rest: u64) -> u64
+    ensures { result ≡ names_h s.now rest }
+{
+    word(
+        s,
+        b"tick",
+        TICK,
+        word(
+            s,
+            b"check_answer",
+            CHECK_ANSWER,
+            word(
+                s,
+                b"map_check",
+                MAP_CHECK,
+                word(
+                    s,
+                    b"deliver_check",
+                    DELIVER_CHECK,
+                    word(
+                        s,
+                        b"due",
+                        DUE,
+                        word(s, b"once", ONCE, word(s, b"record", RECORD, rest)),
+                    ),
+                ),
+            ),
+        ),
+    )
+}
+
+fn names_i(s: &[u8], rest: u64) -> u64
+    ensures { result ≡ names_i s.now rest }
+{
+    word(s, b"next", NEXT, word(s, b"summary", SUMMARY, rest))
+}
+
+// The code of a word, UNKNOWN for any other bytes.
+pub fn name(s: &[u8]) -> u64
+    ensures { result ≡ name_of s.now }
+{
+    names_a(
+        s,
+        names_b(
+            s,
+            names_c(
+                s,
+                names_d(
+                    s,
+                    names_e(s, names_f(s, names_g(s, names_h(s, names_i(s, UNKNOWN))))),
+                ),
+            ),
+        ),
+    )
 }

@@ -77,7 +77,7 @@ during (e ∷ es) c = e ∷ pick (lasts_past e c) (during es (next e c)) []
 
 -- ---- a run that begins
 
--- The most answers of a run that begins with these sessions. Case 1: 3R. Case 2: 3R + 1. Case 3: 11K - 8. R: the receivers. K: the members. (R-76)
+-- The most answers of a run that begins with these sessions. Case 1: 3R. Case 2: 3R + 1. Case 3: 11K - 8. R: the receivers. K: the members.
 abbrev pub most : Roster → ℕ
 most ro =
     pick (not (eqb (ids_of Kind.Normals ro) 0)) (3 * size (ids_of Kind.Candidates ro))
@@ -106,7 +106,7 @@ pub record New (c : Pool) (e : Event) (r : Run) : Type 0 where
   pub awaited : sent.awaited ≡ (tried (tried_in e c)).awaited
   pub number : sent.number ≡ number_of sent.awaited (next e c).number
 
--- Every run that begins is such a one. (R-37)
+-- Every run that begins is such a one.
 abbrev pub Afresh : Type 0
 Afresh = (c : Pool) (e : Event) (r : Run) → Begins c e r → New c e r
 
@@ -127,7 +127,7 @@ EveryRun = (c : Pool) → Reached c → (r : Run) → c.job ≡ Job.Running r �
 
 -- ---- the bound
 
--- While a run is in hand, every event but answers and link down is refused and changes nothing. (R-28)
+-- While a run is in hand, every event but answers and link down is refused and changes nothing.
 abbrev pub Barred : Type 0
 Barred = (c : Pool) (r : Run) → c.job ≡ Job.Running r → (e : Event) → is_answer e ≡ false → is_down e ≡ false → (is_accepted (turn_of e c).answer ≡ false) × (next e c ≡ c)
 
@@ -144,7 +144,7 @@ pub record Bounded (es : List Event) (c : Pool) (m : ℕ) : Type 0 where
   pub stands : any_cut es c ≡ false → Stands (through es c).job (awaited_answers es c) m
 
 -- A run begins, and then events come, any of them, with any data, refused ones among them. Of those that come while it lasts at most so many are awaited answers, the
--- count in the result is their number, and unless a link down ends it, the run is over once that many are taken. (R-49, R-76)
+-- count in the result is their number, and unless a link down ends it, the run is over once that many are taken.
 abbrev pub AtMost : Type 0
 AtMost = (c : Pool) (e : Event) (r : Run) → Begins c e r → (es : List Event) → Bounded (during es (next e c)) (next e c) (most (next e c).roster)
 
@@ -178,7 +178,7 @@ abbrev pub AllVersioned : ℕ → List Event → Pool → Type 0
 AllVersioned v [] c = Unit {0}
 AllVersioned v (e ∷ es) c = Versioned v e c × AllVersioned v es (next e c)
 
--- All messages of a run carry the version that it began with, and an answer that is its last leaves one more, whatever comes while it lasts. (R-43)
+-- All messages of a run carry the version that it began with, and an answer that is its last leaves one more, whatever comes while it lasts.
 abbrev pub OneVersion : Type 0
 OneVersion = (c : Pool) (e : Event) (r : Run) → Begins c e r
     → Bears (next e c).roster.version (awaited_by (turn_of e c).answer)
@@ -196,7 +196,7 @@ abbrev pub replied : List ℕ → List Reply → Pool → Pool
 replied xs [] c = c
 replied xs (a ∷ rs) c = replied xs rs (next (Event.answer xs c.number a) c)
 
--- So as many replies as the bound says end the run, whatever they say. (R-76)
+-- So as many replies as the bound says end the run, whatever they say.
 abbrev pub Enough : Type 0
 Enough = (c : Pool) (e : Event) (r : Run) → Begins c e r → (xs : List ℕ) → sound_for (next e c) xs ≡ true → (rs : List Reply) → most (next e c).roster ≤ length rs
     → (replied xs rs (next e c)).job ≡ Job.Idle
@@ -220,6 +220,6 @@ pub record Cut (c : Pool) (r : Run) (id : ℕ) : Type 0 where
   pub number : sent.number ≡ number_of sent.awaited (next (Event.link_down id) c).number
   pub afresh : (r' : Run) → (next (Event.link_down id) c).job ≡ Job.Running r' → r'.taken ≡ 0
 
--- Every accepted link down, while a run is in hand at a reached client, does so. (R-48)
+-- Every accepted link down, while a run is in hand at a reached client, does so.
 abbrev pub CutOff : Type 0
 CutOff = (c : Pool) → Reached c → (r : Run) → c.job ≡ Job.Running r → (id : ℕ) → is_accepted (turn_of (Event.link_down id) c).answer ≡ true → Cut c r id

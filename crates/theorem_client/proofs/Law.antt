@@ -226,7 +226,7 @@ law (Event.rejoin id) c =
     }
 law Event.try_run c =
     record {
-      does = tried_after c Outcome.Plain Told.Nothing;
+      does = tried_after c c Outcome.Plain Told.Nothing;
       same = refl;
       plain = λ e. refl;
       one = refl;
@@ -247,7 +247,7 @@ law Event.try_run c =
     }
 law (Event.remove xs id mode) c =
     record {
-      does = gone (remove_begun c id mode);
+      does = gone c (remove_begun c id mode);
       same = refl;
       plain = λ e. refl;
       one = refl;

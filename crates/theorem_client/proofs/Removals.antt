@@ -111,7 +111,7 @@ pub record Leaves (c : Pool) (id : ℕ) (t : Turn) (freed out : Bool) : Type 0 w
 leaves_of : (c : Pool) (id : ℕ) (p : Pool) (g : Gone) (freed freed' out : Bool) (members : ℕ) (e : Effect) → Goes p id g freed members e
     → is_removing (session_at p.roster id).state ≡ true → ((j : ℕ) → j ≢ id → session_at p.roster j ≡ record_of c j) → p.roster.sync ≡ is_sync c
     → freed ≡ freed' → members ≡ pick (out && not (is_sync c)) (without (members_of c) id) (members_of c) → e ≡ pick (out && not (is_sync c)) (Effect.ZeroRow id) Effect.Keep
-    → Leaves c id (gone g) freed' out
+    → Leaves c id (gone c g) freed' out
 leaves_of c id p g freed freed' out members e s own others kind f m d =
     record {
       own = ap (λ (x : Session). is_free x.state) s.own ∙ (is-free freed ∙ f);
@@ -162,7 +162,7 @@ module _ (c : Pool) (id : ℕ) (mode : Mode) (v : Valid c) (h : Removable c id m
       ∙ (pick-not (not_owed (state_of c id)) (not (is_due Stage.Leave (removing c.roster id mode)))
       ∙ (ap (λ (b : Bool). not_owed (state_of c id) && b) due ∙ sym (ap (λ (b : Bool). b && (not_owed (state_of c id) && nothing_due c id Stage.Leave)) (eq-eqb id id refl))))
 
-  remove-leaves : Leaves c id (gone (remove_begun c id mode)) (not_owed (state_of c id) && nothing_due c id Stage.Leave) (is_delete mode && not_owed (state_of c id))
+  remove-leaves : Leaves c id (gone c (remove_begun c id mode)) (not_owed (state_of c id) && nothing_due c id Stage.Leave) (is_delete mode && not_owed (state_of c id))
   remove-leaves =
       leaves_of c id (with_roster c (removing c.roster id mode)) (remove_begun c id mode) _ _ (is_delete mode && not_owed (state_of c id)) _ _
       (started-goes (with_roster c (removing c.roster id mode)) id (removing-long c.roster id mode v.ok.long) h.below)
@@ -175,7 +175,7 @@ module _ (c : Pool) (id : ℕ) (mode : Mode) (v : Valid c) (h : Removable c id m
 
 -- LEAVE_POOL is answered well
 left-leaves : (c : Pool) (id : ℕ) → Valid c → id < 16 → is_removing (state_of c id) ≡ true
-    → Leaves c id (gone (removal.departed (removal.paid c id) id)) (nothing_due c id Stage.Leave) (is_deleting (state_of c id))
+    → Leaves c id (gone c (removal.departed (removal.paid c id) id)) (nothing_due c id Stage.Leave) (is_deleting (state_of c id))
 left-leaves c id v h m =
     let q = removal.paid c id in
     let n = paid-numbers c id in
@@ -189,7 +189,7 @@ left-leaves c id v h m =
 
 -- a POOL_INFO is
 told-leaves : (c : Pool) (id peer : ℕ) → Valid c → id < 16 → is_removing (state_of c id) ≡ true
-    → Leaves c id (gone (removal.well_answered (Stage.Info peer) c id)) (nothing_due c id (Stage.Info peer)) false
+    → Leaves c id (gone c (removal.well_answered (Stage.Info peer) c id)) (nothing_due c id (Stage.Info peer)) false
 told-leaves c id peer v h m =
     leaves_of c id c (removal.well_answered (Stage.Info peer) c id) _ (nothing_due c id (Stage.Info peer)) false _ _ (told-goes c id peer v.ok.long h)
     m (λ j ne. refl) refl
@@ -199,7 +199,7 @@ leaves-as : (c : Pool) (id : ℕ) (t : Turn) (f f' o o' : Bool) → f ≡ f' →
 leaves-as c id t f f' o o' p q s = rw (← p, ← q) s
 
 well-leaves : (st : Stage) (c : Pool) (id : ℕ) → Valid c → id < 16 → is_removing (state_of c id) ≡ true
-    → Leaves c id (gone (removal.well_answered st c id)) (nothing_due c id st) (is_deleting (state_of c id) && is_leave st)
+    → Leaves c id (gone c (removal.well_answered st c id)) (nothing_due c id st) (is_deleting (state_of c id) && is_leave st)
 well-leaves Stage.Leave c id v h m =
     leaves-as c id _ (nothing_due c id Stage.Leave) _ (is_deleting (state_of c id)) _ refl (sym (and-true (is_deleting (state_of c id)))) (left-leaves c id v h m)
 well-leaves (Stage.Info peer) c id v h m =
@@ -262,7 +262,7 @@ remove-does : (c : Pool) (xs : List ℕ) (id : ℕ) (mode : Mode) → Valid c �
     → Leaves c id (remove_turn c xs id mode) (not_owed (state_of c id) && nothing_due c id Stage.Leave) (is_delete mode && not_owed (state_of c id))
 unfolding remove remove_turn
 remove-does c xs id mode v =
-    taken (λ t. Leaves c id t (not_owed (state_of c id) && nothing_due c id Stage.Leave) (is_delete mode && not_owed (state_of c id))) (remove_refusal c (sound_for c xs) id mode) (gone (remove_begun c id mode)) c
+    taken (λ t. Leaves c id t (not_owed (state_of c id) && nothing_due c id Stage.Leave) (is_delete mode && not_owed (state_of c id))) (remove_refusal c (sound_for c xs) id mode) (gone c (remove_begun c id mode)) c
     (λ e. remove-leaves c id mode v (remove-passed c (sound_for c xs) id mode e))
 
 answer-does : (c : Pool) (xs : List ℕ) (number : ℕ) (a : Reply) (m : Removal) → job_of c ≡ Job.Removing m → Valid c → is_accepted (turn_of (Event.answer xs number a) c).answer ≡ true
@@ -454,7 +454,7 @@ pub begun-said : (c : Pool) (xs : List ℕ) (id : ℕ) (mode : Mode) → Valid c
 unfolding remove remove_turn
 begun-said c xs id mode v =
     taken (λ t. (session_at t.pool.roster id).state ≡ pick (frees (Part.remove id mode) c id) State.Free (State.Removing mode (not (not_owed (state_of c id)))))
-    (remove_refusal c (sound_for c xs) id mode) (gone (remove_begun c id mode)) c
+    (remove_refusal c (sound_for c xs) id mode) (gone c (remove_begun c id mode)) c
     (λ e. let h = remove-passed c (sound_for c xs) id mode e in
     let g = started-goes (with_roster c (removing c.roster id mode)) id (removing-long c.roster id mode v.ok.long) h.below in
     ap (λ (s : Session). s.state) g.own

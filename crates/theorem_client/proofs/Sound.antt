@@ -189,7 +189,7 @@ answer-inside Job.Idle n c ro ef e = kept-inside n ef e
 answer-inside (Job.Running r) n c ro ef e = kept-inside n ef e
 answer-inside (Job.Removing d) n c ro ef e = removal-inside n d.id (is_deleting (session_at c.roster d.id).state) ro ef e
 
-marks-inside : (n : ℕ) (before after : Pool) (chunk reached : ℕ) → ltb chunk n ≡ true → inside n (marks after chunk reached).effect ≡ true
+marks-inside : (n : ℕ) (before after : Pool) (chunk reached : ℕ) → ltb chunk n ≡ true → inside n (marks before after chunk reached).effect ≡ true
 unfolding marks
 marks-inside n before after chunk reached l = either (λ (t : Turn). inside n t.effect ≡ true) (eqb reached 0) _ _ refl l
 

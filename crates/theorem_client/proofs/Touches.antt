@@ -112,7 +112,7 @@ down-touch (Job.Removing m) p id = refl
 abbrev WriteTouch : List ℕ → ℕ → ℕ → Pool → Turn → Type 0
 WriteTouch xs chunk reached c t = touches (Event.write xs chunk reached) c t.pool.roster t.effect ≡ true
 
-marks-touch : (xs : List ℕ) (chunk reached : ℕ) (c : Pool) (before after : Pool) → WriteTouch xs chunk reached c (marks after chunk reached)
+marks-touch : (xs : List ℕ) (chunk reached : ℕ) (c : Pool) (before after : Pool) → WriteTouch xs chunk reached c (marks before after chunk reached)
 unfolding marks
 marks-touch xs chunk reached c before after =
     either (WriteTouch xs chunk reached c) (eqb reached 0) _ _ refl

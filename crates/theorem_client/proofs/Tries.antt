@@ -49,7 +49,7 @@ pub record ByTrial (p : Pool) (u : Turn) : Type 0 where
   pub outcome : Outcome
   pub told : Told
   pub effect : Effect
-  pub turn : u ≡ tried_with after outcome told effect
+  pub turn : u ≡ tried_with p after outcome told effect
   pub fits : inside p.chunks effect ≡ true
   pub idle : after ≡ jobless (with_roster p after.roster)
 
@@ -70,7 +70,7 @@ idle-is (Job.Running r) e = clash refl (sym e)
 idle-is (Job.Removing m) e = clash refl (sym e)
 
 pub by-trial-with : (p : Pool) (ro : Roster) (outcome : Outcome) (told : Told) (effect : Effect) → inside p.chunks effect ≡ true → is_idle p.job ≡ true
-    → Tries p (tried_with (with_roster p ro) outcome told effect)
+    → Tries p (tried_with p (with_roster p ro) outcome told effect)
 by-trial-with p ro outcome told effect fits i z =
     record {
       after = with_roster p ro;
@@ -85,7 +85,7 @@ by-trial-with p ro outcome told effect fits i z =
     at : Job → Pool
     at j = record { roster = ro; job = j; number = p.number; chunks = p.chunks }
 
-by-trial : (p : Pool) (ro : Roster) (outcome : Outcome) (told : Told) → is_idle p.job ≡ true → Tries p (tried_after (with_roster p ro) outcome told)
+by-trial : (p : Pool) (ro : Roster) (outcome : Outcome) (told : Told) → is_idle p.job ≡ true → Tries p (tried_after p (with_roster p ro) outcome told)
 by-trial p ro outcome told i = by-trial-with p ro outcome told Effect.Keep refl i
 
 -- ---- no removal begins a run
@@ -137,7 +137,7 @@ down-tries (Job.Removing m) p id e =
 pub idle-at : (p : Pool) → not (is_idle p.job) ≡ false → is_idle p.job ≡ true
 idle-at p e = not-false (is_idle p.job) e
 
-marks-quiet : (p q : Pool) (chunk reached : ℕ) → Quiet q → Quiet (marks q chunk reached).pool
+marks-quiet : (p q : Pool) (chunk reached : ℕ) → Quiet q → Quiet (marks p q chunk reached).pool
 unfolding marks
 marks-quiet p q chunk reached f = either (λ (u : Turn). Quiet u.pool) (eqb reached 0) _ _ f f
 

@@ -233,11 +233,11 @@ remove-risen c id mode v h =
 pub remove-rises : (xs : List ℕ) (id : ℕ) (mode : Mode) (c : Pool) → Valid c → Risen (Event.remove xs id mode) c (turn_of (Event.remove xs id mode) c)
 unfolding remove remove_turn
 remove-rises xs id mode c v =
-    turn-of (Risen (Event.remove xs id mode) c) (remove_refusal c (sound_for c xs) id mode) (gone (remove_begun c id mode)) c
+    turn-of (Risen (Event.remove xs id mode) c) (remove_refusal c (sound_for c xs) id mode) (gone c (remove_begun c id mode)) c
     (refused-risen (Event.remove xs id mode) c (remove_refusal c (sound_for c xs) id mode))
     (λ e. let h = remove-passed c (sound_for c xs) id mode e in
     let r = remove-risen c id mode v h.below in
-    (r.0, calm-risen (Event.remove xs id mode) c (gone (remove_begun c id mode)) (idle-none (job_of c) h.idle) r.1))
+    (r.0, calm-risen (Event.remove xs id mode) c (gone c (remove_begun c id mode)) (idle-none (job_of c) h.idle) r.1))
 
 -- link down: the version of the session that failed, and of the run that ended
 down-version : (j : Job) (c : Pool) (id : ℕ) → job_of c ≡ j → Valid c → id < 16

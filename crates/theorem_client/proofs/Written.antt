@@ -96,11 +96,11 @@ MarksIn chunk reached t =
 abbrev MarksNobody : Turn → Type 0
 MarksNobody t = (t.answer ≡ sends (Outcome.Written false 0) Told.Nothing) × (t.effect ≡ Effect.Keep)
 
-marks-some : (before after : Pool) (chunk reached : ℕ) → reached ≢ 0 → MarksIn chunk reached (marks after chunk reached)
+marks-some : (before after : Pool) (chunk reached : ℕ) → reached ≢ 0 → MarksIn chunk reached (marks before after chunk reached)
 unfolding marks
 marks-some before after chunk reached n = rw (ne_eqb reached 0 n) (refl, refl)
 
-marks-none : (before after : Pool) (chunk reached : ℕ) → reached ≡ 0 → MarksNobody (marks after chunk reached)
+marks-none : (before after : Pool) (chunk reached : ℕ) → reached ≡ 0 → MarksNobody (marks before after chunk reached)
 unfolding marks
 marks-none before after chunk reached z = rw (eq-eqb reached 0 z) (refl, refl)
 

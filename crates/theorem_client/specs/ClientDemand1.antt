@@ -1,4 +1,4 @@
--- Demand 1 for the client: every event, at any value, with any numbers and any lent bytes, gives an answer; a refusal is the first of document 01's table that applies, and changes nothing. (R-3)
+-- Demand 1 for the client: every event, at any value, with any numbers and any lent bytes, gives an answer; a refusal is the first of document 01's table that applies, and changes nothing.
 use Rattle.std.specs.Prelude.{◌≡◌, ℕ}
 use Rattle.rules_base.specs.Order.{First, None}
 use Rattle.rules_pool.specs.declared.Sent.{Sent}

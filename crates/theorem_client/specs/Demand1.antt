@@ -20,6 +20,6 @@ pub data Verdict (e : Event) (c : Pool) : Type 0 where
   refused : (n : ℕ) → (turn_of e c).answer ≡ Answer.Refused n → Refuses e c n → Verdict e c
   done : (s : Sent) → (turn_of e c).answer ≡ Answer.Done s → None (tests_of e c) → Verdict e c
 
--- Assumed: nothing. The state may break every rule, the numbers may be anything, the bytes of any length. (R-3)
+-- Assumed: nothing. The state may break every rule, the numbers may be anything, the bytes of any length.
 abbrev pub Demand1 : Type 0
 Demand1 = (e : Event) (c : Pool) → Verdict e c

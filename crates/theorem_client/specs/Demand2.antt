@@ -21,11 +21,11 @@ pub data Reached : Pool → Type 0 where
   start : (sync : Bool) (chunks : ℕ) → 1 ≤ chunks → chunks ≤ chunk_limit → Reached (fresh_pool sync chunks)
   then : (c : Pool) (e : Event) → Reached c → Reached (next e c)
 
--- Every reached client keeps the state rules. (R-20, R-31, R-73, R-74)
+-- Every reached client keeps the state rules.
 abbrev pub RulesKept : Type 0
 RulesKept = (c : Pool) → Reached c → valid_pool c ≡ true
 
--- So refusal 1 is never given there. (R-73)
+-- So refusal 1 is never given there.
 abbrev pub NeverOne : Type 0
 NeverOne = (c : Pool) → Reached c → (e : Event) (n : ℕ) → (turn_of e c).answer ≡ Answer.Refused n → n ≢ 1
 
@@ -42,11 +42,11 @@ pub data Change (sync : Bool) (e : Event) (id : ℕ) (from to : State) : Type 0 
   removed : (xs : List ℕ) (mode : Mode) → e ≡ Event.remove xs id mode → legal sync from (State.Removing mode true) ≡ true → to ≡ State.Free → Change sync e id from to
   extended : (xs : List ℕ) → e ≡ Event.extend xs → sync ≡ false → from ≡ State.Free → to ≡ State.Reconnecting → Change sync e id from to
 
--- At every reached client, every event makes one such change of each session, and never changes the pool's kind. (R-5)
+-- At every reached client, every event makes one such change of each session, and never changes the pool's kind.
 abbrev pub ByTheTable : Type 0
 ByTheTable = (c : Pool) → Reached c → (e : Event) → ((id : ℕ) → Change (is_sync c) e id (state_of c id) (state_of (next e c) id)) × (is_sync (next e c) ≡ is_sync c)
 
--- At every reached client, no event lowers the version. (R-21)
+-- At every reached client, no event lowers the version.
 abbrev pub VersionNeverFalls : Type 0
 VersionNeverFalls = (c : Pool) → Reached c → (e : Event) → c.roster.version ≤ (next e c).roster.version
 
@@ -65,7 +65,7 @@ pub data Kept (c c' : Pool) (id : ℕ) : Type 0 where
 abbrev pub OthersStay : Type 0
 OthersStay = (c : Pool) → Reached c → (e : Event) (id : ℕ) → concerns e c id ≡ false → Kept c (next e c) id
 
--- Of every event at a reached client. (R-27)
+-- Of every event at a reached client.
 abbrev pub MapOnly : Type 0
 MapOnly = (c : Pool) → Reached c → (e : Event) → touches e c (next e c).roster (turn_of e c).effect ≡ true
 
@@ -74,7 +74,7 @@ abbrev pub sound_lent : ℕ → Lent → Bool
 sound_lent n Lent.none = true
 sound_lent n (Lent.some xs) = sound n xs
 
--- The chunk count never changes, and a sound map that is lent is left sound: bits past the chunk count stay 0. (R-2)
+-- The chunk count never changes, and a sound map that is lent is left sound: bits past the chunk count stay 0.
 abbrev pub SoundStays : Type 0
 SoundStays = (c : Pool) → Reached c → (e : Event)
     → ((next e c).chunks ≡ c.chunks)

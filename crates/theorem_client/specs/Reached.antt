@@ -1,4 +1,4 @@
--- The clients that can be reached, and that their pools are those that the theorems about pools speak of: so demands 2 and 3 hold of every client. (R-73)
+-- The clients that can be reached, and that their pools are those that the theorems about pools speak of: so demands 2 and 3 hold of every client.
 use Rattle.std.specs.Prelude.{◌≡◌, Bool, List, ℕ, ◌≤◌}
 use Rattle.rules_base.specs.Limits.{chunk_limit}
 use Rattle.rules_client.specs.Client.{Client}

@@ -1,4 +1,4 @@
--- How the theorems read an event of the client: whom it is about, what it may do to the map, its part in a removal, how it comes during a run. (R-27)
+-- How the theorems read an event of the client: whom it is about, what it may do to the map, its part in a removal, how it comes during a run.
 use Rattle.std.specs.Prelude.{Bool, true, false, not, ◌&&◌, ℕ, eqb}
 use Rattle.rules_base.specs.Sets.{has}
 use Rattle.rules_pool.specs.declared.Mode.{Mode}

@@ -72,14 +72,14 @@ recovery_in c = begins (begun c.roster)
 -- ---- sessions
 
 -- "Join, create: new session CREATED"; "Join, assemble: .. The pool version becomes the larger one. CREATED, then RECONNECTING"; in a sync pool "join (create) gives
--- NORMAL". Refused: a session that begins in another state, the node's version taken over though it is lower. (R-8)
+-- NORMAL". Refused: a session that begins in another state, the node's version taken over though it is lower.
 abbrev pub JoinBegins : Type 0
 JoinBegins = (c : Pool) (id : ℕ)
     → (Accepts c (Event.join_create id) → state_of (next (Event.join_create id) c) id ≡ pick (is_sync c) State.Normal State.Created)
     × ((set version : ℕ) → Accepts c (Event.join_assemble id set version)
     → (state_of (next (Event.join_assemble id set version) c) id ≡ State.Reconnecting) × (version_of (next (Event.join_assemble id set version) c) ≡ max (version_of c) version))
 
--- "Store check good: FAILED or CREATED to RECONNECTING." Refused: FAILED straight to NORMAL. (R-13)
+-- "Store check good: FAILED or CREATED to RECONNECTING." Refused: FAILED straight to NORMAL.
 abbrev pub StoreCheck : Type 0
 StoreCheck = (c : Pool) (id : ℕ) → Accepts c (Event.store_check id) → is_sync c ≡ false → state_of (next (Event.store_check id) c) id ≡ State.Reconnecting
 
@@ -100,7 +100,7 @@ pub data Becomes (c : Pool) (id : ℕ) : Event → Type 0 where
   answered : (xs : List ℕ) (number : ℕ) (b : Brought) (r : Run) → job_of c ≡ Job.Running r → enabling (awaited_in (members_of c) (version_of c) r) id ≡ true → Becomes c id (Event.answer xs number (Reply.Good b))
 
 -- "Enable: from CREATED to NORMAL"; "A session becomes NORMAL when its enabling message is answered well": in a pool that is not sync, in no other way. Refused: a store
--- check, the end of maintenance or a MAP_DONE without enable that makes NORMAL; a session that becomes so for another's message. (R-45)
+-- check, the end of maintenance or a MAP_DONE without enable that makes NORMAL; a session that becomes so for another's message.
 abbrev pub NormalOnly : Type 0
 NormalOnly = (c : Pool) → Reached c → is_sync c ≡ false → (e : Event) (id : ℕ) → is_normal (state_of c id) ≡ false → is_normal (state_of (next e c) id) ≡ true → Becomes c id e
 
@@ -117,7 +117,7 @@ ends_run e c = is_running (job_of c) && ((is_down e && is_accepted (turn_of e c)
 -- "Leaving NORMAL for FAILED raises the pool version by one"; C-13: "Leaving NORMAL for maintenance or removal must raise the pool version too, and so must the end of
 -- every run, however it ends". They add up; but for join assemble nothing else changes it, and "a sync pool has no version change". Refused: a link down, a write, a
 -- maintenance or a removal that does not raise it, a write that raises it once for all; a run that ends well, by a failed answer or by a link down and does not raise it;
--- an answer within a run, a repeated removal or any other event that raises it. (R-21)
+-- an answer within a run, a repeated removal or any other event that raises it.
 abbrev pub VersionRises : Type 0
 VersionRises = (c : Pool) → Reached c → (e : Event) → ((id set version : ℕ) → e ≢ Event.join_assemble id set version)
     → version_of (next e c) ≡ version_of c + pick (is_sync c) 0 (count_to (leaves_normal c (next e c)) 16 + one (ends_run e c))
@@ -143,7 +143,7 @@ pub record Marks (c : Pool) (xs : List ℕ) (chunk reached : ℕ) (e : Event) : 
   pub answer : (turn_of e c).answer ≡ sends (Outcome.Written true list) (Told.Marks reached chunk list (version_of (next e c)))
   pub map : map_left e c ≡ Lent.some (marked_for xs list chunk)
 
--- one that reached none (R-18)
+-- one that reached none
 pub record MarksNone (c : Pool) (xs : List ℕ) (e : Event) : Type 0 where
   pub answer : (turn_of e c).answer ≡ sends (Outcome.Written false 0) Told.Nothing
   pub map : map_left e c ≡ Lent.some xs
@@ -151,7 +151,7 @@ pub record MarksNone (c : Pool) (xs : List ℕ) (e : Event) : Type 0 where
 -- "NORMAL sessions not reached become FAILED .. If any was reached, the write is acknowledged and the mark list is every member that is not NORMAL, save one being
 -- deleted; client map and each reached node mark it, the node being sent the version after these changes. Reached by none: neither"; "a write that did not reach [the
 -- awaited peer of a removal] is its failed answer." Refused: a reached member marked, one that just failed not marked; the version before the changes; marks sent to
--- others than the reached; a write acknowledged that reached none; a removal that goes on without its peer. (R-18)
+-- others than the reached; a write acknowledged that reached none; a removal that goes on without its peer.
 abbrev pub WriteMarks : Type 0
 WriteMarks = (c : Pool) (xs : List ℕ) (chunk reached : ℕ) → Accepts c (Event.write xs chunk reached)
     → Wrote c reached (next (Event.write xs chunk reached) c)
@@ -167,7 +167,7 @@ last_normal c id = is_normal (state_of c id) && eqb (count_to (λ j. is_normal (
 -- "If leaving for FAILED or maintenance brings the count to 0, that session is marked last authoritative; the mark goes from every session when any enters NORMAL, and
 -- from a session entering REMOVING." So, after any event: while the count is above 0, nobody is marked; if it came to 0, the last that left NORMAL is (the highest,
 -- since a write takes them ascending), unless it is being removed or gone; if it was 0, the mark is where it was, save on one that is REMOVING or gone. Refused: a
--- mark that appears elsewhere, stays beside a NORMAL session or is given to nobody; a removal that marks. (R-22)
+-- mark that appears elsewhere, stays beside a NORMAL session or is given to nobody; a removal that marks.
 abbrev pub LastAuthoritative : Type 0
 LastAuthoritative = (c : Pool) → Reached c → is_sync c ≡ false → (e : Event) (id : ℕ)
     → mark_of (next e c) id ≡ (eqb (count_of (next e c)) 0 && (bears (state_of (next e c) id) && pick (eqb (count_of c) 0) (mark_of c id) (last_normal c id)))
@@ -176,7 +176,7 @@ LastAuthoritative = (c : Pool) → Reached c → is_sync c ≡ false → (e : Ev
 
 -- "Maintenance: NORMAL to RECONNECTING, flagged; node told by enable 0 .. The flag outlasts a later failure and ends on removal": but for maintenance and enable of the
 -- session itself, it stays while the session is FAILED or RECONNECTING. Refused: no flag, or no message; a link down, a store check or a write that ends maintenance,
--- a removal that does not. (R-11)
+-- a removal that does not.
 abbrev pub Maintenance : Type 0
 Maintenance =
     ((c : Pool) (id : ℕ) → Accepts c (Event.maintenance id)
@@ -186,7 +186,7 @@ Maintenance =
     × ((c : Pool) → Reached c → (e : Event) (id : ℕ) → e ≢ Event.maintenance id → e ≢ Event.enable id → flag_of (next e c) id ≡ (flag_of c id && bears (state_of (next e c) id)))
 
 -- "Enable: from CREATED to NORMAL .. On RECONNECTING in maintenance: maintenance ends and recovery is tried, without 001's enable"; from CREATED it is not tried.
--- Refused: the end of maintenance that makes NORMAL or leaves the flag; a run that begins after enable from CREATED, or none after the end of maintenance. (R-10)
+-- Refused: the end of maintenance that makes NORMAL or leaves the flag; a run that begins after enable from CREATED, or none after the end of maintenance.
 abbrev pub EnableDoes : Type 0
 EnableDoes = (c : Pool) (id : ℕ) → Accepts c (Event.enable id)
     → (is_created (state_of c id) ≡ true
@@ -210,7 +210,7 @@ pub record Dropped (c : Pool) (id : ℕ) (e : Event) : Type 0 where
 
 -- "Link down: CREATED, NORMAL, RECONNECTING to FAILED"; "An accepted link down during a run ends it .. recovery is tried. The result counts awaited answers taken so far
 -- in the run"; "link down of the awaited peer (a REMOVING one stays so) .. is its failed answer." Refused: a run that survives, or whose count is lost; recovery tried
--- where there was no run; a removal that goes on without its peer, or a LEAVE_POOL no longer owed. (R-12, R-35, R-48)
+-- where there was no run; a removal that goes on without its peer, or a LEAVE_POOL no longer owed.
 abbrev pub LinkDown : Type 0
 LinkDown = (c : Pool) (id : ℕ) → Accepts c (Event.link_down id) → Dropped c id (Event.link_down id)
 
@@ -221,7 +221,7 @@ pub data Brings (c : Pool) (id : ℕ) : Event → Cause → Type 0 where
   link : is_removing (state_of c id) ≡ false → Brings c id (Event.link_down id) Cause.Link
   io : (xs : List ℕ) (chunk reached : ℕ) → is_normal (state_of c id) ≡ true → has reached id ≡ false → Brings c id (Event.write xs chunk reached) Cause.Io
 
--- "Link down sets link; a write that did not reach it sets IO." Refused: another cause, or a cause that was forgotten. (R-17, R-23)
+-- "Link down sets link; a write that did not reach it sets IO." Refused: another cause, or a cause that was forgotten.
 abbrev pub CauseSet : Type 0
 CauseSet = (c : Pool) (e : Event) → Accepts c e → (id : ℕ) (cause : Cause) → Brings c id e cause → state_of (next e c) id ≡ State.Failed cause
 
@@ -230,7 +230,7 @@ pub data Caused (c : Pool) (e : Event) (id : ℕ) (cause : Cause) : Type 0 where
   stood : state_of c id ≡ State.Failed cause → Caused c e id cause
   brought : is_failed (state_of c id) ≡ false → is_accepted (turn_of e c).answer ≡ true → Brings c id e cause → Caused c e id cause
 
--- From any reached client, by any event. Refused: a cause that changes while it stands, or that another event brings. (R-23)
+-- From any reached client, by any event. Refused: a cause that changes while it stands, or that another event brings.
 abbrev pub CauseOnly : Type 0
 CauseOnly = (c : Pool) → Reached c → (e : Event) (id : ℕ) (cause : Cause) → state_of (next e c) id ≡ State.Failed cause → Caused c e id cause
 
@@ -240,7 +240,7 @@ pub data Got (id : ℕ) (cause : Cause) : Pool → Type 0 where
   kept : (c : Pool) (e : Event) → Reached c → Got id cause c → is_failed (state_of (next e c) id) ≡ true → Got id cause (next e c)
 
 -- "A cause stands exactly while the session is FAILED": FAILED has one, no other state has. At every reached client it is link exactly where a link down brought the
--- session there, IO exactly where a write did. Refused: a cause that is left from an earlier fall. (R-23)
+-- session there, IO exactly where a write did. Refused: a cause that is left from an earlier fall.
 abbrev pub CauseTells : Type 0
 CauseTells = (c : Pool) → Reached c → (id : ℕ) (cause : Cause) → (state_of c id ≡ State.Failed cause → Got id cause c) × (Got id cause c → state_of c id ≡ State.Failed cause)
 
@@ -254,7 +254,6 @@ pub record Rejoins (c : Pool) (id : ℕ) : Type 0 where
   pub nine : job_of c ≡ Job.Idle → is_free (state_of c id) ≡ false → state_of c id ≢ State.Failed Cause.Link → (turn_of (Event.rejoin id) c).answer ≡ Answer.Refused 9
   pub both : (cause : Cause) → job_of c ≡ Job.Idle → state_of c id ≡ State.Failed cause → is_accepted (turn_of (Event.store_check id) c).answer ≡ true
 
--- (R-14)
 abbrev pub Rejoin : Type 0
 Rejoin = (c : Pool) → Reached c → (id : ℕ) → Rejoins c id
 
@@ -288,13 +287,13 @@ frees (Part.remove i mode) c id = eqb id i && (not_owed (state_of c id) && nothi
 frees (Part.answer m a) c id = eqb id m.id && (is_good a && nothing_due c id m.stage)
 
 -- "Remove (delete or disassemble): any state to REMOVING. Awaited in turn: LEAVE_POOL to it (not owed if it was FAILED)": in this mode, LEAVE_POOL owed or not; unless it
--- is freed at once. Refused: a session that is not REMOVING, or in the other mode; LEAVE_POOL owed by a FAILED one, or once more after it was done. (R-32)
+-- is freed at once. Refused: a session that is not REMOVING, or in the other mode; LEAVE_POOL owed by a FAILED one, or once more after it was done.
 abbrev pub RemoveBegins : Type 0
 RemoveBegins = (c : Pool) (xs : List ℕ) (id : ℕ) (mode : Mode) → Accepts c (Event.remove xs id mode)
     → state_of (next (Event.remove xs id mode) c) id ≡ pick (frees (Part.remove id mode) c id) State.Free (State.Removing mode (not (not_owed (state_of c id))))
 
 -- "After the last success (at once if none is due) the session is freed." Refused: a session freed before its last message is answered, by a failed answer or by
--- another event; or not freed then. (R-34)
+-- another event; or not freed then.
 abbrev pub Freed : Type 0
 Freed = (c : Pool) (e : Event) → Accepts c e → (id : ℕ) → is_free (state_of c id) ≡ false → is_free (state_of (next e c) id) ≡ frees (part_of e c) c id
 
@@ -310,7 +309,7 @@ rows_after s c c' id xs = pick (frees s c id && nobody_left c'.roster) (zeroed x
 
 -- "When LEAVE is done or not owed, delete takes out member entry and client row .. if none is left the client map is zeroed": exactly then, and no other event takes a
 -- member out. Refused: a member taken out by disassemble, before LEAVE_POOL is answered or by its failed answer; a row zeroed at another time, or of another member; a
--- map zeroed while a session is left. (R-33)
+-- map zeroed while a session is left.
 abbrev pub DeleteTakesOut : Type 0
 DeleteTakesOut =
     ((c : Pool) (e : Event) → Accepts c e → (id : ℕ) → has (members_of c) id ≡ true → has (members_of (next e c)) id ≡ not (takes_out (part_of e c) c id))
@@ -326,7 +325,7 @@ abbrev pub is_unused : Pool → ℕ → Bool
 is_unused c id = is_free (state_of c id) && not (has (members_of c) id)
 
 -- "Joining by create becomes refusal 17 once a write has been acknowledged": where nothing of an earlier place refuses it, and before 10; never in a sync pool. Refused: a join that
--- goes on after a write; 10 given for a member then. (R-7)
+-- goes on after a write; 10 given for a member then.
 abbrev pub CreateEnds : Type 0
 CreateEnds = (c : Pool) → Reached c → (id : ℕ) → id < 16 → job_of c ≡ Job.Idle → is_free (state_of c id) ≡ true → is_sync c ≡ false → c.roster.past.written ≡ true
     → (turn_of (Event.join_create id) c).answer ≡ Answer.Refused 17
@@ -353,12 +352,12 @@ pub record Extended (c : Pool) (xs : List ℕ) (e : Event) : Type 0 where
 
 -- "Extend picks the lowest id that is neither a member nor held by a session .. POOL_INFO goes out as at a join by create; then .. the new member's row is set for every chunk in the
 -- client map and on every NORMAL node .. its session is RECONNECTING, and recovery is tried .. Extend is logged with its id": the answer reports it. Refused: the highest such id,
--- or one that is held; a NORMAL node that gets no fill, a fill with another version; the row of another member, a chunk left out, a chunk set past the count. (R-16)
+-- or one that is held; a NORMAL node that gets no fill, a fill with another version; the row of another member, a chunk left out, a chunk set past the count.
 abbrev pub ExtendAdds : Type 0
 ExtendAdds = (c : Pool) (xs : List ℕ) → Accepts c (Event.extend xs) → Extended c xs (Event.extend xs)
 
 -- "It is refused (number 19) exactly when no such id exists"; where a session is NORMAL ("with no NORMAL session it is refusal 11, checked before 19"), no job is in hand, and the map
--- is sound. Refused: 19 while an id is unused, an id above 15. (R-16)
+-- is sound. Refused: 19 while an id is unused, an id above 15.
 abbrev pub ExtendNone : Type 0
 ExtendNone = (c : Pool) (xs : List ℕ) → Reached c → is_sync c ≡ false → job_of c ≡ Job.Idle → sound c.chunks xs ≡ true
     → ((n : ℕ) → is_normal (state_of c n) ≡ true → ((j : ℕ) → j < 16 → is_unused c j ≡ false) → (turn_of (Event.extend xs) c).answer ≡ Answer.Refused 19)

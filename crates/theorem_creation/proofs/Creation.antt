@@ -19,16 +19,13 @@ use Rattle.rules_pool.specs.Session.{is_free, is_created}
 use Rattle.rules_pool.specs.Exit.{refused}
 use Rattle.laws_client.proofs.Exit.{turn-of}
 use Rattle.laws_client.proofs.Ids.{below}
-use Rattle.rules_client.specs.Joins.{create_tests, create_refusal, create_done, join_create}
 use Rattle.rules_client.specs.Enables.{enables, enable_tests, enable_refusal, enable_done, enable}
 use Rattle.rules_pool.specs.declared.Pool.{Pool}
 use Rattle.rules_pool.specs.Breaking.{acknowledges, is_accepted}
-use Rattle.rules_client.specs.Events.{Event, turn_of, next, state_of, is_sync}
+use Rattle.rules_client.specs.Events.{Event, turn_of, next, state_of}
 use Rattle.theorem_client.specs.Demand2.{Reached}
-use Rattle.theorem_client.proofs.Adds.{create-ends}
-use Rattle.theorem_client.proofs.States.{and-true}
 use Rattle.theorem_client.proofs.Demand2.{reached-valid, rules-kept}
-use Rattle.theorem_creation.specs.Creation.{takes_over, empties, InService, NoneEnabled, Seventeen, OnlyThere, Wrote, CreateSeventeen}
+use Rattle.theorem_creation.specs.Creation.{takes_over, empties, InService, NoneEnabled, Seventeen, OnlyThere}
 use Rattle.theorem_creation.proofs.Past.{past_of, later, law}
 
 -- ---- the flags
@@ -138,50 +135,3 @@ only-there c r id e =
     let f = first-applies (enable_tests c id) (λ z. absurd (let y : ⊥ = omega (arith, g, z) in y)) in
     let a : (is_created (state_of c id) && in_service (past_of c)) ≡ true = subst (λ (n : ℕ). applies n (enable_tests c id) ≡ true) g f.given in
     (in-service c r (and_right (is_created (state_of c id)) (in_service (past_of c)) a), and_left (is_created (state_of c id)) (in_service (past_of c)) a)
-
--- ---- joining by create
-
-wrote-reached : (c : Pool) → Wrote c → Reached c
-wrote-reached _ (Wrote.wrote c e r a) = Reached.then c e r
-wrote-reached _ (Wrote.stays c e s x) = Reached.then c e (wrote-reached c s)
-
--- the flag after an event that empties nothing
-written_after : (c : Pool) (e : Event) → Reached c → empties e c ≡ false → (past_of (next e c)).written ≡ ((past_of c).written || acknowledges (turn_of e c).answer)
-written_after c e r x = ap (λ (p : Past). p.written) (law e c (reached-valid c r)).is ∙ rw x (and-true ((past_of c).written || acknowledges (turn_of e c).answer))
-
-pub wrote-flagged : (c : Pool) → Wrote c → (past_of c).written ≡ true
-wrote-flagged _ (Wrote.wrote c e r a) =
-    written_after c e r ((law e c (reached-valid c r)).one (or_left (acknowledges (turn_of e c).answer) (takes_over e c) a)) ∙ or_right (past_of c).written (acknowledges (turn_of e c).answer) a
-wrote-flagged _ (Wrote.stays c e s x) = written_after c e (wrote-reached c s) x ∙ or_left (past_of c).written (acknowledges (turn_of e c).answer) (wrote-flagged c s)
-
-pub flag-wrote : (c : Pool) → Reached c → (past_of c).written ≡ true → Wrote c
-flag-wrote _ (Reached.start sync chunks a b) f = clash f refl
-flag-wrote _ (Reached.then c e r) f =
-    by_cases (empties e c)
-    (λ x. clash f (ap (λ (p : Past). p.written) (law e c (reached-valid c r)).is ∙ rw x (and-false ((past_of c).written || acknowledges (turn_of e c).answer))))
-    (λ x. by_cases (acknowledges (turn_of e c).answer)
-    (λ w. Wrote.wrote c e r w)
-    (λ w. Wrote.stays c e (flag-wrote c r (sym (or-none (past_of c).written) ∙ (sym (ap (λ (b : Bool). (past_of c).written || b) w) ∙ (sym (written_after c e r x) ∙ f)))) x))
-
--- the number given
-given-create : (c : Pool) (id n : ℕ) → (turn_of (Event.join_create id) c).answer ≡ Answer.Refused n → create_refusal c id ≡ n
-unfolding join_create create_done
-given-create c id n =
-    turn-of (λ (t : Turn). t.answer ≡ Answer.Refused n → create_refusal c id ≡ n) (create_refusal c id) (create_done c id) c
-    (λ e. let q : create_refusal c id ≡ n = cc e in q)
-    (λ z e. clash refl (ap is_accepted e))
-
--- 17 is given by the flag
-by-the-flag : (c : Pool) (id : ℕ) → (turn_of (Event.join_create id) c).answer ≡ Answer.Refused 17 → (past_of c).written ≡ true
-unfolding create_refusal
-by-the-flag c id e =
-    let g = given-create c id 17 e in
-    let f = first-applies (create_tests c id) (λ z. absurd (let y : ⊥ = omega (arith, g, z) in y)) in
-    let a : (not (is_sync c) && (past_of c).written) ≡ true = subst (λ (n : ℕ). applies n (create_tests c id) ≡ true) g f.given in
-    and_right (not (is_sync c)) (past_of c).written a
-
-pub create-seventeen : CreateSeventeen
-create-seventeen c r plain idle id h free = (
-  (λ w. create-ends c id (reached-valid c r) h idle free plain (wrote-flagged c w)),
-  λ e. flag-wrote c r (by-the-flag c id e),
-)

@@ -84,11 +84,11 @@ idle-past p = later-kept p false ∙ kept-all p
 
 -- ---- the named changes leave it
 
-pub entered-past : (ro : Roster) (id : ℕ) → (entered ro id).past ≡ ro.past
+entered-past : (ro : Roster) (id : ℕ) → (entered ro id).past ≡ ro.past
 unfolding entered
 entered-past ro id = either (λ (q : Roster). q.past ≡ ro.past) ro.sync _ _ refl refl
 
-pub left-past : (ro : Roster) (id : ℕ) (w : Way) → (left ro id w).past ≡ ro.past
+left-past : (ro : Roster) (id : ℕ) (w : Way) → (left ro id w).past ≡ ro.past
 unfolding left
 left-past ro id w = either (λ (q : Roster). q.past ≡ ro.past) ro.sync _ _ refl refl
 
@@ -96,15 +96,15 @@ failed-past : (ro : Roster) (id : ℕ) (cause : Cause) → (failed ro id cause).
 unfolding failed
 failed-past ro id cause = either (λ (q : Roster). q.past ≡ ro.past) (is_normal (session_at ro id).state) _ _ (left-past ro id (Way.Failed cause)) refl
 
-pub removing-past : (ro : Roster) (id : ℕ) (mode : Mode) → (removing ro id mode).past ≡ ro.past
+removing-past : (ro : Roster) (id : ℕ) (mode : Mode) → (removing ro id mode).past ≡ ro.past
 unfolding removing went
 removing-past ro id mode = either (λ (q : Roster). q.past ≡ ro.past) (is_normal (session_at ro id).state) _ _ (left-past ro id (Way.Removing mode true)) refl
 
-pub dropped-past : (ro : Roster) (id : ℕ) → (dropped ro id).past ≡ ro.past
+dropped-past : (ro : Roster) (id : ℕ) → (dropped ro id).past ≡ ro.past
 unfolding dropped
 dropped-past ro id = either (λ (q : Roster). q.past ≡ ro.past) (is_removing (session_at ro id).state) _ _ refl (failed-past ro id Cause.Link)
 
-pub missed-past : (reached n k : ℕ) (ro : Roster) → (run_at (miss_step reached) n k ro).past ≡ ro.past
+missed-past : (reached n k : ℕ) (ro : Roster) → (run_at (miss_step reached) n k ro).past ≡ ro.past
 unfolding miss_step
 missed-past reached zero k ro = refl
 missed-past reached (suc n) k ro =
@@ -156,7 +156,7 @@ calm e c q t o =
     record { is = q.1 ∙ sym (rw (q.0, t, n) (idle-past (past_of c))); one = λ a. n }
 
 -- the past after recovery was tried
-tried-calm : (c : Pool) (p : Pool) → p.roster.past ≡ past_of c → (tried_after p Outcome.Plain Told.Nothing).pool.roster.past ≡ past_of c
+tried-calm : (c : Pool) (p : Pool) → p.roster.past ≡ past_of c → (tried_after p p Outcome.Plain Told.Nothing).pool.roster.past ≡ past_of c
 tried-calm c p e = ap (λ (ro : Roster). ro.past) (tried-roster p) ∙ e
 
 down-calm : (j : Job) (c : Pool) (id : ℕ) → Calm c (down_at j c id)
@@ -191,11 +191,11 @@ assemble-law id set version c =
       one = λ a. and-false (is_accepted (turn_of (Event.join_assemble id set version) c).answer);
     }
 
-marked-is : (before after : Pool) (chunk reached : ℕ) → acknowledges (marks after chunk reached).answer ≡ not (eqb reached 0)
+marked-is : (before after : Pool) (chunk reached : ℕ) → acknowledges (marks before after chunk reached).answer ≡ not (eqb reached 0)
 unfolding marks
 marked-is before after chunk reached = picked (λ (t : Turn). acknowledges t.answer ≡ not (eqb reached 0)) (eqb reached 0) _ _ (λ e. rw e refl) (λ e. rw e refl)
 
-marked-pool : (P : Pool → Type 0) (before after : Pool) (chunk reached : ℕ) → P after → P (marks after chunk reached).pool
+marked-pool : (P : Pool → Type 0) (before after : Pool) (chunk reached : ℕ) → P after → P (marks before after chunk reached).pool
 unfolding marks
 marked-pool P before after chunk reached p = either (λ (t : Turn). P t.pool) (eqb reached 0) _ _ p p
 
@@ -207,7 +207,7 @@ write-law xs chunk reached c =
           turn-of (λ (t : Turn). t.pool.roster.past ≡ later (past_of c) (acknowledges t.answer) false (is_accepted t.answer && (false && (not (is_sync c) && eqb t.pool.roster.members 0))))
           (write_refusal c (sound_for c xs) chunk reached) (write_done c chunk reached) c
           (sym (idle-past (past_of c)))
-          (λ e. past_is ∙ sym (rw (marked-is c after chunk reached, and-false (is_accepted (marks after chunk reached).answer), or-none (past_of c).assembled) (kept-all (past_written (past_of c) (not (eqb reached 0))))));
+          (λ e. past_is ∙ sym (rw (marked-is c after chunk reached, and-false (is_accepted (marks c after chunk reached).answer), or-none (past_of c).assembled) (kept-all (past_written (past_of c) (not (eqb reached 0))))));
       one = λ a. and-false (is_accepted (turn_of (Event.write xs chunk reached) c).answer);
     }
   where
@@ -217,7 +217,7 @@ write-law xs chunk reached c =
     now-is : (written (missed c.roster reached) (not (eqb reached 0))).past ≡ past_written (past_of c) (not (eqb reached 0))
     now-is = ap (λ (p : Past). past_written p (not (eqb reached 0))) (missed-past reached 16 0 c.roster)
 
-    past_is : (marks after chunk reached).pool.roster.past ≡ past_written (past_of c) (not (eqb reached 0))
+    past_is : (marks c after chunk reached).pool.roster.past ≡ past_written (past_of c) (not (eqb reached 0))
     past_is =
         marked-pool (λ (q : Pool). q.roster.past ≡ past_written (past_of c) (not (eqb reached 0))) c after chunk reached
         (halts (λ (q : Pool). q.roster.past ≡ past_written (past_of c) (not (eqb reached 0))) (loses c.job c.roster reached) (with_roster c (written (missed c.roster reached) (not (eqb reached 0)))) now-is now-is)
@@ -251,7 +251,7 @@ remove-law : (xs : List ℕ) (id : ℕ) (mode : Mode) (c : Pool) → Valid c →
 unfolding remove_turn remove
 remove-law xs id mode c v =
     forgets (Event.remove xs id mode) c refl
-    (turn-of (Forgets c (Part.remove id mode)) (remove_refusal c (sound_for c xs) id mode) (gone (remove_begun c id mode)) c
+    (turn-of (Forgets c (Part.remove id mode)) (remove_refusal c (sound_for c xs) id mode) (gone c (remove_begun c id mode)) c
     (refused-forgets c (Part.remove id mode) (remove_refusal c (sound_for c xs) id mode))
     (λ e. (refl, done (remove-passed c (sound_for c xs) id mode e).below)))
   where
@@ -351,7 +351,7 @@ law (Event.store_check id) c v =
 law (Event.rejoin id) c v =
     calm (Event.rejoin id) c (turn-of (Calm c) (rejoin_refusal c id) (check_done c id) c (refl, refl) (λ e. check-calm c id)) refl refl
 law Event.try_run c v =
-    calm Event.try_run c (turn-of (Calm c) (try_refusal c) (tried_after c Outcome.Plain Told.Nothing) c (refl, refl) (λ e. (refl, tried-calm c c refl))) refl refl
+    calm Event.try_run c (turn-of (Calm c) (try_refusal c) (tried_after c c Outcome.Plain Told.Nothing) c (refl, refl) (λ e. (refl, tried-calm c c refl))) refl refl
 law (Event.remove xs id mode) c v = remove-law xs id mode c v
 law (Event.write xs chunk reached) c v = write-law xs chunk reached c
 law (Event.synced xs member chunk) c v =

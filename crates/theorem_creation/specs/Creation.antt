@@ -1,9 +1,9 @@
 -- The creation hole: a pool in service, and that no enable makes a CREATED session of it NORMAL.
-use Rattle.std.specs.Prelude.{◌≡◌, Bool, true, false, not, ◌&&◌, ℕ, ◌<◌, eqb}
+use Rattle.std.specs.Prelude.{◌≡◌, Bool, true, false, not, ◌&&◌, ℕ, eqb}
 use Rattle.rules_pool.specs.declared.Job.{Job}
 use Rattle.rules_pool.specs.declared.Outcome.{Outcome}
 use Rattle.rules_pool.specs.declared.Answer.{Answer}
-use Rattle.rules_pool.specs.Session.{is_free, is_created}
+use Rattle.rules_pool.specs.Session.{is_created}
 use Rattle.rules_pool.specs.declared.Pool.{Pool}
 use Rattle.rules_pool.specs.Breaking.{acknowledges, is_accepted}
 use Rattle.rules_client.specs.Events.{Event, turn_of, next, state_of, is_sync, job_of}
@@ -39,7 +39,7 @@ takes_one (Part.answer m a) c = takes_out (Part.answer m a) c m.id
 abbrev pub empties : Event → Pool → Bool
 empties e c = is_accepted (turn_of e c).answer && (takes_one (part_of e c) c && (not (is_sync c) && eqb (members_of (next e c)) 0))
 
--- A pool in service: reached from a fresh one, a write was acknowledged in it or a set taken over, and no delete emptied the membership since. (R-30)
+-- A pool in service: reached from a fresh one, a write was acknowledged in it or a set taken over, and no delete emptied the membership since.
 pub data InService : Pool → Type 0 where
   wrote : (c : Pool) (e : Event) → Reached c → acknowledges (turn_of e c).answer ≡ true → InService (next e c)
   took_over : (c : Pool) (e : Event) → Reached c → takes_over e c ≡ true → InService (next e c)
@@ -48,28 +48,15 @@ pub data InService : Pool → Type 0 where
 -- ---- the theorems
 
 -- There no enable is accepted of a CREATED session: it does not become NORMAL, and nothing changes. Refused: a write that does not set the flag, one that a disassemble or a
--- join clears; an enable that looks at one of the two alone. (R-10)
+-- join clears; an enable that looks at one of the two alone.
 abbrev pub NoneEnabled : Type 0
 NoneEnabled = (c : Pool) → InService c → (id : ℕ) → is_created (state_of c id) ≡ true → (is_accepted (turn_of (Event.enable id) c).answer ≡ false) × (next (Event.enable id) c ≡ c)
 
--- The number is 17, unless 5 or 6 comes before it: in a pool that is not sync, with no job in hand. (R-30)
+-- The number is 17, unless 5 or 6 comes before it: in a pool that is not sync, with no job in hand.
 abbrev pub Seventeen : Type 0
 Seventeen = (c : Pool) → InService c → is_sync c ≡ false → job_of c ≡ Job.Idle → (id : ℕ) → is_created (state_of c id) ≡ true → (turn_of (Event.enable id) c).answer ≡ Answer.Refused 17
 
 -- And it is given to nobody else: in a pool that is not in service, or at the end of maintenance, never. Refused: a flag that outlasts the last member; 17 given to a session in
--- maintenance. (R-30)
+-- maintenance.
 abbrev pub OnlyThere : Type 0
 OnlyThere = (c : Pool) → Reached c → (id : ℕ) → (turn_of (Event.enable id) c).answer ≡ Answer.Refused 17 → InService c × (is_created (state_of c id) ≡ true)
-
--- ---- joining by create (document 02, C-20)
-
--- Reached from a fresh one, a write was acknowledged, and no delete emptied the membership since.
-pub data Wrote : Pool → Type 0 where
-  wrote : (c : Pool) (e : Event) → Reached c → acknowledges (turn_of e c).answer ≡ true → Wrote (next e c)
-  stays : (c : Pool) (e : Event) → Wrote c → empties e c ≡ false → Wrote (next e c)
-
--- "Joining by create becomes refusal 17 once a write has been acknowledged": there, and nowhere else, where nothing of an earlier place refuses it (an id above 15, a job in hand, a session there already);
--- a sync pool takes no write. Refused: a join that goes on after a write; 10 given for a member then; 17 in a pool that was assembled and not yet written to, or after a write that reached none.
-abbrev pub CreateSeventeen : Type 0
-CreateSeventeen = (c : Pool) → Reached c → is_sync c ≡ false → job_of c ≡ Job.Idle → (id : ℕ) → id < 16 → is_free (state_of c id) ≡ true
-    → (Wrote c → (turn_of (Event.join_create id) c).answer ≡ Answer.Refused 17) × ((turn_of (Event.join_create id) c).answer ≡ Answer.Refused 17 → Wrote c)

@@ -35,9 +35,8 @@ use Rattle.model_pool.specs.Reflects.{Reflects}
 use Rattle.model_pool.proofs.Told.{quiet}
 use Rattle.model_pool.proofs.Acts.{acts}
 use Rattle.model_pool.proofs.Tellings.{check-told, rejoin-told, try-told, enable-told, maintenance-told, down-told, answer-told}
-use Rattle.rules_world.specs.Together.{told_in}
-use Rattle.rules_world.specs.Whole.{World, Happening, accepts, acknowledges, acted, by_client, after}
-use Rattle.rules_world.specs.History.{History, then, takes_in, writes, joined_by, joined, to_come_by, to_come, waits_by, waits, acked_by, acked}
+use Rattle.rules_world.specs.Whole.{World, Happening, accepts, acknowledges, told_in, acted, by_client, after}
+use Rattle.rules_world.specs.History.{History, then, takes_in, writes, joined_by, joined, waits_by, waits, acked_by, acked}
 use Rattle.theorem_forgotten.specs.Premises.{Keeps}
 use Rattle.theorem_forgotten.specs.Forgotten.{Missed}
 use Rattle.theorem_forgotten.proofs.Tells.{grows_by, Tells}
@@ -87,24 +86,19 @@ idle-answer p sound number a b e =
 -- ---- told again
 module _ (w : World) (h : History w) (t : Tells h) (e : Event) (got : ℕ) where
   pub client-tells : (b : m.World) → s.Course t.a b → Reflects (by_client e got w) b
-      → ((j : ℕ) → (joined_by w (Happening.client e got) j (joined h j) || to_come_by w (Happening.client e got) j (to_come h j)) ≡ b.past.ever j) → ((j : ℕ) → to_come_by w (Happening.client e got) j (to_come h j) ≡ b.nodes.off j)
-      → ((j : ℕ) → joined_by w (Happening.client e got) j (joined h j) ≡ true → to_come_by w (Happening.client e got) j (to_come h j) ≡ false) → ((j : ℕ) → waits_by w (Happening.client e got) j (waits h j) ≡ b.past.wait j)
-      → ((j : ℕ) → waits_by w (Happening.client e got) j (waits h j) ≡ true → joined_by w (Happening.client e got) j (joined h j) ≡ true)
+      → ((j : ℕ) → joined_by w (Happening.client e got) j (joined h j) ≡ b.past.ever j) → ((j : ℕ) → waits_by w (Happening.client e got) j (waits h j) ≡ b.past.wait j)
       → ((j : ℕ) → (w.nodes j).node.create ≡ true → joined_by w (Happening.client e got) j (joined h j) ≡ false)
       → ((c : ℕ) → acked_by w (Happening.client e got) c (acked h c) ≡ true → b.past.acked c ≡ true) → ((c : ℕ) → b.past.acked c ≡ true → c < w.pool.chunks)
       → ((n c : ℕ) → Missed n c (then w (Happening.client e got) h) → 0 < b.past.owe n c)
       → Tells (then w (Happening.client e got) h)
   unfolding after
-  client-tells b c r ev of al wt wd nw ak bl ow = record {
+  client-tells b c r ev wt nw ak bl ow = record {
     a = b;
     inv = kept-all c t.inv;
     reflects = r;
     remembers = record {
       ever = ev;
-      off = of;
-      alone = al;
       wait = wt;
-      waited = wd;
       acked = ak;
       below = λ d z. subst (λ (n : ℕ). d < n) (sym (client-chunks e got w)) (bl d z);
       new = λ j z. nw j (client-unmarked e got w j z);
@@ -114,33 +108,18 @@ module _ (w : World) (h : History w) (t : Tells h) (e : Event) (got : ℕ) where
 
   module _ (out : (j : ℕ) → (takes_in e w j && accepts w e) ≡ false) where
     pub same-joined : (j : ℕ) → joined_by w (Happening.client e got) j (joined h j) ≡ joined h j
-    same-joined j = rw (out j) refl
-
-    pub same-to-come : (j : ℕ) → to_come_by w (Happening.client e got) j (to_come h j) ≡ to_come h j
-    same-to-come j = rw (out j) refl
-
-    pub same-ever : (j : ℕ) → (joined_by w (Happening.client e got) j (joined h j) || to_come_by w (Happening.client e got) j (to_come h j)) ≡ t.a.past.ever j
-    same-ever j = (λ i. same-joined j i || same-to-come j i) ∙ t.remembers.ever j
-
-    pub same-alone : (j : ℕ) → joined_by w (Happening.client e got) j (joined h j) ≡ true → to_come_by w (Happening.client e got) j (to_come h j) ≡ false
-    same-alone j z = same-to-come j ∙ t.remembers.alone j (sym (same-joined j) ∙ z)
+    same-joined j = rw (out j) (or-none (joined h j))
 
     pub same-waits : (j : ℕ) → waits_by w (Happening.client e got) j (waits h j) ≡ waits h j
     same-waits j = rw (out j) (and-true (waits h j))
 
-    pub same-waited : (j : ℕ) → waits_by w (Happening.client e got) j (waits h j) ≡ true → joined_by w (Happening.client e got) j (joined h j) ≡ true
-    same-waited j z = same-joined j ∙ t.remembers.waited j (sym (same-waits j) ∙ z)
-
     -- who is in the pool, and what was acknowledged, is as before
-    pub same-tells : (b : m.World) → s.Course t.a b → Reflects (by_client e got w) b → b.nodes.off ≡ t.a.nodes.off → b.past.ever ≡ t.a.past.ever → b.past.wait ≡ t.a.past.wait → b.past.acked ≡ t.a.past.acked
+    pub same-tells : (b : m.World) → s.Course t.a b → Reflects (by_client e got w) b → b.past.ever ≡ t.a.past.ever → b.past.wait ≡ t.a.past.wait → b.past.acked ≡ t.a.past.acked
         → ((c : ℕ) → (writes e c && acknowledges w e) ≡ false) → ((n c : ℕ) → Missed n c (then w (Happening.client e got) h) → 0 < b.past.owe n c) → Tells (then w (Happening.client e got) h)
-    same-tells b c r of ev wt ak none ow =
+    same-tells b c r ev wt ak none ow =
         client-tells b c r
-        (λ j. same-ever j ∙ ap (λ (f : ℕ → Bool). f j) (sym ev))
-        (λ j. same-to-come j ∙ (t.remembers.off j ∙ ap (λ (f : ℕ → Bool). f j) (sym of)))
-        same-alone
+        (λ j. same-joined j ∙ (t.remembers.ever j ∙ ap (λ (f : ℕ → Bool). f j) (sym ev)))
         (λ j. same-waits j ∙ (t.remembers.wait j ∙ ap (λ (f : ℕ → Bool). f j) (sym wt)))
-        same-waited
         (λ j z. same-joined j ∙ t.remembers.new j z)
         (λ d z. ap (λ (f : ℕ → Bool). f d) ak ∙ t.remembers.acked d (sym (ap (λ (x : Bool). acked h d || x) (none d) ∙ or-none (acked h d)) ∙ z))
         (λ d z. t.remembers.below d (ap (λ (f : ℕ → Bool). f d) (sym ak) ∙ z))
@@ -151,7 +130,7 @@ module _ (w : World) (h : History w) (t : Tells h) (e : Event) (got : ℕ) where
     moved-tells k q none g =
         let r = t.reflects in
         let x = acts w t.a r (turn_of e w.pool) got k (kept-valid e w.pool r.valid) (kept-plain e w.pool r.valid r.plain) (kept-chunks e w.pool) q in
-        same-tells x.to x.course x.reflects x.off (ap (λ (y : m.Past). y.ever) x.past) (ap (λ (y : m.Past). y.wait) x.past) (ap (λ (y : m.Past). y.acked) x.past) none
+        same-tells x.to x.course x.reflects (ap (λ (y : m.Past). y.ever) x.past) (ap (λ (y : m.Past). y.wait) x.past) (ap (λ (y : m.Past). y.acked) x.past) none
         (λ n c z. subst (λ (y : m.Past). 0 < y.owe n c) (sym x.past) (t.remembers.owes n c (still-missed w h (Happening.client e got) g n c z).0))
 
 -- ---- what is told

@@ -1,6 +1,7 @@
 -- What is remembered where little changes; and that no event but register create marks a node.
-use mathlib.Core.Path.{◌≡◌, refl, sym, ap, ◌∙◌, subst}
+use mathlib.Core.Path.{◌≡◌, refl, sym, ap, ◌∙◌}
 use mathlib.Core.Bool.{Bool, true, false, ◌&&◌, ◌||◌}
+use mathlib.Core.List.{List}
 use mathlib.Core.Logic.{◌⊎◌, inl, inr}
 use Prim.Native.Nat.{ℕ}
 use Rattle.laws_words.specs.Tests.{clash, by_cases}
@@ -21,12 +22,11 @@ use Rattle.rules_node.specs.Events as storage
 use Rattle.laws_node.proofs.Theorems.{law}
 use Rattle.rules_node.specs.Turns.{is_accepted}
 use Rattle.rules_world.specs.Station.{Station, does}
-use Rattle.model_pool.specs.Model as m
-use Rattle.model_pool.proofs.Ground.{split, upd_same, upd_other}
+use Rattle.rules_world.specs.Together.{deliver}
 use Rattle.model_pool.proofs.Did.{lent, took, stays}
-use Rattle.model_pool.proofs.Every.{arrived, is_afresh, told-old, every-told, every-delivered}
-use Rattle.rules_world.specs.Whole.{World, Happening, delivered}
-use Rattle.rules_world.specs.History.{History, then}
+use Rattle.model_pool.proofs.Every.{arrived, every-told, every-delivered}
+use Rattle.rules_world.specs.Whole.{World, Happening}
+use Rattle.rules_world.specs.History.{History, then, Origin, origin_of, is_message}
 use Rattle.theorem_forgotten.specs.Forgotten.{Missed, Passed, Added, Synced}
 use Rattle.theorem_forgotten.proofs.Tells.{grows}
 
@@ -43,12 +43,6 @@ or-all false = refl
 pub and-true : (b : Bool) → (b && true) ≡ b
 and-true true = refl
 and-true false = refl
-
--- ---- maps
-
--- one map forgotten
-pub without : (f : ℕ → m.Map) (j i n d : ℕ) → m.upd f j m.none i n d ≡ true → f i n d ≡ true
-without f j i n d z = split i j (λ q. clash (subst (λ (k : ℕ). m.upd f j m.none k n d ≡ true) q z) (ap (λ (g : m.Map). g n d) (upd_same f j m.none))) (λ q. ap (λ (g : m.Map). g n d) (sym (upd_other f j i m.none q)) ∙ z)
 
 -- ---- what is owed stays owed where nothing new is missed
 
@@ -69,7 +63,16 @@ still-missed w h x g n c k = at k.0
 
 -- ---- marked create
 
-mark-old : (e : storage.Event) (n : Node) (l : ℕ) → is_afresh e ≡ false → (law e n l).done.node.create ≡ true → n.create ≡ true
+abbrev pub is_afresh : Origin → Bool
+is_afresh Origin.afresh = true
+is_afresh (Origin.added version) = false
+is_afresh (Origin.given_up delete) = false
+is_afresh Origin.joins_create = false
+is_afresh Origin.joins_assemble = false
+is_afresh Origin.fault = false
+is_afresh Origin.message = false
+
+mark-old : (e : storage.Event) (n : Node) (l : ℕ) → is_afresh (origin_of e) ≡ false → (law e n l).done.node.create ≡ true → n.create ≡ true
 unfolding law registered_create registered_add wiped unregistered joined_create left enabled disabled written informed filled readied part_taken committed went_to equipped taken_over member_entered member_dropped stored_version kept_chunk forgotten transferred ended_transfer instructed
 mark-old storage.Event.register_create n l f c = clash refl f
 mark-old (storage.Event.register_add set version) n l f c = clash c refl
@@ -100,18 +103,27 @@ mark-old (storage.Event.fill member version) n l f c = c
 abbrev pub Unmarked : Station → Station → Type 0
 Unmarked s s' = s'.node.create ≡ true → s.node.create ≡ true
 
-pub unmarked-by : (e : storage.Event) (s : Station) → is_afresh e ≡ false → Unmarked s (does s e).station
+pub unmarked-by : (e : storage.Event) (s : Station) → is_afresh (origin_of e) ≡ false → Unmarked s (does s e).station
 unmarked-by e s f c = by_cases (is_accepted (does s e).answer)
     (λ z. mark-old e s.node (lent s) f (ap (λ (x : Station). x.node.create) (sym (took e s z).is) ∙ c))
     (λ z. ap (λ (x : Station). x.node.create) (sym (stays e s z)) ∙ c)
 
 -- so it is through every message
+message-old : (o : Origin) → is_message o ≡ true → is_afresh o ≡ false
+message-old Origin.afresh e = clash e refl
+message-old (Origin.added version) e = refl
+message-old (Origin.given_up delete) e = refl
+message-old Origin.joins_create e = refl
+message-old Origin.joins_assemble e = refl
+message-old Origin.fault e = refl
+message-old Origin.message e = refl
+
 module _ (f₀ : ℕ → Station) where
-  pub message-unmarked : (j : ℕ) (e : storage.Event) (s : Station) → is_afresh e ≡ false → Unmarked (f₀ j) s → Unmarked (f₀ j) (does s e).station
-  message-unmarked j e s m k c = k (unmarked-by e s m c)
+  pub message-unmarked : (j : ℕ) (e : storage.Event) (s : Station) → is_message (origin_of e) ≡ true → Unmarked (f₀ j) s → Unmarked (f₀ j) (does s e).station
+  message-unmarked j e s m k c = k (unmarked-by e s (message-old (origin_of e) m) c)
 
   pub told-unmarked : (got : ℕ) (t : Told) (j : ℕ) → Unmarked (f₀ j) (arrived got t f₀ j)
-  told-unmarked got t j = every-told (λ i. Unmarked (f₀ i)) (λ i e s q. message-unmarked i e s (told-old e q)) got t f₀ (λ i c. c) j
+  told-unmarked got t j = every-told (λ i. Unmarked (f₀ i)) message-unmarked got t f₀ (λ i c. c) j
 
-  pub deliver-unmarked : (o l : ℕ) (x : Message) (j : ℕ) → Unmarked (f₀ j) ((delivered o l x f₀).nodes j)
-  deliver-unmarked o l x j = every-delivered (λ i. Unmarked (f₀ i)) message-unmarked o l x f₀ (λ i c. c) j
+  pub deliver-unmarked : (ls : List ℕ) (x : Message) (j : ℕ) → Unmarked (f₀ j) ((deliver ls x f₀).nodes j)
+  deliver-unmarked ls x j = every-delivered (λ i. Unmarked (f₀ i)) message-unmarked ls x f₀ (λ i c. c) j

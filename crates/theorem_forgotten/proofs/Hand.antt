@@ -66,8 +66,8 @@ module _ (w : World) (h : History w) (t : Tells h) (id : ℕ) (k : Keeps h (Happ
       let r = t.reflects in
       held_all w.nodes t.a.nodes id s' t.a.pool.version (m.within t.a.pool.mem (t.a.nodes.map id)) m.none m.Transfer.Shut r.held
       (less (m.within t.a.pool.mem (t.a.nodes.map id)) m.none
-      (subst (λ (v : ℕ). Holds (t.a.nodes.off id) s' v (m.within (has w.pool.roster.members) (t.a.nodes.map id)) m.none m.Transfer.Shut) r.shows.sees.version
-      (enabled-at w.pool.chunks id (w.nodes id) (r.sane id) _ _ _ _ _ (r.held.at id) w.pool.roster.version w.pool.roster.members (k.by_hand id refl).2))
+      (subst (λ (v : ℕ). Holds s' v (m.within (has w.pool.roster.members) (t.a.nodes.map id)) m.none m.Transfer.Shut) r.shows.sees.version
+      (enabled-at w.pool.chunks id (w.nodes id) (r.sane id) _ _ _ _ (r.held.at id) w.pool.roster.version w.pool.roster.members (k.by_hand id refl).2))
       (λ n d z. and_both (r.shows.sees.mem n ∙ and_left (t.a.pool.mem n) (t.a.nodes.map id n d) z) (and_right (t.a.pool.mem n) (t.a.nodes.map id n d) z))
       (λ n d z. z))
 
@@ -86,7 +86,7 @@ module _ (w : World) (h : History w) (t : Tells h) (id : ℕ) (k : Keeps h (Happ
       (reflects-sent (by_node id (enabling w) w) (with_roster w.pool (entered w.pool.roster id)) (arrived 0 Told.Nothing f) Message.Nothing x.to
       (subst Valid vq (kept-valid e w.pool r.valid)) (subst (λ (p : Pool). p.roster.sync ≡ false) vq (kept-plain e w.pool r.valid r.plain)) x.sees x.works x.sends
       (untold (Sane w.pool.chunks) sane)
-      (subst (Held (arrived 0 Told.Nothing f)) (sym x.nodes) (record { at = untold (λ j y. Holds ((by_hand t.a id).off j) y ((by_hand t.a id).ver j) ((by_hand t.a id).map j) ((by_hand t.a id).stg j) ((by_hand t.a id).tr j)) held.at })))
+      (subst (Held (arrived 0 Told.Nothing f)) (sym x.nodes) (record { at = untold (λ j y. Holds y ((by_hand t.a id).ver j) ((by_hand t.a id).map j) ((by_hand t.a id).stg j) ((by_hand t.a id).tr j)) held.at })))
 
   pub hand-enabled : Tells (then w (Happening.hand_enable id) h)
   unfolding after
@@ -98,9 +98,6 @@ module _ (w : World) (h : History w) (t : Tells h) (id : ℕ) (k : Keeps h (Happ
         reflects = reflects;
         remembers = record {
           ever = λ j. u.ever j ∙ ap (λ (y : m.Past). y.ever j) (sym x.past);
-          off = λ j. u.off j ∙ ap (λ (y : m.Nodes). y.off j) (sym x.nodes);
-          alone = u.alone;
-          waited = u.waited;
           wait = λ j. u.wait j ∙ ap (λ (y : m.Past). y.wait j) (sym x.past);
           acked = λ c z. ap (λ (y : m.Past). y.acked c) x.past ∙ u.acked c z;
           below = λ c z. subst (λ (n : ℕ). c < n) (sym (client-chunks e 0 (by_node id (enabling w) w))) (u.below c (ap (λ (y : m.Past). y.acked c) (sym x.past) ∙ z));

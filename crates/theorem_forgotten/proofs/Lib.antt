@@ -1,7 +1,5 @@
-pub mod Another
 pub mod Arrives
 pub mod Client
-pub mod Counts
 pub mod Extends
 pub mod Ground
 pub mod Hand

@@ -49,8 +49,9 @@ abbrev acknowledges_it : World → Happening → Bool
 acknowledges_it w (Happening.node j e) = false
 acknowledges_it w (Happening.client e got) = acknowledges w e
 acknowledges_it w (Happening.hand_enable j) = false
-acknowledges_it w (Happening.arrives l) = false
-acknowledges_it w (Happening.another j s) = false
+acknowledges_it w (Happening.arrives lengths) = false
+acknowledges_it w (Happening.breaks_off lengths) = false
+acknowledges_it w (Happening.another j xs ys) = false
 
 -- who missed a write of chunk c missed one that was acknowledged
 pub passed-acknowledged : (w : World) (e : Event) (got n c : ℕ) → Passed w (Happening.client e got) n c → acknowledges w e ≡ true
@@ -60,12 +61,13 @@ abbrev accepts_it : World → Happening → Bool
 accepts_it w (Happening.node j e) = false
 accepts_it w (Happening.client e got) = accepts w e
 accepts_it w (Happening.hand_enable j) = false
-accepts_it w (Happening.arrives l) = false
-accepts_it w (Happening.another j s) = false
+accepts_it w (Happening.arrives lengths) = false
+accepts_it w (Happening.breaks_off lengths) = false
+accepts_it w (Happening.another j xs ys) = false
 
 pub refused-tells : (w : World) (h : History w) (t : Tells h) (e : Event) (got : ℕ) → accepts w e ≡ false → Tells (then w (Happening.client e got) h)
 refused-tells w h t e got z =
-    same-tells w h t e got (λ j. rw z (and-false (takes_in e w j))) t.a (s.here t.a) (subst (λ (x : World). Reflects x t.a) (sym (not-acted e got w z)) t.reflects) refl refl refl refl (λ c. rw (not-acknowledged w e z) (and-false (writes e c)))
+    same-tells w h t e got (λ j. rw z (and-false (takes_in e w j))) t.a (s.here t.a) (subst (λ (x : World). Reflects x t.a) (sym (not-acted e got w z)) t.reflects) refl refl refl (λ c. rw (not-acknowledged w e z) (and-false (writes e c)))
     (λ n c k. t.remembers.owes n c (at n c k.0))
   where
     at : (n c : ℕ) → Passed w (Happening.client e got) n c ⊎ (Added h (Happening.client e got) n c ⊎ (Missed n c h × ((Synced w (Happening.client e got) n c) → ⊥))) → Missed n c h

@@ -26,8 +26,7 @@ use Rattle.model_pool.proofs.Removal.{removes, deleted-out}
 use Rattle.model_pool.specs.Reflects.{Reflects}
 use Rattle.model_pool.proofs.Acts.{goes_on}
 use Rattle.model_pool.proofs.Told.{quiet}
-use Rattle.rules_world.specs.Together.{told_in}
-use Rattle.rules_world.specs.Whole.{World, state_in, Happening, accepts, acted, after}
+use Rattle.rules_world.specs.Whole.{World, state_in, Happening, accepts, told_in, acted, after}
 use Rattle.rules_world.specs.History.{History, then}
 use Rattle.theorem_forgotten.specs.Premises.{Keeps}
 use Rattle.theorem_forgotten.specs.Forgotten.{In}
@@ -47,9 +46,9 @@ module _ (w : World) (h : History w) (t : Tells h) (xs : List ℕ) (id : ℕ) (m
   module _ (z : accepts w e ≡ true) where
     zero : remove_refusal w.pool sound id mode ≡ 0
     unfolding remove_turn remove
-    zero = zero_of w.pool (remove_refusal w.pool sound id mode) (gone (remove_begun w.pool id mode)) z
+    zero = zero_of w.pool (remove_refusal w.pool sound id mode) (gone w.pool (remove_begun w.pool id mode)) z
 
-    turn_is : turn_of e w.pool ≡ gone (remove_begun w.pool id mode)
+    turn_is : turn_of e w.pool ≡ gone w.pool (remove_begun w.pool id mode)
     unfolding remove_turn remove
     turn_is = rw zero refl
 
@@ -82,7 +81,7 @@ module _ (w : World) (h : History w) (t : Tells h) (xs : List ℕ) (id : ℕ) (m
         (sent_in (remove_begun w.pool id mode).posted.awaited Told.Nothing (remove_begun w.pool id mode).posted.pool.number) g.works g.sends refl in
         let o = b.past ∙ (g.past ∙ p) in
         same-tells w h t e got (λ j. refl) b.to (then-course c (then-course g.course b.course)) (subst (λ (y : Turn). Reflects (acted y.answer y.pool got w) b.to) (sym turn_is) b.reflects)
-        (b.off ∙ ap (λ (y : m.Nodes). y.off) (g.nodes ∙ n)) (ap (λ (y : m.Past). y.ever) o) (ap (λ (y : m.Past). y.wait) o) (ap (λ (y : m.Past). y.acked) o) (λ q. refl)
+        (ap (λ (y : m.Past). y.ever) o) (ap (λ (y : m.Past). y.wait) o) (ap (λ (y : m.Past). y.acked) o) (λ q. refl)
         (λ i q u. subst (λ (y : m.Past). 0 < y.owe i q) (sym o)
         (subst (λ (f : ℕ → ℕ). 0 < f q) (sym (upd_other t.a.past.owe id i (λ x. 0) (not_in d i u.1))) (t.remembers.owes i q (still-missed w h (Happening.client e got) refl i q u).0)))
 

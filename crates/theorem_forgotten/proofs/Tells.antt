@@ -1,21 +1,18 @@
 -- A history told by the simplified pool: its world is seen, and what is remembered there is what the history says.
 use mathlib.Core.Path.{◌≡◌}
-use mathlib.Core.Bool.{Bool, true, false, ◌||◌}
+use mathlib.Core.Bool.{Bool, true, false}
 use Prim.Native.Nat.{ℕ, ◌<◌}
 use Rattle.rules_client.specs.Events.{Event}
 use Rattle.model_pool.specs.Model as m
 use Rattle.model_pool.specs.Invariant.{Inv}
 use Rattle.model_pool.specs.Reflects.{Reflects}
 use Rattle.rules_world.specs.Whole.{World, Happening}
-use Rattle.rules_world.specs.History.{History, joined, to_come, waits, acked}
+use Rattle.rules_world.specs.History.{History, joined, waits, acked}
 use Rattle.theorem_forgotten.specs.Forgotten.{Missed}
 
 pub record Remembers {w : World} (h : History w) (a : m.World) : Type 0 where
-  pub ever : (j : ℕ) → (joined h j || to_come h j) ≡ a.past.ever j
-  pub off : (j : ℕ) → to_come h j ≡ a.nodes.off j
-  pub alone : (j : ℕ) → joined h j ≡ true → to_come h j ≡ false
+  pub ever : (j : ℕ) → joined h j ≡ a.past.ever j
   pub wait : (j : ℕ) → waits h j ≡ a.past.wait j
-  pub waited : (j : ℕ) → waits h j ≡ true → joined h j ≡ true
   pub acked : (c : ℕ) → acked h c ≡ true → a.past.acked c ≡ true
   pub below : (c : ℕ) → a.past.acked c ≡ true → c < w.pool.chunks
   pub new : (j : ℕ) → (w.nodes j).node.create ≡ true → joined h j ≡ false
@@ -47,5 +44,6 @@ abbrev pub grows : Happening → Bool
 grows (Happening.node j e) = false
 grows (Happening.client e got) = grows_by e
 grows (Happening.hand_enable j) = false
-grows (Happening.arrives l) = false
-grows (Happening.another j s) = false
+grows (Happening.arrives lengths) = false
+grows (Happening.breaks_off lengths) = false
+grows (Happening.another j xs ys) = false

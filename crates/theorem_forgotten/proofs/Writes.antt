@@ -12,9 +12,6 @@ use Rattle.laws_words.specs.Tests.{clash, by_cases, picked, either, and_left, an
 use Rattle.rules_base.proofs.Order.{none-applies}
 use Rattle.rules_base.specs.Sets.{has}
 use Rattle.rules_pool.specs.declared.Message.{Message}
-use Rattle.rules_pool.specs.declared.Stage.{Stage}
-use Rattle.rules_pool.specs.declared.Job.{Job}
-use Rattle.rules_pool.specs.Jobs.{is_idle, is_running}
 use Rattle.rules_pool.specs.declared.Outcome.{Outcome}
 use Rattle.rules_pool.specs.declared.Effect.{Effect}
 use Rattle.rules_pool.specs.declared.Told.{Told}
@@ -28,7 +25,7 @@ use Rattle.rules_pool.specs.Changes.{written}
 use Rattle.rules_pool.specs.Recovery.{with_roster}
 use Rattle.rules_pool.specs.Exit.{accepted, halted_if}
 use Rattle.rules_client.specs.Writes.{write_tests, write_refusal, missed, loses, marks, write_done, write_ended, sync_refusal, sync_done, synced}
-use Rattle.laws_client.proofs.WritesKept.{missed-does, write-passed}
+use Rattle.laws_client.proofs.WritesKept.{missed-does}
 use Rattle.rules_client.specs.Client.{sound_for, write_turn, clean_to, synced_turn}
 use Rattle.laws_client.proofs.Pools.{Valid}
 use Rattle.rules_node.specs.Events as storage
@@ -40,36 +37,24 @@ use Rattle.model_pool.specs.Model as m
 use Rattle.model_pool.specs.Steps as s
 use Rattle.model_pool.proofs.Ground.{split, upd_same, upd_other}
 use Rattle.model_pool.proofs.ModelWrites.{owed-some, owed_more}
-use Rattle.model_pool.specs.Mirror.{stage_awaits, job_awaits, Moves, goes, stands, MovesBy}
+use Rattle.model_pool.specs.Mirror.{Moves, goes, stands, MovesBy}
 use Rattle.model_pool.proofs.Sessions.{dyings}
 use Rattle.model_pool.proofs.Tries.{joined as then-course}
 use Rattle.model_pool.specs.Holds.{Holds, Held, Sane}
 use Rattle.model_pool.proofs.Events.{less, wrote, cleared_at, either as if-taken}
 use Rattle.model_pool.proofs.Writes.{reaches-none, Wrote, reaches_some, listed-is, syncs}
 use Rattle.model_pool.specs.Reflects.{Reflects}
-use Rattle.model_pool.proofs.Every.{arrived, told-staging}
-use Rattle.model_pool.proofs.Staging.{keeps-parted}
+use Rattle.model_pool.proofs.Every.{arrived}
 use Rattle.model_pool.proofs.Told.{quiet}
 use Rattle.model_pool.proofs.Acts.{world_after, reflects-sent, reflects-stood, told-sane, acts}
-use Rattle.rules_world.specs.Together.{due_to, when_to, after_all, told_in}
-use Rattle.rules_world.specs.Whole.{World, Happening, accepts, acknowledges, takes_all, acted, after}
+use Rattle.rules_world.specs.Whole.{World, Happening, accepts, acknowledges, due_to, takes_all, when_to, after_all, told_in, acted, after}
 use Rattle.rules_world.specs.History.{History, then, acked_by, acked}
 use Rattle.theorem_forgotten.specs.Premises.{Keeps}
 use Rattle.theorem_forgotten.specs.Forgotten.{Missed, Passed, Added, Synced, In}
 use Rattle.theorem_forgotten.proofs.Tells.{Tells}
 use Rattle.theorem_forgotten.proofs.Ground.{or-none, still-missed}
-use Rattle.theorem_forgotten.proofs.Client.{kept-valid, kept-plain, kept-chunks, client-tells, same-joined, same-to-come, same-ever, same-alone, same-waits, same-waited, same-tells}
+use Rattle.theorem_forgotten.proofs.Client.{kept-valid, kept-plain, kept-chunks, client-tells, same-joined, same-waits, same-tells}
 use Rattle.theorem_forgotten.proofs.Refused.{zero_of, passed-acknowledged, refused-tells}
-
--- a removal awaits no map
-stage-still : (st : Stage) (p : Pool) (n from to : ℕ) → stage_awaits st p n ≡ Message.Send from to → true ≡ false
-stage-still Stage.Leave p n from to e = absurd (let z : ◌≡◌ {A = ℕ} 0 1 = cc in let y : ⊥ = omega arith in y)
-stage-still (Stage.Info peer) p n from to e = absurd (let z : ◌≡◌ {A = ℕ} 0 1 = cc in let y : ⊥ = omega arith in y)
-
-still-job : (j : Job) (p : Pool) → is_idle j ≡ false → is_running j ≡ false → (from to : ℕ) → job_awaits j p ≡ Message.Send from to → true ≡ false
-still-job Job.Idle p i r from to e = clash refl i
-still-job (Job.Running x) p i r from to e = clash refl r
-still-job (Job.Removing d) p i r from to e = stage-still d.stage p d.id from to e
 
 -- ---- a write
 module _ (w : World) (h : History w) (t : Tells h) (xs : List ℕ) (chunk reached got : ℕ) (k : Keeps h (Happening.client (Event.write xs chunk reached) got)) where
@@ -89,7 +74,7 @@ module _ (w : World) (h : History w) (t : Tells h) (xs : List ℕ) (chunk reache
     zero = zero_of w.pool (write_refusal w.pool sound chunk reached) (write_done w.pool chunk reached) z
 
     -- ---- reached by none
-    turn-none : eqb reached 0 ≡ true → turn_of e w.pool ≡ accepted (left false) (Outcome.Written false 0) Told.Nothing Message.Nothing Effect.Keep
+    turn-none : eqb reached 0 ≡ true → turn_of e w.pool ≡ accepted w.pool (left false) (Outcome.Written false 0) Told.Nothing Message.Nothing Effect.Keep
     unfolding write_turn write_ended write_done marks
     turn-none q = rw (zero, q) refl
 
@@ -98,7 +83,7 @@ module _ (w : World) (h : History w) (t : Tells h) (xs : List ℕ) (chunk reache
         let r = t.reflects in
         let x = acts w t.a r (turn_of e w.pool) got (subst (λ (y : Turn). MovesBy w.pool y t.a) (sym (turn-none q)) (reaches-none w.pool sound chunk reached r.valid r.plain zero t.a r.shows (eqb-true reached 0 q)))
         (kept-valid e w.pool r.valid) (kept-plain e w.pool r.valid r.plain) (kept-chunks e w.pool) (subst (λ (y : Turn). quiet (told_in y.answer) ≡ true) (sym (turn-none q)) refl) in
-        same-tells w h t e got (λ j. refl) x.to x.course x.reflects x.off (ap (λ (y : m.Past). y.ever) x.past) (ap (λ (y : m.Past). y.wait) x.past) (ap (λ (y : m.Past). y.acked) x.past)
+        same-tells w h t e got (λ j. refl) x.to x.course x.reflects (ap (λ (y : m.Past). y.ever) x.past) (ap (λ (y : m.Past). y.wait) x.past) (ap (λ (y : m.Past). y.acked) x.past)
         (λ c. rw unheard (and-false (eqb chunk c)))
         (λ n c u. subst (λ (y : m.Past). 0 < y.owe n c) (sym x.past) (t.remembers.owes n c (old n c u.0)))
       where
@@ -126,7 +111,7 @@ module _ (w : World) (h : History w) (t : Tells h) (xs : List ℕ) (chunk reache
     abbrev told : Told
     told = Told.Marks reached chunk list version
 
-    turn-some : eqb reached 0 ≡ false → turn_of e w.pool ≡ accepted (left true) (Outcome.Written true list) told Message.Nothing (Effect.Mark list chunk)
+    turn-some : eqb reached 0 ≡ false → turn_of e w.pool ≡ accepted w.pool (left true) (Outcome.Written true list) told Message.Nothing (Effect.Mark list chunk)
     unfolding write_turn write_ended write_done marks
     turn-some q = rw (zero, q) refl
 
@@ -161,17 +146,16 @@ module _ (w : World) (h : History w) (t : Tells h) (xs : List ℕ) (chunk reache
           (x.0, and_left (is_accepted (does (w.nodes j) (storage.Event.write chunk list version)).answer) true (subst (λ (b : Bool). takes_all (when_to b (storage.Event.write chunk list version)) (w.nodes j) ≡ true) y g))
 
       abbrev Target : ℕ → Station → Type 0
-      Target j x = Holds ((s.written chunk u).nodes.off j) x ((s.written chunk u).nodes.ver j) ((s.written chunk u).nodes.map j) ((s.written chunk u).nodes.stg j) ((s.written chunk u).nodes.tr j)
+      Target j x = Holds x ((s.written chunk u).nodes.ver j) ((s.written chunk u).nodes.map j) ((s.written chunk u).nodes.stg j) ((s.written chunk u).nodes.tr j)
 
       marked : (j : ℕ) → has reached j ≡ true → Target j (arrived got told w.nodes j)
       marked j y =
           let x = heard j y in
           let up = wr.normal j ∙ y in
-          let g = wrote w.pool.chunks j (w.nodes j) (t.reflects.sane j) _ _ _ _ _ (held-u.at j) chunk list version x.1 in
+          let g = wrote w.pool.chunks j (w.nodes j) (t.reflects.sane j) _ _ _ _ (held-u.at j) chunk list version x.1 in
           subst (Target j) (sym (ap (λ (b : Bool). pick b (after_all (when_to (has reached j) (storage.Event.write chunk list version)) (w.nodes j)) (w.nodes j)) x.0 ∙ ap (λ (b : Bool). after_all (when_to b (storage.Event.write chunk list version)) (w.nodes j)) y))
           (record {
-            ver = λ o. g.ver o ∙ (ap (max (u.nodes.ver j)) version-is ∙ ap (λ (b : Bool). cond b (max (u.nodes.ver j) u.pool.version) (u.nodes.ver j)) (sym up));
-            away = λ o. ((g.away o).0, sym (ap (max (u.nodes.ver j)) version-is ∙ ap (λ (b : Bool). cond b (max (u.nodes.ver j) u.pool.version) (u.nodes.ver j)) (sym up)) ∙ (g.away o).1);
+            ver = g.ver ∙ (ap (max (u.nodes.ver j)) version-is ∙ ap (λ (b : Bool). cond b (max (u.nodes.ver j) u.pool.version) (u.nodes.ver j)) (sym up));
             map = λ n d v. g.map n d (at (u.nodes.map j n d) (m.up (u.pool.ses j)) (eqb d chunk) (s.listed u.pool.ses u.pool.mem n) (has list n) (list-is n) v);
             stg = g.stg;
             tr = g.tr;
@@ -187,8 +171,7 @@ module _ (w : World) (h : History w) (t : Tells h) (xs : List ℕ) (chunk reache
           let up = wr.normal j ∙ y in
           subst (Target j) (sym (ap (λ (b : Bool). pick (has got j) (after_all (when_to b (storage.Event.write chunk list version)) (w.nodes j)) (w.nodes j)) y ∙ either (λ (x : Station). x ≡ w.nodes j) (has got j) (w.nodes j) (w.nodes j) refl refl))
           (record {
-            ver = λ o. (held-u.at j).ver o ∙ ap (λ (b : Bool). cond b (max (u.nodes.ver j) u.pool.version) (u.nodes.ver j)) (sym up);
-            away = λ o. (((held-u.at j).away o).0, ap (λ (b : Bool). cond b (max (u.nodes.ver j) u.pool.version) (u.nodes.ver j)) up ∙ ((held-u.at j).away o).1);
+            ver = (held-u.at j).ver ∙ ap (λ (b : Bool). cond b (max (u.nodes.ver j) u.pool.version) (u.nodes.ver j)) (sym up);
             map = λ n d v. (held-u.at j).map n d (at (u.nodes.map j n d) (m.up (u.pool.ses j)) (eqb d chunk && s.listed u.pool.ses u.pool.mem n) up v);
             stg = (held-u.at j).stg;
             tr = (held-u.at j).tr;
@@ -201,17 +184,12 @@ module _ (w : World) (h : History w) (t : Tells h) (xs : List ℕ) (chunk reache
       held : Held (arrived got told w.nodes) (s.written chunk u).nodes
       held = record { at = λ j. by_cases (has reached j) (marked j) (spared j) }
 
-      -- no map is under way: no run is in hand
-      no_run : {A : Type 0} (from to : ℕ) → is_idle w.pool.job ≡ false → w.awaited ≡ Message.Send from to → A
-      no_run from to busy y = clash refl (still-job w.pool.job w.pool busy (write-passed w.pool sound chunk reached zero).free from to (sym (t.reflects.awaits busy) ∙ y))
-
       -- what the client comes to then
       record Came : Type 0 where
         to : m.World
         course : s.Course (s.written chunk u) to
         reflects : Reflects (world_after w (left true) (arrived got told w.nodes) Message.Nothing) to
         past : to.past ≡ (s.written chunk u).past
-        off : to.nodes.off ≡ u.nodes.off
 
       valid : Valid (left true)
       valid = subst Valid (ap (λ (y : Turn). y.pool) (turn-some q)) (kept-valid e w.pool t.reflects.valid)
@@ -231,15 +209,12 @@ module _ (w : World) (h : History w) (t : Tells h) (xs : List ℕ) (chunk reache
         course = g.course;
         reflects = reflects-sent w (left true) (arrived got told w.nodes) Message.Nothing g.to valid plain g.sees g.works g.sends sane (subst (Held (arrived got told w.nodes)) (sym g.nodes) held);
         past = g.past;
-        off = ap (λ (y : m.Nodes). y.off) g.nodes;
       }
       came (stands x g) = record {
         to = g.to;
         course = g.course;
-        reflects = reflects-stood w (left true) (arrived got told w.nodes) t.a g.to t.reflects valid plain g.sees g.job g.awaits (g.hand ∙ wr.hand) sane (subst (Held (arrived got told w.nodes)) (sym g.nodes) held)
-            (λ busy o from to y p. no_run from to busy y);
+        reflects = reflects-stood w (left true) (arrived got told w.nodes) t.a g.to t.reflects valid plain g.sees g.job g.awaits (g.hand ∙ wr.hand) sane (subst (Held (arrived got told w.nodes)) (sym g.nodes) held);
         past = g.past;
-        off = ap (λ (y : m.Nodes). y.off) g.nodes;
       }
 
       c : Came
@@ -290,11 +265,8 @@ module _ (w : World) (h : History w) (t : Tells h) (xs : List ℕ) (chunk reache
       reached-some : Tells (then w (Happening.client e got) h)
       reached-some =
           client-tells w h t e got c.to (then-course wr.course c.course) (subst (λ (y : Turn). Reflects (acted y.answer y.pool got w) c.to) (sym (turn-some q)) c.reflects)
-          (λ j. same-ever w h t e got (λ i. refl) j ∙ (ap (λ (y : m.Past). y.ever j) (sym wr.past) ∙ ap (λ (y : m.Past). y.ever j) (sym c.past)))
-          (λ j. same-to-come w h t e got (λ i. refl) j ∙ (t.remembers.off j ∙ (ap (λ (y : m.Nodes). y.off j) (sym wr.nodes) ∙ ap (λ (f : ℕ → Bool). f j) (sym c.off))))
-          (same-alone w h t e got (λ i. refl))
+          (λ j. same-joined w h t e got (λ i. refl) j ∙ (t.remembers.ever j ∙ (ap (λ (y : m.Past). y.ever j) (sym wr.past) ∙ ap (λ (y : m.Past). y.ever j) (sym c.past))))
           (λ j. same-waits w h t e got (λ i. refl) j ∙ (t.remembers.wait j ∙ (ap (λ (y : m.Past). y.wait j) (sym wr.past) ∙ ap (λ (y : m.Past). y.wait j) (sym c.past))))
-          (same-waited w h t e got (λ i. refl))
           (λ j y. same-joined w h t e got (λ i. refl) j ∙ t.remembers.new j y)
           (λ d y. subst (λ (p : m.Past). p.acked d ≡ true) (sym c.past) (split d chunk
           (λ x. rw (x, upd_same u.past.acked chunk true))
@@ -326,7 +298,7 @@ module _ (w : World) (h : History w) (t : Tells h) (xs : List ℕ) (member chunk
     unfolding synced_turn synced
     zero₂ = zero_of w.pool (sync_refusal w.pool (sound_for w.pool xs) member chunk clean) (sync_done w.pool member chunk) z
 
-    turn_is : turn_of e₂ w.pool ≡ accepted w.pool Outcome.Plain told₂ Message.Nothing Effect.Keep
+    turn_is : turn_of e₂ w.pool ≡ accepted w.pool w.pool Outcome.Plain told₂ Message.Nothing Effect.Keep
     unfolding synced_turn synced sync_done
     turn_is = rw zero₂ refl
 
@@ -337,14 +309,14 @@ module _ (w : World) (h : History w) (t : Tells h) (xs : List ℕ) (member chunk
     held₂ = record {
       at = λ j. picked (Clean j) (has got j) (after_all (when_to (has (ids_of Kind.Normals w.pool.roster) j) (storage.Event.synced member chunk)) (w.nodes j)) (w.nodes j)
           (λ y. picked (λ (es : List storage.Event). Clean j (after_all es (w.nodes j))) (has (ids_of Kind.Normals w.pool.roster) j) (storage.Event.synced member chunk ∷ []) []
-          (λ v. if-taken w.pool.chunks j (w.nodes j) (t.reflects.sane j) _ _ _ _ _ (t.reflects.held.at j) (storage.Event.synced member chunk) (s.bitless member chunk t.a.nodes.map j) (t.a.nodes.stg j) (fewer j) (λ n d x. x)
-          (cleared_at w.pool.chunks j (w.nodes j) (t.reflects.sane j) _ _ _ _ _ (t.reflects.held.at j) member chunk))
+          (λ v. if-taken w.pool.chunks j (w.nodes j) (t.reflects.sane j) _ _ _ _ (t.reflects.held.at j) (storage.Event.synced member chunk) (s.bitless member chunk t.a.nodes.map j) (t.a.nodes.stg j) (fewer j) (λ n d x. x)
+          (cleared_at w.pool.chunks j (w.nodes j) (t.reflects.sane j) _ _ _ _ (t.reflects.held.at j) member chunk))
           (λ v. same j))
           (λ y. same j);
     }
       where
         Clean : ℕ → Station → Type 0
-        Clean j x = Holds (t.a.nodes.off j) x (t.a.nodes.ver j) (s.bitless member chunk t.a.nodes.map j) (t.a.nodes.stg j) (t.a.nodes.tr j)
+        Clean j x = Holds x (t.a.nodes.ver j) (s.bitless member chunk t.a.nodes.map j) (t.a.nodes.stg j) (t.a.nodes.tr j)
 
         fewer : (j n d : ℕ) → s.bitless member chunk t.a.nodes.map j n d ≡ true → t.a.nodes.map j n d ≡ true
         fewer j n d x = and_right (not (eqb n member && eqb d chunk)) (t.a.nodes.map j n d) x
@@ -369,9 +341,8 @@ module _ (w : World) (h : History w) (t : Tells h) (xs : List ℕ) (member chunk
         same-tells w h t e₂ got (λ j. refl) b (s.more (s.here t.a) (syncs w.pool (sound_for w.pool xs) member chunk clean t.a r.shows zero₂))
         (subst (λ (y : Turn). Reflects (acted y.answer y.pool got w) b) (sym turn_is)
         (reflects-stood w w.pool (arrived got told₂ w.nodes) t.a b r r.valid r.plain r.shows.sees refl refl refl
-        (told-sane w t.a r.sane r.held w.pool got r.valid r.plain refl r.shows.sees told₂) held₂
-        (λ busy o from to y p. keeps-parted (told-staging got told₂ w.nodes to) o (b.nodes.map from) (λ e n d l v. p e n d l (and_right (not (eqb n member && eqb d chunk)) _ v)))))
-        refl refl refl refl (λ c. refl) owed₂
+        (told-sane w t.a r.sane r.held w.pool got r.valid r.plain refl r.shows.sees told₂) held₂))
+        refl refl refl (λ c. refl) owed₂
 
   pub syncs-tell : Tells (then w (Happening.client e₂ got) h)
   syncs-tell = by_cases (accepts w e₂) syncing (refused-tells w h t e₂ got)

@@ -40,11 +40,11 @@ pub record Synced (w : World) (x : Happening) (m c : ℕ) : Type 0 where
   pub is : x ≡ Happening.client (Event.synced xs m c) got
   pub done : accepts w (Event.synced xs m c) ≡ true
 
--- Member m missed chunk c: some acknowledged write of c did not reach it, or it was acknowledged before extend took m in; and from then to now m was in the pool and not being deleted, with no sync of c for it. (R-78)
+-- Member m missed chunk c: some acknowledged write of c did not reach it, or it was acknowledged before extend took m in; and from then to now m was in the pool and not being deleted, with no sync of c for it.
 abbrev pub Missed : (m c : ℕ) {w : World} → History w → Type 0
 Missed m c (start w s) = ⊥
 Missed m c (then w x h) = (Passed w x m c ⊎ (Added h x m c ⊎ (Missed m c h × ¬ (Synced w x m c)))) × In (after w x) m
 
--- Then it is dirty for m on every NORMAL session's node: in a bit of that node's 8,192 bytes. (R-78)
+-- Then it is dirty for m on every NORMAL session's node: in a bit of that node's 8,192 bytes.
 abbrev pub NeverForgotten : Type 0
 NeverForgotten = (w : World) (h : History w) → Kept h → (m c : ℕ) → Missed m c h → (j : ℕ) → is_normal (state_in w j) ≡ true → dirty (w.nodes j).map m c ≡ 1

@@ -3,9 +3,8 @@
 use mathlib.Core.Bool.{Bool, true, false, ◌&&◌, ◌||◌, not}
 use mathlib.Core.List.{List, [], ◌∷◌}
 use Prim.Native.Nat.{ℕ, zero, suc, ◌+◌}
-use lib.Dec.{eqb, ltb, leb}
+use lib.Dec.{eqb, ltb}
 use Rattle.laws_words.specs.Words.{pick}
-use Rattle.rules_base.specs.Limits.{map_bytes}
 use Rattle.rules_base.specs.Sets.{has}
 use Rattle.rules_pool.specs.declared.Mode.{Mode}
 use Rattle.rules_pool.specs.declared.Message.{Message}
@@ -29,18 +28,16 @@ use Rattle.rules_client.specs.Answers.{answer}
 use Rattle.rules_pool.specs.Breaking.{is_accepted, acknowledges}
 use Rattle.rules_client.specs.Events.{Event}
 use Rattle.rules_node.specs.declared.Node.{Node}
-use Rattle.rules_node.specs.States.{is_joined}
+use Rattle.rules_node.specs.declared.Transfer.{Transfer}
+use Rattle.rules_node.specs.States.{is_serving}
 use Rattle.rules_node.specs.Change.{fresh}
-use Rattle.rules_node.specs.declared.Turn as nodes
-use Rattle.rules_node.specs.Hand.{take_part}
 use Rattle.rules_node.specs.Events as storage
 use Rattle.rules_node.specs.Turns as verdict
-use Rattle.rules_world.specs.Station.{Station}
-use Rattle.rules_world.specs.Together.{reply_of, due_to, told_in}
-use Rattle.theorem_instances.proofs.Honest.{bytes}
-use Rattle.rules_world.specs.Whole.{Fate, is_under_way, bytes_in, fate_of, Own, Happening}
-use Rattle.rules_world.specs.Whole as histories
-use Rattle.rules_world.specs.History.{is_join, is_creation, keeps_store}
+use Rattle.rules_world.specs.Together.{reply_of}
+use Rattle.theorem_instances.proofs.Honest.{bytes, cuts}
+use Rattle.theorem_honest.proofs.Stations.{map_taken}
+use Rattle.rules_world.specs.Whole.{Fate, Happening, due_to, told_in}
+use Rattle.rules_world.specs.History.{origin_of, is_join, is_creation, is_message, keeps_store}
 
 -- ---- one for each of the ids 0, 1 and 2
 
@@ -76,7 +73,6 @@ pub record View : Type 0 where
   pub awaited : Message
   pub fate : Fate
   pub joined : Three Bool
-  pub comes : Three Bool
   pub waits : Three Bool
   pub acked : Bool
   pub owed : Three Bool
@@ -97,14 +93,14 @@ pub data Ask : Type 0 where
 
 -- own: a node's own event. asks: the client is asked, and what it tells arrives at the nodes of the set. hand: the node is enabled by hand. comes: the awaited message arrives. anew: another node stands at the id.
 pub data Item : Type 0 where
-  own : ℕ → Own → Item
+  own : ℕ → storage.Event → Item
   asks : Ask → ℕ → Item
   hand : ℕ → Item
   comes : Item
   anew : ℕ → Item
 
 abbrev pub reply_in : Fate → Reply
-reply_in (Fate.under_way bytes) = Reply.Failed
+reply_in Fate.under_way = Reply.Failed
 reply_in (Fate.came r) = r
 
 abbrev pub event_of : View → Ask → Event
@@ -117,16 +113,12 @@ event_of v (Ask.writes reached) = Event.write bytes 3 reached
 event_of v Ask.extends = Event.extend bytes
 event_of v Ask.answers = Event.answer bytes v.pool.number (reply_in v.fate)
 
--- a fresh node, with the map of the instance
-abbrev pub fresh_station : ℕ → ℕ → Station
-fresh_station j chunks = record { node = fresh j chunks; map = bytes; staging = bytes }
-
 abbrev pub happening : View → Item → Happening
 happening v (Item.own j e) = Happening.node j e
 happening v (Item.asks a got) = Happening.client (event_of v a) got
 happening v (Item.hand j) = Happening.hand_enable j
-happening v Item.comes = Happening.arrives 1024
-happening v (Item.anew j) = Happening.another j (fresh_station j v.pool.chunks)
+happening v Item.comes = Happening.arrives (cuts 0)
+happening v (Item.anew j) = Happening.another j bytes bytes
 
 -- ---- what it does
 
@@ -170,19 +162,6 @@ taken_in (Ask.writes reached) p j = false
 taken_in Ask.extends p j = eqb j (picked p.roster)
 taken_in Ask.answers p j = false
 
-abbrev pub is_to_come : Ask → Node → Bool
-is_to_come (Ask.joins id) n = false
-is_to_come (Ask.assembles id set) n = false
-is_to_come (Ask.downs id) n = false
-is_to_come (Ask.checks id) n = false
-is_to_come (Ask.removes id mode) n = false
-is_to_come (Ask.writes reached) n = false
-is_to_come Ask.extends n = not (is_joined n.state)
-is_to_come Ask.answers n = false
-
-abbrev pub outside : Pool → ℕ → Bool
-outside p j = not (has p.roster.members j) && is_free (state_of p j)
-
 abbrev pub is_write : Ask → Bool
 is_write (Ask.joins id) = false
 is_write (Ask.assembles id set) = false
@@ -215,24 +194,22 @@ asked (Answer.Done s) p v a got =
       pool = p;
       nodes = each (λ j. pick (has got j) (all_after (due_to s.told j) (at v.nodes j)) (at v.nodes j));
       awaited = pick (is_nothing s.awaited) v.awaited s.awaited;
-      fate = pick (is_nothing s.awaited) v.fate (Fate.under_way 0);
-      joined = each (λ j. pick (taken_in a v.pool j) (not (is_to_come a (at v.nodes j))) (at v.joined j));
-      comes = each (λ j. pick (taken_in a v.pool j) (is_to_come a (at v.nodes j)) (at v.comes j));
+      fate = pick (is_nothing s.awaited) v.fate Fate.under_way;
+      joined = each (λ j. at v.joined j || taken_in a v.pool j);
       waits = each (λ j. at v.waits j && not (taken_in a v.pool j));
       acked = v.acked || (is_write a && acknowledges (Answer.Done s));
       owed = each (λ m. (misses a v (Answer.Done s) m || at v.owed m) && in_pool p m);
     }
 
-abbrev pub by_node : View → ℕ → Own → View
+abbrev pub by_node : View → ℕ → storage.Event → View
 by_node v k e =
     record {
       pool = v.pool;
-      nodes = with v.nodes k (node_after (histories.event_of e) (at v.nodes k));
+      nodes = with v.nodes k (node_after e (at v.nodes k));
       awaited = v.awaited;
       fate = v.fate;
-      joined = each (λ j. at v.joined j || (eqb j k && is_join e));
-      comes = each (λ j. at v.comes j && not (eqb j k && is_join e));
-      waits = each (λ j. at v.waits j || (eqb j k && is_creation e));
+      joined = each (λ j. at v.joined j || (eqb j k && is_join (origin_of e)));
+      waits = each (λ j. at v.waits j || (eqb j k && is_creation (origin_of e)));
       acked = v.acked;
       owed = each (λ m. at v.owed m && in_pool v.pool m);
     }
@@ -247,24 +224,22 @@ by_hand (Answer.Done s) p v k =
       pool = p;
       nodes = with v.nodes k (node_after (enabling v) (at v.nodes k));
       awaited = pick (is_nothing s.awaited) v.awaited s.awaited;
-      fate = pick (is_nothing s.awaited) v.fate (Fate.under_way 0);
+      fate = pick (is_nothing s.awaited) v.fate Fate.under_way;
       joined = v.joined;
-      comes = v.comes;
       waits = v.waits;
       acked = v.acked;
       owed = each (λ m. at v.owed m && in_pool p m);
     }
 
--- the awaited message came, and this became of it
-abbrev pub heard : View → Three Node → Fate → View
-heard v nodes fate' =
+-- the awaited message came, and the node gave this reply
+abbrev pub heard : View → Three Node → Reply → View
+heard v nodes r =
     record {
       pool = v.pool;
       nodes = nodes;
       awaited = v.awaited;
-      fate = fate';
+      fate = Fate.came r;
       joined = v.joined;
-      comes = v.comes;
       waits = v.waits;
       acked = v.acked;
       owed = each (λ m. at v.owed m && in_pool v.pool m);
@@ -272,17 +247,13 @@ heard v nodes fate' =
 
 -- a message that one node takes
 abbrev pub one_heard : View → ℕ → storage.Event → View
-one_heard v to e = heard v (with v.nodes to (node_after e (at v.nodes to))) (Fate.came (reply_of (storage.turn_of e (at v.nodes to) 0).answer))
-
--- a part of 1,024 bytes, without a bit past the chunk count
-abbrev pub takes_part : Fate → Node → nodes.Turn
-takes_part f n = take_part n 0 (bytes_in f) 1024 true
+one_heard v to e = heard v (with v.nodes to (node_after e (at v.nodes to))) (reply_of (storage.turn_of e (at v.nodes to) 0).answer)
 
 abbrev pub arrived : Message → View → View
 arrived Message.Nothing v = v
 arrived (Message.GetVersion to) v = one_heard v to storage.Event.map_get_ver
 arrived (Message.Ready to keep) v = one_heard v to (storage.Event.map_ready keep)
-arrived (Message.Send from to) v = heard v (with v.nodes to (takes_part v.fate (at v.nodes to)).node) (fate_of (leb map_bytes (bytes_in v.fate + 1024)) (bytes_in v.fate + 1024) (Reply.Good Brought.Nothing))
+arrived (Message.Send from to) v = heard v (with v.nodes to (map_taken (at v.nodes to))) (Reply.Good Brought.Nothing)
 arrived (Message.Done to enable version members) v = one_heard v to (storage.Event.map_done enable version members)
 arrived (Message.LastIo to chosen) v = one_heard v to (storage.Event.last_io_to_map chosen)
 arrived (Message.Enable to version members) v = one_heard v to (storage.Event.enable1 version members)
@@ -297,7 +268,6 @@ replaced v k =
       awaited = v.awaited;
       fate = v.fate;
       joined = each (λ j. at v.joined j && not (eqb j k));
-      comes = each (λ j. at v.comes j && not (eqb j k && outside v.pool k));
       waits = each (λ j. at v.waits j && not (eqb j k));
       acked = v.acked;
       owed = each (λ m. at v.owed m && in_pool v.pool m);
@@ -321,7 +291,7 @@ deletes_one Mode.Disassemble v id = true
 deletes_one Mode.Delete v id = not (eqb id 0) && is_normal (state_of v.pool 0)
 
 abbrev pub is_came : Fate → Bool
-is_came (Fate.under_way bytes) = false
+is_came Fate.under_way = false
 is_came (Fate.came r) = true
 
 abbrev pub ask_keeps : Ask → View → Answer → ℕ → Bool
@@ -332,17 +302,25 @@ ask_keeps (Ask.checks id) v x got = true
 ask_keeps (Ask.removes id mode) v x got = deletes_one mode v id
 ask_keeps (Ask.writes reached) v x got = few reached && all (λ j. not (has reached j) || hears v x got j)
 ask_keeps Ask.extends v x got =
-    (ltb (picked v.pool.roster) 3 && (not (is_joined (at v.nodes (picked v.pool.roster)).state) || eqb (at v.nodes (picked v.pool.roster)).version 0))
+    (ltb (picked v.pool.roster) 3 && (eqb (at v.nodes (picked v.pool.roster)).version 0 && not (at v.nodes (picked v.pool.roster)).create))
     && (few (ids_of Kind.Normals v.pool.roster) && all (λ j. not (is_normal (state_of v.pool j)) || hears v x got j))
 ask_keeps Ask.answers v x got = is_came v.fate
 
--- the message can come; a part can be given and taken
+abbrev pub is_under_way : Fate → Bool
+is_under_way Fate.under_way = true
+is_under_way (Fate.came r) = false
+
+abbrev pub is_begun : Transfer → Bool
+is_begun Transfer.Nothing = false
+is_begun (Transfer.InHand n) = eqb n 0
+
+-- a whole map can be given and taken
 abbrev pub carries_to : Message → View → Bool
 carries_to Message.Nothing v = false
 carries_to (Message.GetVersion to) v = ltb to 3
 carries_to (Message.Ready to keep) v = ltb to 3
 carries_to (Message.Send from to) v =
-    (ltb from 3 && ltb to 3) && (leb (bytes_in v.fate + 1024) map_bytes && (taken (storage.Event.give_part (bytes_in v.fate) 1024) (at v.nodes from) && verdict.is_accepted (takes_part v.fate (at v.nodes to)).answer))
+    (ltb from 3 && ltb to 3) && (not (eqb from to) && (is_serving (at v.nodes from) && (is_serving (at v.nodes to) && is_begun (at v.nodes to).transfer)))
 carries_to (Message.Done to enable version members) v = ltb to 3
 carries_to (Message.LastIo to chosen) v = ltb to 3
 carries_to (Message.Enable to version members) v = ltb to 3
@@ -350,11 +328,11 @@ carries_to (Message.Leave to mode) v = ltb to 3
 carries_to (Message.Info to op member) v = ltb to 3
 
 abbrev pub keeps : View → Item → Bool
-keeps v (Item.own j e) = (ltb j 3 && taken (histories.event_of e) (at v.nodes j)) && ((not (at v.joined j) || keeps_store e (at v.nodes j)) && (not (is_join e && at v.comes j) || (not (is_creation e) && eqb (at v.nodes j).version 0)))
+keeps v (Item.own j e) = (ltb j 3 && taken e (at v.nodes j)) && (not (is_message (origin_of e)) && (not (at v.joined j) || keeps_store (origin_of e) (at v.nodes j)))
 keeps v (Item.asks a got) = eqb v.pool.chunks 12 && (is_accepted (turn_by v a v.pool).answer && ask_keeps a v (turn_by v a v.pool).answer got)
 keeps v (Item.hand j) =
     (ltb j 3 && is_created (state_of v.pool j)) && (is_accepted (enable v.pool j).answer && taken (enabling v) (at v.nodes j))
-keeps v (Item.anew j) = (ltb j 3 && eqb v.pool.chunks 12) && not (at v.joined j)
+keeps v (Item.anew j) = (ltb j 3 && eqb v.pool.chunks 12) && (not (has v.pool.roster.members j) && is_free (state_of v.pool j))
 keeps v Item.comes = not (is_idle v.pool.job) && (is_under_way v.fate && carries_to v.awaited v)
 
 -- ---- one after the other

@@ -5,7 +5,7 @@ use mathlib.Core.List.{List, [], ◌∷◌, ◌++◌}
 use Prim.Native.Nat.{ℕ, zero, suc, ◌<◌}
 use native.Mathlib.Omega.{arith}
 use Rattle.laws_words.specs.Words.{bit}
-use Rattle.laws_words.specs.Tests.{clash}
+use Rattle.laws_words.specs.Tests.{clash, and_both}
 use Rattle.rules_base.specs.Sets.{has}
 use Rattle.rules_base.specs.Sets as sets
 use Rattle.rules_pool.specs.declared.Mode.{Mode}
@@ -42,32 +42,35 @@ use Rattle.rules_node.specs.Info as info
 use Rattle.rules_node.specs.Fill as fill
 use Rattle.rules_node.specs.Serve as serve
 use Rattle.rules_node.specs.Hand as hand
-use Rattle.rules_world.specs.Whole.{Fate, World, Own}
+use Rattle.rules_node.specs.Events as storage
+use Rattle.theorem_honest.proofs.Stations as stations
+use Rattle.theorem_instances.proofs.Honest.{bytes, sound-bytes}
+use Rattle.rules_world.specs.Whole.{Fate, World}
 use Rattle.rules_world.specs.History.{Starts, start}
 use Rattle.theorem_forgotten_instance.specs.Instance.{Instance}
-use Rattle.theorem_forgotten_instance.proofs.Follow.{at, each, fresh_station, View, Ask, Item, through, keeps_all}
-use Rattle.theorem_forgotten_instance.proofs.Sound.{at_each, fresh-lived, At, moment, all-follow, owing, owed, began}
+use Rattle.theorem_forgotten_instance.proofs.Follow.{at, each, View, Ask, Item, through, keeps_all}
+use Rattle.theorem_forgotten_instance.proofs.Sound.{at_each, At, moment, all-follow, owing, owed, began}
 
 -- ---- from fresh
 
-abbrev pub first : View
+abbrev first : View
 first = record {
   pool = fresh_pool false 12;
   nodes = each (λ j. change.fresh j 12);
   awaited = Message.Nothing;
-  fate = Fate.under_way 0;
+  fate = Fate.under_way;
   joined = each (λ j. false);
-  comes = each (λ j. false);
   waits = each (λ j. false);
   acked = false;
   owed = each (λ j. false);
 }
 
-abbrev pub fresh : World
-fresh = record { pool = fresh_pool false 12; nodes = λ j. fresh_station j 12; awaited = Message.Nothing; fate = Fate.under_way 0 }
+abbrev fresh : World
+fresh = record { pool = fresh_pool false 12; nodes = λ j. record { node = change.fresh j 12; map = bytes; staging = bytes }; awaited = Message.Nothing; fate = Fate.under_way }
 
-pub starts : Starts fresh
-starts = record { chunks = 12; some = omega arith; most = omega arith; pool = refl; nodes = λ j. fresh-lived j 12 refl }
+starts : Starts fresh
+unfolding change.fresh
+starts = record { chunks = 12; some = omega arith; most = omega arith; pool = refl; node = λ j. refl; maps = λ j. and_both sound-bytes sound-bytes }
 
 -- nothing is owed
 nothing : (m : ℕ) → m < 3 → at first.owed m ≡ true → ⊥
@@ -75,14 +78,13 @@ nothing zero b z = clash z refl
 nothing (suc zero) b z = clash z refl
 nothing (suc (suc k)) b z = clash z refl
 
-pub begun : At first fresh (start fresh starts)
+begun : At first fresh (start fresh starts)
 begun = record {
   pool = refl;
   nodes = λ j b. sym (at_each (λ i. change.fresh i 12) j b);
   awaited = refl;
   fate = refl;
   joins = λ j b. sym (at_each (λ i. false) j b);
-  coming = λ j b. sym (at_each (λ i. false) j b);
   waiting = λ j b. sym (at_each (λ i. false) j b);
   acks = λ z. clash z refl;
   owes = λ m b z. absurd (nothing m b z);
@@ -96,23 +98,9 @@ abbrev rounds : ℕ → List Item
 rounds zero = []
 rounds (suc n) = Item.comes ∷ (Item.asks Ask.answers 7 ∷ rounds n)
 
--- a MAP_SEND comes in eight parts
-abbrev parts : ℕ → List Item
-parts zero = Item.asks Ask.answers 7 ∷ []
-parts (suc n) = Item.comes ∷ parts n
-
--- so many receivers: MAP_READY, MAP_SEND, MAP_DONE
-abbrev served : ℕ → List Item
-served zero = []
-served (suc n) = rounds 1 ++ (parts 8 ++ (rounds 1 ++ served n))
-
--- case 3 with three members: versions, a spread, last IOs, a gather, the source enabled, a spread
-abbrev third : List Item
-third = rounds 3 ++ (served 2 ++ (rounds 3 ++ (served 2 ++ (rounds 1 ++ served 2))))
-
 -- a node is registered and joins by create, and the client takes the join
 abbrev created : ℕ → ℕ → List Item
-created id set = Item.own id Own.register_create ∷ (Item.own id (Own.join_create set) ∷ (Item.asks (Ask.joins id) 7 ∷ []))
+created id set = Item.own id storage.Event.register_create ∷ (Item.own id (storage.Event.join_create set) ∷ (Item.asks (Ask.joins id) 7 ∷ []))
 
 -- Three members, enabled by hand. A write reaches 0 and 1, and 2 fails.
 abbrev write : List Item
@@ -134,15 +122,15 @@ assembly =
     ∷ (Item.asks (Ask.downs 1) 7
     ∷ (Item.asks (Ask.downs 2) 7
     ∷ (Item.asks (Ask.removes 2 Mode.Disassemble) 7
-    ∷ (Item.own 2 Own.assemble ∷ (Item.asks (Ask.assembles 2 7) 7 ∷ (Item.asks (Ask.checks 0) 7 ∷ (Item.asks (Ask.checks 1) 7 ∷ [])))))))
+    ∷ (Item.own 2 storage.Event.assemble ∷ (Item.asks (Ask.assembles 2 7) 7 ∷ (Item.asks (Ask.checks 0) 7 ∷ (Item.asks (Ask.checks 1) 7 ∷ [])))))))
 
 -- 2 is deleted: LEAVE_POOL, and POOL_INFO to both peers.
 abbrev deletion : List Item
 deletion = Item.asks (Ask.removes 2 Mode.Delete) 7 ∷ rounds 3
 
--- Extend picks the id; then another node is plugged in there, registered for adding and joins; the run goes on, and between two parts of its map the node has a fault.
+-- Another node comes to the id, and extend adds it.
 abbrev extension : List Item
-extension = Item.asks Ask.extends 7 ∷ (Item.anew 2 ∷ (Item.own 2 (Own.register_add 7 0) ∷ (Item.own 2 Own.assemble ∷ (rounds 1 ++ (Item.comes ∷ (Item.own 2 Own.fault ∷ (parts 7 ++ rounds 1)))))))
+extension = Item.anew 2 ∷ (Item.own 2 (storage.Event.register_add 7 0) ∷ (Item.own 2 storage.Event.assemble ∷ (Item.asks Ask.extends 7 ∷ rounds 3)))
 
 -- ---- what it comes to
 abbrev v1 : View
@@ -152,19 +140,19 @@ abbrev v2 : View
 v2 = through check v1
 
 abbrev v3 : View
-v3 = through (served 1) v2
+v3 = through (rounds 3) v2
 
 abbrev v4 : View
 v4 = through outage v3
 
 abbrev v5 : View
-v5 = through (rounds 1 ++ served 2) v4
+v5 = through (rounds 7) v4
 
 abbrev v6 : View
 v6 = through assembly v5
 
 abbrev v7 : View
-v7 = through third v6
+v7 = through (rounds 25) v6
 
 abbrev v8 : View
 v8 = through deletion v7
@@ -185,11 +173,11 @@ run-3 = record { phase = Phase.Versions 0; source = 0; left = 7; taken = 0 }
 record Computed : Type 0 where
   keep-1 : keeps_all write first ≡ true
   keep-2 : keeps_all check v1 ≡ true
-  keep-3 : keeps_all (served 1) v2 ≡ true
+  keep-3 : keeps_all (rounds 3) v2 ≡ true
   keep-4 : keeps_all outage v3 ≡ true
-  keep-5 : keeps_all (rounds 1 ++ served 2) v4 ≡ true
+  keep-5 : keeps_all (rounds 7) v4 ≡ true
   keep-6 : keeps_all assembly v5 ≡ true
-  keep-7 : keeps_all third v6 ≡ true
+  keep-7 : keeps_all (rounds 25) v6 ≡ true
   keep-8 : keeps_all deletion v7 ≡ true
   keep-9 : keeps_all extension v8 ≡ true
   owes-1 : owing v1 2 3 ≡ true
@@ -203,7 +191,7 @@ record Computed : Type 0 where
   gone : has v8.pool.roster.members 2 ≡ false
 
 computed : Computed
-unfolding bit has sets.with sets.without sets.size sets.lowest roster.ids_of changes.entered changes.failed changes.left changes.removing changes.went run.awaited_in run.failed_answer run.good run.receiver still.possible cases.begun cases.case_of recovery.posted recovery.tried rules.all_asked rules.one_asked rules.roster_ok rules.run_ok rules.valid_pool joins.assemble_done joins.assemble_refusal joins.assembled joins.create_done joins.create_refusal joins.created joins.join_assemble joins.join_create joins.join_told joins.set_bars extending.extend extending.extend_done extending.extend_refusal extending.extended extending.picked enables.enable enables.enable_done enables.enable_refusal enables.enables links.back_refusal links.check_done links.check_refusal links.checks links.down_done links.down_refusal links.dropped links.drops links.link_down links.store_check writes.marks writes.miss_step writes.missed writes.reach_bars writes.write_done writes.write_ended writes.write_refusal remove.remove remove.remove_refusal removal.departed removal.due removal.freed_from removal.onward removal.started answers.answer answers.answer_refusal answers.moved_on change.fresh change.went_to change.equipped change.taken_over change.member_entered change.member_dropped change.stored_version change.kept_chunk change.forgotten change.transferred change.ended_transfer change.instructed turns.settled noderules.kept_ok noderules.valid register.register_create_refusal register.registered_create register.register_create register.register_add_refusal register.registered_add register.register_add register.unregister_refusal register.wiped register.unregistered register.unregister join.join_create_refusal join.joined_create join.join_create join.assemble_refusal join.assemble join.leave_refusal join.left join.leave nodeenable.enable1_refusal nodeenable.enabled nodeenable.enable1 nodeenable.stop_refusal nodeenable.fault nodewrite.write_refusal nodewrite.written nodewrite.write info.pool_info_refusal info.informed info.pool_info fill.fill_refusal fill.filled fill.fill serve.serve_refusal serve.readied serve.map_ready serve.map_get_ver serve.last_io_refusal serve.last_io_to_map hand.hand_refusal hand.map_done_refusal hand.committed hand.map_done hand.map_disable hand.take_part_refusal hand.take_part hand.part_taken serve.give_part_refusal serve.give_part
+unfolding bit has sets.with sets.without sets.size sets.lowest roster.ids_of changes.entered changes.failed changes.left changes.removing changes.went run.awaited_in run.failed_answer run.good run.receiver still.possible cases.begun cases.case_of recovery.posted recovery.tried rules.all_asked rules.one_asked rules.roster_ok rules.run_ok rules.valid_pool joins.assemble_done joins.assemble_refusal joins.assembled joins.create_done joins.create_refusal joins.created joins.join_assemble joins.join_create joins.join_told joins.set_bars extending.extend extending.extend_done extending.extend_refusal extending.extended extending.picked enables.enable enables.enable_done enables.enable_refusal enables.enables links.back_refusal links.check_done links.check_refusal links.checks links.down_done links.down_refusal links.dropped links.drops links.link_down links.store_check writes.marks writes.miss_step writes.missed writes.reach_bars writes.write_done writes.write_ended writes.write_refusal remove.remove remove.remove_refusal removal.departed removal.due removal.freed_from removal.onward removal.started answers.answer answers.answer_refusal answers.moved_on change.fresh change.went_to change.equipped change.taken_over change.member_entered change.member_dropped change.stored_version change.kept_chunk change.forgotten change.transferred change.ended_transfer change.instructed turns.settled noderules.kept_ok noderules.valid register.register_create_refusal register.registered_create register.register_create register.register_add_refusal register.registered_add register.register_add register.unregister_refusal register.wiped register.unregistered register.unregister join.join_create_refusal join.joined_create join.join_create join.assemble_refusal join.assemble join.leave_refusal join.left join.leave nodeenable.enable1_refusal nodeenable.enabled nodeenable.enable1 nodewrite.write_refusal nodewrite.written nodewrite.write info.pool_info_refusal info.informed info.pool_info fill.fill_refusal fill.filled fill.fill serve.serve_refusal serve.readied serve.map_ready serve.map_get_ver serve.last_io_refusal serve.last_io_to_map hand.hand_refusal hand.map_done_refusal hand.committed hand.map_done hand.map_disable stations.map_taken
 computed = record {
   keep-1 = refl;
   keep-2 = refl;
@@ -231,11 +219,11 @@ instance =
     let c = computed in
     let s1 = (all-follow write first (record { world = fresh; history = start fresh starts; seen = begun }) c.keep-1).to in
     let n2 = all-follow check v1 s1 c.keep-2 in
-    let n3 = all-follow (served 1) v2 n2.to c.keep-3 in
+    let n3 = all-follow (rounds 3) v2 n2.to c.keep-3 in
     let n4 = all-follow outage v3 n3.to c.keep-4 in
-    let n5 = all-follow (rounds 1 ++ served 2) v4 n4.to c.keep-5 in
+    let n5 = all-follow (rounds 7) v4 n4.to c.keep-5 in
     let n6 = all-follow assembly v5 n5.to c.keep-6 in
-    let n7 = all-follow third v6 n6.to c.keep-7 in
+    let n7 = all-follow (rounds 25) v6 n6.to c.keep-7 in
     let n8 = all-follow deletion v7 n7.to c.keep-8 in
     let n9 = all-follow extension v8 n8.to c.keep-9 in
     record {

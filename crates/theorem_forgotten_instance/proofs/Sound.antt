@@ -2,12 +2,12 @@
 use mathlib.Core.Path.{◌≡◌, refl, sym, ap, ◌∙◌, subst}
 use mathlib.Core.Bool.{Bool, true, false, ◌&&◌, ◌||◌, not}
 use mathlib.Core.List.{List, [], ◌∷◌}
-use mathlib.Core.Logic.{◌⊎◌, inl, inr, ◌≢◌}
+use mathlib.Core.Logic.{inl, inr, ◌≢◌}
 use Prim.Native.Nat.{ℕ, zero, suc, ◌+◌, ◌-◌, ◌<◌}
 use native.Mathlib.Decide.{dec_lt}
 use native.Mathlib.Omega.{arith}
-use lib.Dec.{eqb, ltb, leb}
-use borrow.Author.Tests.{ltb-true, leb-true, eqb-true, eqb-false}
+use lib.Dec.{eqb, ltb}
+use borrow.Author.Tests.{ltb-true, eqb-true, eqb-false}
 use Rattle.laws_words.specs.Words.{pick}
 use Rattle.laws_words.specs.Tests.{clash, by_cases, and_left, and_right, and_both}
 use Rattle.rules_base.specs.Sets.{has}
@@ -22,7 +22,7 @@ use Rattle.rules_pool.specs.declared.Run.{Run}
 use Rattle.rules_pool.specs.declared.Job.{Job}
 use Rattle.rules_pool.specs.declared.Pool.{Pool}
 use Rattle.rules_pool.specs.declared.Turn.{Turn}
-use Rattle.rules_pool.specs.Session.{is_nothing, is_normal, is_created, is_removing, is_deleting, is_delete}
+use Rattle.rules_pool.specs.Session.{is_nothing, is_free, is_normal, is_created, is_removing, is_deleting, is_delete}
 use Rattle.rules_pool.specs.declared.Kind.{Kind}
 use Rattle.rules_pool.specs.Sessions.{ids_of}
 use Rattle.rules_pool.specs.Jobs.{is_idle, is_running}
@@ -38,33 +38,29 @@ use Rattle.rules_pool.specs.Breaking as breaking
 use Rattle.rules_client.specs.Client.{extend_turn, remove_turn, write_turn, answer_turn}
 use Rattle.rules_client.specs.Events.{Event, turn_of}
 use Rattle.rules_node.specs.declared.Node.{Node}
-use Rattle.rules_node.specs.States.{is_joined}
+use Rattle.rules_node.specs.declared.Transfer.{Transfer}
+use Rattle.rules_node.specs.States.{is_serving}
 use Rattle.rules_node.specs.Change.{fresh}
-use Rattle.rules_node.specs.declared.Answer as says
-use Rattle.rules_node.specs.declared.Turn as nodeturn
-use Rattle.rules_node.specs.Hand.{take_part}
-use Rattle.rules_base.specs.Limits.{map_bytes}
-use Rattle.rules_base.specs.Parts.{part_of}
-use Rattle.rules_base.proofs.Sound.{Sound, sound-fact}
-use Rattle.rules_base.proofs.Joined.{length-part_of, clean-part}
-use Rattle.model_pool.proofs.Arrives.{all-came}
 use Rattle.rules_node.specs.Events as storage
 use Rattle.rules_node.specs.Turns as verdict
-use Rattle.rules_world.specs.Station.{Station, does, Lived}
-use Rattle.rules_world.specs.Together.{upd, Delivered, reply_of, by_one, if_good, send, due_to, after_all, told_in}
-use Rattle.theorem_instances.proofs.Honest.{bytes, sound-bytes}
+use Rattle.rules_node.specs.Cuts.{Cuts}
+use Rattle.rules_world.specs.Station.{Station, does}
+use Rattle.rules_world.specs.Together.{upd, Delivered, reply_of, by_one, deliver}
+use Rattle.theorem_instances.proofs.Honest.{bytes, cuts, sound-bytes, whole-cuts}
+use Rattle.theorem_honest.proofs.Stations.{Fine, fine, map_taken, took_in}
+use Rattle.theorem_honest.proofs.Sent.{sent-law}
 use Rattle.model_pool.specs.Holds.{Sane}
 use Rattle.model_pool.proofs.Sane.{sane-keeps}
 use Rattle.model_pool.proofs.Did.{lent}
-use Rattle.rules_world.specs.Whole.{Fate, is_under_way, bytes_in, World, state_in, Own, Happening, accepts, acknowledges, takes, takes_all, acted, enabling, delivered, is_all, fate_of, after}
+use Rattle.rules_world.specs.Whole.{Fate, World, state_in, Happening, accepts, acknowledges, takes, due_to, after_all, takes_all, told_in, acted, enabling, delivered, after}
 use Rattle.rules_world.specs.Whole as histories
-use Rattle.rules_world.specs.History.{History, then, is_join, is_creation, keeps_store, takes_in, is_to_come, writes, joined, is_outside, to_come, waits, acked}
+use Rattle.rules_world.specs.History.{History, then, origin_of, is_join, is_creation, is_message, keeps_store, takes_in, writes, joined, waits, acked}
 use Rattle.theorem_forgotten.specs.Premises.{Heard, Keeps, Kept}
 use Rattle.theorem_forgotten.specs.Forgotten.{In, Missed}
 use Rattle.theorem_forgotten.proofs.Ground.{or-all, and-true}
 use Rattle.theorem_forgotten.proofs.Theorem.{tells, never-forgotten}
 use Rattle.theorem_forgotten_instance.specs.Instance.{Moment, Later, Then, Owing, Began}
-use Rattle.theorem_forgotten_instance.proofs.Follow.{Three, at, each, all, none_to, few, View, state_of, Ask, Item, reply_in, event_of, fresh_station, happening, turn_by, node_after, taken, all_after, all_taken, with, taken_in, outside, is_write, in_pool, misses, asked, by_node, by_hand, heard, one_heard, takes_part, arrived, replaced, step, hears, is_came, ask_keeps, carries_to, keeps, through, keeps_all}
+use Rattle.theorem_forgotten_instance.proofs.Follow.{Three, at, each, all, none_to, few, View, state_of, Ask, Item, reply_in, event_of, happening, turn_by, node_after, taken, all_after, all_taken, with, taken_in, is_write, in_pool, misses, asked, by_node, by_hand, heard, one_heard, arrived, replaced, step, hears, is_came, ask_keeps, is_under_way, is_begun, carries_to, keeps, through, keeps_all}
 use Rattle.theorem_forgotten_instance.proofs.Follow as follow
 
 -- ---- ids 0, 1 and 2
@@ -113,7 +109,7 @@ node_of false x y = refl
 -- ---- a node, both maps of which are sound
 
 module _ (c j : ℕ) where
-  pub lent-zero : (s : Station) → Sane c j s → lent s ≡ 0
+  lent-zero : (s : Station) → Sane c j s → lent s ≡ 0
   lent-zero s h = rw (h.good.map, h.good.staging, h.good.agrees) refl
 
   node-after : (s : Station) → Sane c j s → (e : storage.Event) → (does s e).station.node ≡ node_after e s.node
@@ -135,35 +131,6 @@ module _ (c j : ℕ) where
       let q : takes_all es (does s e).station ≡ all_taken es (node_after e s.node) = all-taken es (does s e).station (sane-keeps c j e s h) ∙ ap (all_taken es) (node-after s h e) in
       λ i. p i && q i
 
--- ---- a part that is given and taken
-
-send-one : (o l from to : ℕ) (f : ℕ → Station) → takes (f from) (storage.Event.give_part o l) ≡ true → takes (f to) (storage.Event.take_part o (part_of o l (f from).map)) ≡ true
-    → send (l ∷ []) o from to f ≡ record { nodes = upd f to (does (f to) (storage.Event.take_part o (part_of o l (f from).map))).station; reply = Reply.Good Brought.Nothing }
-unfolding send
-send-one o l from to f x y = at (does (f from) (storage.Event.give_part o l)).answer (does (f to) (storage.Event.take_part o (part_of o l (f from).map))).answer x y
-  where
-    next : Delivered
-    next = record { nodes = upd f to (does (f to) (storage.Event.take_part o (part_of o l (f from).map))).station; reply = Reply.Good Brought.Nothing }
-
-    at : (p q : says.Answer) → verdict.is_accepted p ≡ true → verdict.is_accepted q ≡ true → if_good (reply_of p) (if_good (reply_of q) next (by_one f to (does (f to) (storage.Event.take_part o (part_of o l (f from).map))))) (record { nodes = f; reply = Reply.Failed }) ≡ next
-    at (says.Answer.Refused n) q x y = clash x refl
-    at says.Answer.Done (says.Answer.Refused n) x y = clash y refl
-    at says.Answer.Done says.Answer.Done x y = refl
-    at says.Answer.Done (says.Answer.Version v) x y = refl
-    at (says.Answer.Version u) (says.Answer.Refused n) x y = clash y refl
-    at (says.Answer.Version u) says.Answer.Done x y = refl
-    at (says.Answer.Version u) (says.Answer.Version v) x y = refl
-
--- ---- a fresh node
-
-pub fresh-lived : (j chunks : ℕ) → chunks ≡ 12 → Lived j chunks (fresh_station j chunks)
-unfolding fresh
-fresh-lived j chunks e = subst (λ (n : ℕ). Lived j n (fresh_station j n)) (sym e) (Lived.new (fresh_station j 12) refl (and_both sound-bytes sound-bytes))
-
-fresh-out : (j chunks : ℕ) → is_joined (fresh_station j chunks).node.state ≡ false
-unfolding fresh
-fresh-out j chunks = refl
-
 -- ---- what is known of a world and its history
 
 pub record At (v : View) (w : World) (h : History w) : Type 0 where
@@ -172,7 +139,6 @@ pub record At (v : View) (w : World) (h : History w) : Type 0 where
   pub awaited : w.awaited ≡ v.awaited
   pub fate : w.fate ≡ v.fate
   pub joins : (j : ℕ) → j < 3 → joined h j ≡ at v.joined j
-  pub coming : (j : ℕ) → j < 3 → to_come h j ≡ at v.comes j
   pub waiting : (j : ℕ) → j < 3 → waits h j ≡ at v.waits j
   pub acks : v.acked ≡ true → acked h 3 ≡ true
   pub owes : (m : ℕ) → m < 3 → at v.owed m ≡ true → Missed m 3 h
@@ -189,7 +155,7 @@ AskedReply w Reply.Failed xs number = Unit {0}
 AskedReply w (Reply.Good b) xs number = accepts w (Event.answer xs number (Reply.Good b)) ≡ true → is_running w.pool.job ≡ true → w.fate ≡ Fate.came (Reply.Good b)
 
 record Extends (w : World) (xs : List ℕ) (got : ℕ) : Type 0 where
-  new : is_joined (w.nodes (picked w.pool.roster)).node.state ≡ true → (w.nodes (picked w.pool.roster)).node.version ≡ 0
+  new : ((w.nodes (picked w.pool.roster)).node.version ≡ 0) × ((w.nodes (picked w.pool.roster)).node.create ≡ false)
   fills : (j : ℕ) → is_normal (state_in w j) ≡ true → Heard w (Event.extend xs) got j
 
 abbrev AskedBy : (w : World) → History w → Event → ℕ → Type 0
@@ -208,12 +174,12 @@ AskedBy w h (Event.answer xs number reply) got = AskedReply w reply xs number
 AskedBy w h (Event.extend xs) got = accepts w (Event.extend xs) ≡ true → Extends w xs got
 
 abbrev Asked : (w : World) → History w → Happening → Type 0
-Asked w h (Happening.node j e) = (joined h j ≡ true → takes (w.nodes j) (histories.event_of e) ≡ true → keeps_store e (w.nodes j).node ≡ true)
-    × (is_join e ≡ true → takes (w.nodes j) (histories.event_of e) ≡ true → to_come h j ≡ true → is_outside w j ≡ false → (is_creation e ≡ false) × ((w.nodes j).node.version ≡ 0))
+Asked w h (Happening.node j e) = (joined h j ≡ true → takes (w.nodes j) e ≡ true → keeps_store (origin_of e) (w.nodes j).node ≡ true) × (is_message (origin_of e) ≡ false)
 Asked w h (Happening.client e got) = AskedBy w h e got
 Asked w h (Happening.hand_enable j) = (is_created (state_in w j) ≡ true) × (accepts w (Event.enable j) ≡ true) × (takes (w.nodes j) (enabling w) ≡ true)
-Asked w h (Happening.arrives l) = (is_idle w.pool.job ≡ false) × (is_under_way w.fate ≡ true)
-Asked w h (Happening.another j s) = Lived j w.pool.chunks s × ((is_outside w j ≡ true) ⊎ ((joined h j ≡ false) × (is_joined s.node.state ≡ false)))
+Asked w h (Happening.arrives lengths) = (is_idle w.pool.job ≡ false) × (w.fate ≡ Fate.under_way) × Cuts lengths
+Asked w h (Happening.breaks_off lengths) = (is_idle w.pool.job ≡ false) × (w.fate ≡ Fate.under_way)
+Asked w h (Happening.another j xs ys) = (has w.pool.roster.members j ≡ false) × (is_free (state_in w j) ≡ true) × (sound w.pool.chunks xs ≡ true) × (sound w.pool.chunks ys ≡ true)
 
 asked-keeps : (w : World) (h : History w) (x : Happening) → Asked w h x → Keeps h x
 asked-keeps w h x k = record {
@@ -222,15 +188,16 @@ asked-keeps w h x k = record {
   brings = λ j set version got q z. (subst (Asked w h) q k z).1;
   marks = λ xs chunk reached got q z. subst (Asked w h) q k z;
   stores = λ j e q. (subst (Asked w h) q k).0;
-  leg = λ j e q. (subst (Asked w h) q k).1;
   by-hand = λ j q. subst (Asked w h) q k;
   not-else = λ j got q z. subst (Asked w h) q k z;
-  once = λ l q. subst (Asked w h) q k;
+  own = λ j e q. (subst (Asked w h) q k).1;
+  once = λ lengths q. subst (Asked w h) q k;
+  broken = λ lengths q. subst (Asked w h) q k;
   deletes = λ xs j got q z r. subst (Asked w h) q k z r;
   answers = λ xs number got b q z r. subst (Asked w h) q k z r;
   new = λ xs got q z. (subst (Asked w h) q k z).new;
   fills = λ xs got q z. (subst (Asked w h) q k z).fills;
-  free = λ j s q. subst (Asked w h) q k;
+  free = λ j xs ys q. subst (Asked w h) q k;
 }
 
 -- ---- what is owed stays owed
@@ -254,8 +221,9 @@ abbrev is_sync : Happening → Bool
 is_sync (Happening.node j e) = false
 is_sync (Happening.client e got) = syncs e
 is_sync (Happening.hand_enable j) = false
-is_sync (Happening.arrives l) = false
-is_sync (Happening.another j s) = false
+is_sync (Happening.arrives lengths) = false
+is_sync (Happening.breaks_off lengths) = false
+is_sync (Happening.another j xs ys) = false
 
 in-pool : (w : World) (p : Pool) (m : ℕ) → w.pool ≡ p → in_pool p m ≡ true → In w m
 in-pool w p m q e = record {
@@ -290,58 +258,55 @@ module _ (v : View) (w : World) (h : History w) (a : At v w h) where
       stays_owed w h x m n (a.owes m b (and_left (at v.owed m) _ y)) (in-pool (after w x) p m q (and_right (at v.owed m) _ y))
 
   -- ---- a node's own event
-  own : (k : ℕ) (e : Own) → keeps v (Item.own k e) ≡ true → At (by_node v k e) (after w (Happening.node k e)) (then w (Happening.node k e) h)
+  own : (k : ℕ) (e : storage.Event) → keeps v (Item.own k e) ≡ true → At (by_node v k e) (after w (Happening.node k e)) (then w (Happening.node k e) h)
   unfolding after
   own k e z =
-      let f = and_left (ltb k 3 && taken (histories.event_of e) (at v.nodes k)) _ z in
-      let g = and_right (ltb k 3 && taken (histories.event_of e) (at v.nodes k)) _ z in
+      let f = and_left (ltb k 3 && taken e (at v.nodes k)) _ z in
+      let g = and_right (ltb k 3 && taken e (at v.nodes k)) _ z in
       let b = ltb-true k 3 (and_left (ltb k 3) _ f) in
-      let t : takes (w.nodes k) (histories.event_of e) ≡ true = took k b (histories.event_of e) ∙ and_right (ltb k 3) _ f in
+      let t : takes (w.nodes k) e ≡ true = took k b e ∙ and_right (ltb k 3) _ f in
       record {
         pool = a.pool;
-        nodes = put k (does (w.nodes k) (histories.event_of e)).station (node_after (histories.event_of e) (at v.nodes k)) (went k b (histories.event_of e));
+        nodes = put k (does (w.nodes k) e).station (node_after e (at v.nodes k)) (went k b e);
         awaited = a.awaited;
         fate = a.fate;
-        joins = λ j c. (λ i. a.joins j c i || (eqb j k && (is_join e && t i))) ∙ (ap (λ (y : Bool). at v.joined j || (eqb j k && y)) (and-true (is_join e)) ∙ sym (at_each (λ i. at v.joined i || (eqb i k && is_join e)) j c));
-        coming = λ j c. (λ i. a.coming j c i && not (eqb j k && (is_join e && t i))) ∙ (ap (λ (y : Bool). at v.comes j && not (eqb j k && y)) (and-true (is_join e)) ∙ sym (at_each (λ i. at v.comes i && not (eqb i k && is_join e)) j c));
-        waiting = λ j c. (λ i. a.waiting j c i || (eqb j k && (is_creation e && t i))) ∙ (ap (λ (y : Bool). at v.waits j || (eqb j k && y)) (and-true (is_creation e)) ∙ sym (at_each (λ i. at v.waits i || (eqb i k && is_creation e)) j c));
+        joins = λ j c. (λ i. a.joins j c i || (eqb j k && (is_join (origin_of e) && t i))) ∙ (ap (λ (y : Bool). at v.joined j || (eqb j k && y)) (and-true (is_join (origin_of e))) ∙ sym (at_each (λ i. at v.joined i || (eqb i k && is_join (origin_of e))) j c));
+        waiting = λ j c. (λ i. a.waiting j c i || (eqb j k && (is_creation (origin_of e) && t i))) ∙ (ap (λ (y : Bool). at v.waits j || (eqb j k && y)) (and-true (is_creation (origin_of e))) ∙ sym (at_each (λ i. at v.waits i || (eqb i k && is_creation (origin_of e))) j c));
         acks = a.acks;
         owes = owed-still (Happening.node k e) v.pool refl a.pool;
         kept = (
           a.kept,
           asked-keeps w h (Happening.node k e) (
-            (λ q r. ap (keeps_store e) (a.nodes k b) ∙ implied (at v.joined k) _ (and_left (not (at v.joined k) || keeps_store e (at v.nodes k)) _ g) (sym (a.joins k b) ∙ q)),
-            (λ q r y u.
-                let l = implied (is_join e && at v.comes k) _ (and_right (not (at v.joined k) || keeps_store e (at v.nodes k)) _ g) (and_both q (sym (a.coming k b) ∙ y)) in (
-                  false_of (is_creation e) (and_left (not (is_creation e)) _ l),
-                  ap (λ (n : Node). n.version) (a.nodes k b) ∙ eqb-true (at v.nodes k).version 0 (and_right (not (is_creation e)) _ l),
-                )),
+            (λ q r. ap (keeps_store (origin_of e)) (a.nodes k b) ∙ implied (at v.joined k) _ (and_right (not (is_message (origin_of e))) _ g) (sym (a.joins k b) ∙ q)),
+            false_of (is_message (origin_of e)) (and_left (not (is_message (origin_of e))) _ g),
           ),
         );
       }
 
   -- ---- another node
-  anew : (k : ℕ) → keeps v (Item.anew k) ≡ true → At (replaced v k) (after w (Happening.another k (fresh_station k v.pool.chunks))) (then w (Happening.another k (fresh_station k v.pool.chunks)) h)
+  anew : (k : ℕ) → keeps v (Item.anew k) ≡ true → At (replaced v k) (after w (Happening.another k bytes bytes)) (then w (Happening.another k bytes bytes) h)
   unfolding after
   anew k z =
       let f = and_left (ltb k 3 && eqb v.pool.chunks 12) _ z in
       let g = and_right (ltb k 3 && eqb v.pool.chunks 12) _ z in
-      let c : v.pool.chunks ≡ 12 = eqb-true v.pool.chunks 12 (and_right (ltb k 3) _ f) in
+      let c : w.pool.chunks ≡ 12 = ap (λ (p : Pool). p.chunks) a.pool ∙ eqb-true v.pool.chunks 12 (and_right (ltb k 3) _ f) in
+      let s : sound w.pool.chunks bytes ≡ true = ap (λ (n : ℕ). sound n bytes) c ∙ sound-bytes in
       record {
         pool = a.pool;
-        nodes = put k (fresh_station k v.pool.chunks) (fresh k v.pool.chunks) refl;
+        nodes = put k (record { node = fresh k w.pool.chunks; map = bytes; staging = bytes }) (fresh k v.pool.chunks) (ap (λ (p : Pool). fresh k p.chunks) a.pool);
         awaited = a.awaited;
         fate = a.fate;
         joins = λ j b. ap (λ (y : Bool). y && not (eqb j k)) (a.joins j b) ∙ sym (at_each (λ i. at v.joined i && not (eqb i k)) j b);
-        coming = λ j b. (λ i. a.coming j b i && not (eqb j k && outside (a.pool i) k)) ∙ sym (at_each (λ i. at v.comes i && not (eqb i k && outside v.pool k)) j b);
         waiting = λ j b. ap (λ (y : Bool). y && not (eqb j k)) (a.waiting j b) ∙ sym (at_each (λ i. at v.waits i && not (eqb i k)) j b);
         acks = a.acks;
-        owes = owed-still (Happening.another k (fresh_station k v.pool.chunks)) v.pool refl a.pool;
+        owes = owed-still (Happening.another k bytes bytes) v.pool refl a.pool;
         kept = (
           a.kept,
-          asked-keeps w h (Happening.another k (fresh_station k v.pool.chunks)) (
-            subst (λ (n : ℕ). Lived k n (fresh_station k v.pool.chunks)) (ap (λ (p : Pool). p.chunks) (sym a.pool)) (fresh-lived k v.pool.chunks c),
-            inr ((a.joins k (ltb-true k 3 (and_left (ltb k 3) _ f)) ∙ false_of (at v.joined k) g), fresh-out k v.pool.chunks),
+          asked-keeps w h (Happening.another k bytes bytes) (
+            (ap (λ (p : Pool). has p.roster.members k) a.pool ∙ false_of (has v.pool.roster.members k) (and_left (not (has v.pool.roster.members k)) _ g)),
+            (ap (λ (p : Pool). is_free (state_of p k)) a.pool ∙ and_right (not (has v.pool.roster.members k)) _ g),
+            s,
+            s,
           ),
         );
       }
@@ -366,7 +331,7 @@ module _ (v : View) (w : World) (h : History w) (a : At v w h) where
       pool = refl;
       nodes = λ j c. ap (λ (d : Bool). (pick d (after_all (due_to s.told j) ((histories.by_node k (enabling w) w).nodes j)) ((histories.by_node k (enabling w) w).nodes j)).node) (has-none j) ∙ put k (does (w.nodes k) (enabling w)).station (node_after (follow.enabling v) (at v.nodes k)) enabled-node j c;
       awaited = ap (λ (m : Message). pick (is_nothing s.awaited) m s.awaited) a.awaited;
-      fate = ap (λ (m : Fate). pick (is_nothing s.awaited) m (Fate.under_way 0)) a.fate;
+      fate = ap (λ (m : Fate). pick (is_nothing s.awaited) m Fate.under_way) a.fate;
     }
 
     hand_at : (y : Answer) (p : Pool) → is_accepted y ≡ true → Fits (after w x) (by_hand y p v k) → Keeps h x → At (by_hand y p v k) (after w x) (then w x h)
@@ -377,7 +342,6 @@ module _ (v : View) (w : World) (h : History w) (a : At v w h) where
       awaited = f.awaited;
       fate = f.fate;
       joins = a.joins;
-      coming = a.coming;
       waiting = a.waiting;
       acks = a.acks;
       owes = owed-still x p refl f.pool;
@@ -404,38 +368,48 @@ module _ (v : View) (w : World) (h : History w) (a : At v w h) where
   -- ---- the awaited message comes
   module _ (z : keeps v Item.comes ≡ true) where
     abbrev arriving : Happening
-    arriving = Happening.arrives 1024
+    arriving = Happening.arrives (cuts 0)
 
-    heard-at : (m : Message) → v.awaited ≡ m → (d : Delivered) (ns : Three Node) (f : Fate) → delivered (bytes_in v.fate) 1024 m w.nodes ≡ d → ((j : ℕ) → j < 3 → (d.nodes j).node ≡ at ns j) → fate_of (is_all m (bytes_in v.fate + 1024)) (bytes_in v.fate + 1024) d.reply ≡ f → At (heard v ns f) (after w arriving) (then w arriving h)
+    heard-at : (d : Delivered) (ns : Three Node) (r : Reply) → delivered (cuts 0) w ≡ d → ((j : ℕ) → j < 3 → (d.nodes j).node ≡ at ns j) → d.reply ≡ r → At (heard v ns r) (after w arriving) (then w arriving h)
     unfolding after
-    heard-at m u d ns f q n e =
-        let q' : delivered (bytes_in w.fate) 1024 w.awaited w.nodes ≡ d = (λ i. delivered (bytes_in (a.fate i)) 1024 ((a.awaited ∙ u) i) w.nodes) ∙ q in
-        record {
-          pool = a.pool;
-          nodes = λ j b. ap (λ (y : Delivered). (y.nodes j).node) q' ∙ n j b;
-          awaited = a.awaited;
-          fate = (λ i. fate_of (is_all ((a.awaited ∙ u) i) (bytes_in (a.fate i) + 1024)) (bytes_in (a.fate i) + 1024) (q' i).reply) ∙ e;
-          joins = a.joins;
-          coming = a.coming;
-          waiting = a.waiting;
-          acks = a.acks;
-          owes = owed-still arriving v.pool refl a.pool;
-          kept = (
-            a.kept,
-            asked-keeps w h arriving (
-              (ap (λ (p : Pool). is_idle p.job) a.pool ∙ false_of (is_idle v.pool.job) (and_left (not (is_idle v.pool.job)) _ z)),
-              (ap is_under_way a.fate ∙ and_left (is_under_way v.fate) _ (and_right (not (is_idle v.pool.job)) _ z)),
-            ),
-          );
-        }
+    heard-at d ns r q n e = record {
+      pool = a.pool;
+      nodes = λ j b. ap (λ (y : Delivered). (y.nodes j).node) q ∙ n j b;
+      awaited = a.awaited;
+      fate = ap (λ (y : Delivered). Fate.came y.reply) q ∙ ap Fate.came e;
+      joins = a.joins;
+      waiting = a.waiting;
+      acks = a.acks;
+      owes = owed-still arriving v.pool refl a.pool;
+      kept = (
+        a.kept,
+        asked-keeps w h arriving (
+          (ap (λ (p : Pool). is_idle p.job) a.pool ∙ false_of (is_idle v.pool.job) (and_left (not (is_idle v.pool.job)) _ z)),
+          (a.fate ∙ under v.fate (and_left (is_under_way v.fate) _ (and_right (not (is_idle v.pool.job)) _ z))),
+          whole-cuts 0,
+        ),
+      );
+    }
+      where
+        under : (f : Fate) → is_under_way f ≡ true → f ≡ Fate.under_way
+        under Fate.under_way e = refl
+        under (Fate.came r) e = clash e refl
 
-    one : (to : ℕ) (e : storage.Event) (m : Message) → v.awaited ≡ m → delivered (bytes_in v.fate) 1024 m w.nodes ≡ by_one w.nodes to (does (w.nodes to) e) → is_all m (bytes_in v.fate + 1024) ≡ true → ltb to 3 ≡ true → At (one_heard v to e) (after w arriving) (then w arriving h)
-    one to e m q d l t =
+    one : (to : ℕ) (e : storage.Event) (m : Message) → v.awaited ≡ m → deliver (cuts 0) m w.nodes ≡ by_one w.nodes to (does (w.nodes to) e) → ltb to 3 ≡ true → At (one_heard v to e) (after w arriving) (then w arriving h)
+    one to e m q d t =
         let b = ltb-true to 3 t in
-        heard-at m q (by_one w.nodes to (does (w.nodes to) e)) _ _ d
+        heard-at (by_one w.nodes to (does (w.nodes to) e)) _ _ (ap (λ (x : Message). deliver (cuts 0) x w.nodes) (a.awaited ∙ q) ∙ d)
         (put to (does (w.nodes to) e).station (node_after e (at v.nodes to)) (went to b e))
-        (ap (λ (y : Bool). fate_of y (bytes_in v.fate + 1024) (reply_of (does (w.nodes to) e).answer)) l ∙ (all-came (bytes_in v.fate + 1024) (reply_of (does (w.nodes to) e).answer)
-        ∙ ap (λ (y : says.Answer). Fate.came (reply_of y)) (answer-of w.pool.chunks to (w.nodes to) (sane to) e ∙ ap (λ (n : Node). (storage.turn_of e n 0).answer) (a.nodes to b))))
+        (ap reply_of (answer-of w.pool.chunks to (w.nodes to) (sane to) e ∙ ap (λ (n : Node). (storage.turn_of e n 0).answer) (a.nodes to b)))
+
+    begun-is : (t : Transfer) → is_begun t ≡ true → t ≡ Transfer.InHand 0
+    begun-is Transfer.Nothing e = clash e refl
+    begun-is (Transfer.InHand n) e = ap Transfer.InHand (eqb-true n 0 e)
+
+    fine-at : (j : ℕ) → j < 3 → is_serving (at v.nodes j) ≡ true → Fine w.pool.chunks j (w.nodes j)
+    fine-at j b e =
+        let s = sane j in
+        fine w.pool.chunks j (w.nodes j) (omega arith) (record { itself = s.itself; rules = s.good.rules; same = s.count; sound = and_both s.good.map s.good.staging; serves = ap is_serving (a.nodes j b) ∙ e })
 
     sends : (from to : ℕ) → v.awaited ≡ Message.Send from to → carries_to (Message.Send from to) v ≡ true → At (arrived (Message.Send from to) v) (after w arriving) (then w arriving h)
     sends from to q c =
@@ -443,31 +417,25 @@ module _ (v : View) (w : World) (h : History w) (a : At v w h) where
         let g = and_right (ltb from 3 && ltb to 3) _ c in
         let bf = ltb-true from 3 (and_left (ltb from 3) (ltb to 3) f) in
         let bt = ltb-true to 3 (and_right (ltb from 3) (ltb to 3) f) in
-        let o = bytes_in v.fate in
-        let most = leb-true (o + 1024) map_bytes (and_left (leb (o + 1024) map_bytes) _ g) in
-        let g' = and_right (leb (o + 1024) map_bytes) _ g in
-        let zs = (w.nodes from).map in
-        let e = storage.Event.take_part o (part_of o 1024 zs) in
-        let snd = subst (λ (n : ℕ). Sound n zs) ((sane from).count ∙ sym (sane to).count) (sound-fact (w.nodes from).node.chunks zs (sane from).good.map) in
-        let len = length-part_of o 1024 zs (omega (arith, snd.len)) in
-        let cl = clean-part (w.nodes to).node.chunks o 1024 zs snd (omega arith) in
-        let turn : storage.turn_of e (w.nodes to).node 0 ≡ takes_part v.fate (at v.nodes to) = (λ i. take_part (w.nodes to).node 0 o (len i) (cl i)) ∙ ap (λ (n : Node). take_part n 0 o 1024 true) (a.nodes to bt) in
-        let gave : takes (w.nodes from) (storage.Event.give_part o 1024) ≡ true = took from bf (storage.Event.give_part o 1024) ∙ and_left (taken (storage.Event.give_part o 1024) (at v.nodes from)) _ g' in
-        let got : takes (w.nodes to) e ≡ true = ap verdict.is_accepted (answer-of w.pool.chunks to (w.nodes to) (sane to) e ∙ ap (λ (u : nodeturn.Turn). u.answer) turn) ∙ and_right (taken (storage.Event.give_part o 1024) (at v.nodes from)) _ g' in
-        heard-at (Message.Send from to) q (record { nodes = upd w.nodes to (does (w.nodes to) e).station; reply = Reply.Good Brought.Nothing }) _ _ (send-one o 1024 from to w.nodes gave got)
-        (put to (does (w.nodes to) e).station (takes_part v.fate (at v.nodes to)).node (node-after w.pool.chunks to (w.nodes to) (sane to) e ∙ ap (λ (u : nodeturn.Turn). u.node) turn))
+        let g' = and_right (not (eqb from to)) _ g in
+        let g'' = and_right (is_serving (at v.nodes from)) _ g' in
+        let ne : from ≢ to = eqb-false from to (false_of (eqb from to) (and_left (not (eqb from to)) _ g)) in
+        let tr : (w.nodes to).node.transfer ≡ Transfer.InHand 0 = ap (λ (n : Node). n.transfer) (a.nodes to bt) ∙ begun-is (at v.nodes to).transfer (and_right (is_serving (at v.nodes to)) _ g'') in
+        let d = sent-law w.pool.chunks from to (cuts 0) w.nodes (whole-cuts 0) ne (fine-at from bf (and_left (is_serving (at v.nodes from)) _ g')) (fine-at to bt (and_left (is_serving (at v.nodes to)) _ g'')) tr in
+        heard-at (record { nodes = upd w.nodes to (took_in (w.nodes from).map (w.nodes to)); reply = Reply.Good Brought.Nothing }) _ _ (ap (λ (x : Message). deliver (cuts 0) x w.nodes) (a.awaited ∙ q) ∙ d)
+        (put to (took_in (w.nodes from).map (w.nodes to)) (map_taken (at v.nodes to)) (ap map_taken (a.nodes to bt)))
         refl
 
     came : (m : Message) → v.awaited ≡ m → carries_to m v ≡ true → At (arrived m v) (after w arriving) (then w arriving h)
     came Message.Nothing q c = clash c refl
-    came (Message.GetVersion to) q c = one to storage.Event.map_get_ver (Message.GetVersion to) q refl refl c
-    came (Message.Ready to keep) q c = one to (storage.Event.map_ready keep) (Message.Ready to keep) q refl refl c
+    came (Message.GetVersion to) q c = one to storage.Event.map_get_ver (Message.GetVersion to) q refl c
+    came (Message.Ready to keep) q c = one to (storage.Event.map_ready keep) (Message.Ready to keep) q refl c
     came (Message.Send from to) q c = sends from to q c
-    came (Message.Done to enable version members) q c = one to (storage.Event.map_done enable version members) (Message.Done to enable version members) q refl refl c
-    came (Message.LastIo to chosen) q c = one to (storage.Event.last_io_to_map chosen) (Message.LastIo to chosen) q refl refl c
-    came (Message.Enable to version members) q c = one to (storage.Event.enable1 version members) (Message.Enable to version members) q refl refl c
-    came (Message.Leave to mode) q c = one to (storage.Event.leave (is_delete mode)) (Message.Leave to mode) q refl refl c
-    came (Message.Info to op member) q c = one to (storage.Event.pool_info op member) (Message.Info to op member) q refl refl c
+    came (Message.Done to enable version members) q c = one to (storage.Event.map_done enable version members) (Message.Done to enable version members) q refl c
+    came (Message.LastIo to chosen) q c = one to (storage.Event.last_io_to_map chosen) (Message.LastIo to chosen) q refl c
+    came (Message.Enable to version members) q c = one to (storage.Event.enable1 version members) (Message.Enable to version members) q refl c
+    came (Message.Leave to mode) q c = one to (storage.Event.leave (is_delete mode)) (Message.Leave to mode) q refl c
+    came (Message.Info to op member) q c = one to (storage.Event.pool_info op member) (Message.Info to op member) q refl c
 
     comes : At (step v Item.comes) (after w arriving) (then w arriving h)
     comes = came v.awaited refl (and_right (is_under_way v.fate) _ (and_right (not (is_idle v.pool.job)) _ z))
@@ -494,16 +462,6 @@ module _ (v : View) (w : World) (h : History w) (a : At v w h) where
   takes-in (Ask.writes reached) j = refl
   takes-in Ask.extends j = ap (λ (p : Pool). eqb j (picked p.roster)) a.pool
   takes-in Ask.answers j = refl
-
-  to-come : (k : Ask) (j : ℕ) → j < 3 → is_to_come (event_of v k) (w.nodes j) ≡ follow.is_to_come k (at v.nodes j)
-  to-come (Ask.joins id) j b = refl
-  to-come (Ask.assembles id set) j b = refl
-  to-come (Ask.downs id) j b = refl
-  to-come (Ask.checks id) j b = refl
-  to-come (Ask.removes id mode) j b = refl
-  to-come (Ask.writes reached) j b = refl
-  to-come Ask.extends j b = ap (λ (n : Node). not (is_joined n.state)) (a.nodes j b)
-  to-come Ask.answers j b = refl
 
   is-write : (k : Ask) → writes (event_of v k) 3 ≡ is_write k
   is-write (Ask.joins id) = refl
@@ -551,12 +509,15 @@ module _ (v : View) (w : World) (h : History w) (a : At v w h) where
         hears-it (Event.write bytes 3 reached) t q j b (implied (has reached j) _ (all_three (λ i. not (has reached i) || hears v t.answer got i) (and_right (few reached) _ z) j b) r)
     premise Ask.extends t q z = λ y.
         let x = picked v.pool.roster in
-        let f = and_left (ltb x 3 && (not (is_joined (at v.nodes x).state) || eqb (at v.nodes x).version 0)) _ z in
-        let g = and_right (ltb x 3 && (not (is_joined (at v.nodes x).state) || eqb (at v.nodes x).version 0)) _ z in
+        let f = and_left (ltb x 3 && (eqb (at v.nodes x).version 0 && not (at v.nodes x).create)) _ z in
+        let g = and_right (ltb x 3 && (eqb (at v.nodes x).version 0 && not (at v.nodes x).create)) _ z in
         let b = ltb-true x 3 (and_left (ltb x 3) _ f) in
+        let f' = and_right (ltb x 3) _ f in
         record {
-          new = subst (λ (p : Pool). is_joined (w.nodes (picked p.roster)).node.state ≡ true → (w.nodes (picked p.roster)).node.version ≡ 0) (sym a.pool) (λ u.
-              ap (λ (n : Node). n.version) (a.nodes x b) ∙ eqb-true (at v.nodes x).version 0 (implied (is_joined (at v.nodes x).state) _ (and_right (ltb x 3) _ f) (ap (λ (n : Node). is_joined n.state) (sym (a.nodes x b)) ∙ u)));
+          new = subst (λ (p : Pool). ((w.nodes (picked p.roster)).node.version ≡ 0) × ((w.nodes (picked p.roster)).node.create ≡ false)) (sym a.pool) (
+            (ap (λ (n : Node). n.version) (a.nodes x b) ∙ eqb-true (at v.nodes x).version 0 (and_left (eqb (at v.nodes x).version 0) _ f')),
+            (ap (λ (n : Node). n.create) (a.nodes x b) ∙ false_of (at v.nodes x).create (and_right (eqb (at v.nodes x).version 0) _ f')),
+          );
           fills = λ j n.
               let c = normal-below (and_left (few (ids_of Kind.Normals v.pool.roster)) _ g) j n in
               hears-it (Event.extend bytes) t q j c (implied (is_normal (state_of v.pool j)) _ (all_three (λ i. not (is_normal (state_of v.pool i)) || hears v t.answer got i) (and_right (few (ids_of Kind.Normals v.pool.roster)) _ g) j c) (ap (λ (p : Pool). is_normal (state_of p j)) (sym a.pool) ∙ n));
@@ -564,7 +525,7 @@ module _ (v : View) (w : World) (h : History w) (a : At v w h) where
     premise Ask.answers t q z = go v.fate a.fate z
       where
         go : (f : Fate) → w.fate ≡ f → is_came f ≡ true → AskedReply w (reply_in f) bytes v.pool.number
-        go (Fate.under_way bytes) e c = clash c refl
+        go Fate.under_way e c = clash c refl
         go (Fate.came Reply.Failed) e c = tt
         go (Fate.came (Reply.Good b)) e c = λ y r. e
 
@@ -624,7 +585,7 @@ module _ (v : View) (w : World) (h : History w) (a : At v w h) where
             ∙ ((λ i. pick (has got j) ((all-after w.pool.chunks j (due_to s.told j) (w.nodes j) (sane j) ∙ ap (all_after (due_to s.told j)) (a.nodes j b)) i) (a.nodes j b i))
             ∙ sym (at_each (λ i. pick (has got i) (all_after (due_to s.told i) (at v.nodes i)) (at v.nodes i)) j b));
         awaited = ap (λ (m : Message). pick (is_nothing s.awaited) m s.awaited) a.awaited;
-        fate = ap (λ (m : Fate). pick (is_nothing s.awaited) m (Fate.under_way 0)) a.fate;
+        fate = ap (λ (m : Fate). pick (is_nothing s.awaited) m Fate.under_way) a.fate;
       }
 
       acks-now : (b d : Bool) → (b ≡ true → acked h 3 ≡ true) → (writes e 3 && acknowledges w e) ≡ d → (b || d) ≡ true → (acked h 3 || (writes e 3 && acknowledges w e)) ≡ true
@@ -638,8 +599,7 @@ module _ (v : View) (w : World) (h : History w) (a : At v w h) where
         nodes = f.nodes;
         awaited = f.awaited;
         fate = f.fate;
-        joins = λ j b. (λ i. pick (taken-in j i) (not (to-come k j b i)) (a.joins j b i)) ∙ sym (at_each (λ i. pick (taken_in k v.pool i) (not (follow.is_to_come k (at v.nodes i))) (at v.joined i)) j b);
-        coming = λ j b. (λ i. pick (taken-in j i) (to-come k j b i) (a.coming j b i)) ∙ sym (at_each (λ i. pick (taken_in k v.pool i) (follow.is_to_come k (at v.nodes i)) (at v.comes i)) j b);
+        joins = λ j b. (λ i. a.joins j b i || taken-in j i) ∙ sym (at_each (λ i. at v.joined i || taken_in k v.pool i) j b);
         waiting = λ j b. (λ i. a.waiting j b i && not (taken-in j i)) ∙ sym (at_each (λ i. at v.waits i && not (taken_in k v.pool i)) j b);
         acks = acks-now v.acked (is_write k && breaking.acknowledges (Answer.Done s)) a.acks (λ i. is-write k i && (ap (λ (u : Turn). breaking.acknowledges u.answer) q ∙ ap breaking.acknowledges x) i);
         owes = λ m b z.

@@ -1,4 +1,4 @@
--- C-15 is not said of nothing: one history that keeps the premises, with three members and chunk 3. Member 2 misses a write, comes back by each of the three cases, is deleted, and a leg is added under its id. (R-78)
+-- C-15 is not said of nothing: one history that keeps the premises, with three members and chunk 3. Member 2 misses a write, comes back by each of the three cases, is deleted, and a leg is added under its id.
 use Rattle.std.specs.Prelude.{◌≡◌, true, false, ℕ}
 use Rattle.rules_base.specs.Sets.{has}
 use Rattle.rules_base.specs.Chunk.{dirty}

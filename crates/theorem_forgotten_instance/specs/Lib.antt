@@ -1,3 +1,1 @@
 pub mod Instance
-pub mod Lived
-pub mod Still

@@ -4,7 +4,7 @@ use Rattle.theorem_honest.specs.Demand.{BeginsAfter}
 use Rattle.theorem_honest.proofs.Ends.{tried-number}
 
 pub begins-after : BeginsAfter
-begins-after after outcome told w r array rules began snd =
+begins-after before after outcome told w r array rules began snd =
     record {
       array = array;
       rules = rules;

@@ -49,7 +49,7 @@ pub record Begins (p : Pool) (w : World) : Type 0 where
   pub number : w.sent.number ≡ (tried p).pool.number
   pub map : sound p.chunks w.map ≡ true
 
--- The hypotheses: a run begins, its source and each of its receivers are honest, and every MAP_SEND carries a whole map, in any parts of 1 to 1,024 bytes. (R-77)
+-- The hypotheses: a run begins, its source and each of its receivers are honest, and every MAP_SEND carries a whole map, in any parts of 1 to 1,024 bytes.
 pub record Honest (p : Pool) (source receivers : ℕ) (w : World) : Type 0 where
   pub begins : Begins p w
   pub cuts : (t : ℕ) → Cuts (w.cuts t)
@@ -72,7 +72,7 @@ pub record Copied (p : Pool) (source j : ℕ) (w : World) : Type 0 where
   pub zero : (k : ℕ) → k < 8192 → has p.roster.members (k / 512) ≡ false → get_or (w.nodes j).map k 0 ≡ 0
 
 -- After n exchanges the run is over and has taken n answers; before that it was not over. The pool then has one version more than the run began with. Each receiver is
--- NORMAL on both sides, with the source's map. (R-77)
+-- NORMAL on both sides, with the source's map.
 pub record Recovered (p : Pool) (source receivers n : ℕ) (w : World) : Type 0 where
   pub before : (i : ℕ) → i < n → is_running (exchanges i w).pool.job ≡ true
   pub over : (exchanges n w).pool.job ≡ Job.Idle
@@ -159,7 +159,7 @@ pub record Case3 (p : Pool) (n : ℕ) (w : World) : Type 0 where
 
 -- Case 1: some session is NORMAL. The source is the lowest NORMAL id, the receivers are the R candidates. With honest nodes, after exactly 3R answers the
 -- run is over, each receiver is NORMAL on the client and on its node, and its map is the source's for every member and zero elsewhere. All else at the
--- nodes is as it was. (R-39)
+-- nodes is as it was.
 abbrev pub CaseOne : Type 0
 CaseOne =
     (p : Pool) (w : World) → ids_of Kind.Normals p.roster ≢ 0
@@ -168,7 +168,7 @@ CaseOne =
 
 -- Case 2: no session is NORMAL, and one is marked last authoritative. It is the source, the other R candidates receive. With honest nodes, after exactly
 -- 3R + 1 answers the run is over, source and receivers are NORMAL on both sides, and each receiver's map is the source's for every member and zero elsewhere.
--- The source's own map is as it was, with the rows outside the members zeroed, and all other nodes are as they were. (R-40)
+-- The source's own map is as it was, with the rows outside the members zeroed, and all other nodes are as they were.
 abbrev pub CaseTwo : Type 0
 CaseTwo =
     (p : Pool) (w : World) → ids_of Kind.Normals p.roster ≡ 0 → ids_of Kind.Marked p.roster ≢ 0
@@ -178,7 +178,7 @@ CaseTwo =
 
 -- Case 3: no session is NORMAL and none is marked. With honest nodes of all K members, none with a version above the pool's, the chosen has the highest
 -- version (ties to the lowest id); after exactly 11K - 8 answers the run is over, all members are NORMAL on both sides, each other member's map is the
--- chosen's for every member and zero elsewhere, the chosen's is what it held and what last IOs marked, and all other nodes are as they were. (R-41)
+-- chosen's for every member and zero elsewhere, the chosen's is what it held and what last IOs marked, and all other nodes are as they were.
 abbrev pub CaseThree : Type 0
 CaseThree =
     (p : Pool) (w : World) → ids_of Kind.Normals p.roster ≡ 0 → ids_of Kind.Marked p.roster ≡ 0 → AllHonest p w
@@ -188,7 +188,7 @@ CaseThree =
 abbrev pub OneMap : Type 0
 OneMap = (p : Pool) (chosen : ℕ) (nodes : ℕ → Station) (xs ys : List ℕ) → Recorded p chosen nodes xs → Recorded p chosen nodes ys → xs ≡ ys
 
--- Last IOs never mark the chosen: after case 3 its own row is as it was. (R-69)
+-- Last IOs never mark the chosen: after case 3 its own row is as it was.
 abbrev pub ChosenUnmarked : Type 0
 ChosenUnmarked =
     (p : Pool) (n : ℕ) (w : World) (r : Case3 p n w) (c : ℕ) → c < p.chunks
@@ -198,6 +198,6 @@ ChosenUnmarked =
 -- Assumed are only the state rules and a sound client map.
 abbrev pub BeginsAfter : Type 0
 BeginsAfter =
-    (after : Pool) (outcome : Outcome) (told : Told) (w : World) (r : Run) → length after.roster.sessions ≡ 16 → valid_pool after ≡ true
+    (before after : Pool) (outcome : Outcome) (told : Told) (w : World) (r : Run) → length after.roster.sessions ≡ 16 → valid_pool after ≡ true
     → begun after.roster ≡ Next.On r → sound after.chunks w.map ≡ true
-    → Begins after (heard w w.nodes (tried_after after outcome told))
+    → Begins after (heard w w.nodes (tried_after before after outcome told))

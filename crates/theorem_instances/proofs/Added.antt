@@ -33,10 +33,10 @@ use Rattle.theorem_client.specs.Demand2.{Reached}
 use Rattle.theorem_client.specs.Said.{Accepts}
 use Rattle.theorem_bounds.specs.Demand3.{through}
 use Rattle.theorem_instances.proofs.Bounds.{reached-through}
-use Rattle.rules_world.specs.Together.{World, last_sent, told_at}
+use Rattle.rules_world.specs.Together.{World, last_sent}
 use Rattle.theorem_instances.proofs.Honest.{bytes, station, able, sound-bytes, cuts, whole-cuts}
 use Rattle.theorem_recovery.specs.Demand.{Leaves}
-use Rattle.theorem_recovery.specs.Added.{told_by, HonestBefore, Ends}
+use Rattle.theorem_recovery.specs.Added.{arrived, told_by, HonestBefore, Ends}
 use Rattle.theorem_recovery.proofs.Added.{leg-added}
 
 abbrev two : Pool
@@ -55,7 +55,7 @@ world =
       pool = next (Event.extend bytes) two;
       map = bytes;
       sent = last_sent (turn_of (Event.extend bytes) two).answer silent;
-      nodes = λ j. told_at (told_by two bytes) j (station j);
+      nodes = λ j. arrived (told_by two bytes) station j;
       cuts = cuts;
     }
 

@@ -14,9 +14,9 @@ use Rattle.rules_node.specs.StateRules.{kept_ok, valid}
 use Rattle.rules_node.specs.Events.{Event, tests_at}
 use Rattle.rules_node.specs.Face.{answers, lent_to}
 use Rattle.laws_node.proofs.Theorems.{accepted-by, lent-zero}
-use Rattle.theorem_node_exact.specs.Words.{Accepts}
-use Rattle.theorem_node_exact.proofs.Known.{not-refused}
-use Rattle.theorem_node_exact.proofs.Fields.{map-as-said}
+use Rattle.theorem_node.specs.Said.{Accepts}
+use Rattle.theorem_node.proofs.Demand1.{not-refused}
+use Rattle.theorem_node.proofs.Said.{map-as-said}
 use Rattle.theorem_node.specs.Commuting.{Marking, Write, zeros, node1, here, write7, write9, synced7, fill0, Instance}
 use Rattle.theorem_node.proofs.Either.{stores-the-larger, last-one-wins, second, still}
 use Rattle.theorem_node.proofs.Fills.{fill-stores-the-larger}

@@ -1,6 +1,7 @@
 -- The nodes after what comes to them while no run is in hand: a node's own row stays empty.
 use mathlib.Core.Path.{◌≡◌, refl, sym, subst}
 use mathlib.Core.Bool.{Bool, true, false}
+use mathlib.Core.List.{List}
 use Prim.Native.Nat.{ℕ}
 use Rattle.laws_words.specs.Tests.{clash, either}
 use Rattle.rules_base.specs.Sets.{has}
@@ -13,22 +14,37 @@ use Rattle.rules_pool.specs.Session.{is_delete}
 use Rattle.rules_pool.specs.Jobs.{is_idle, is_running}
 use Rattle.rules_node.specs.Events as storage
 use Rattle.rules_world.specs.Station.{Station, does}
-use Rattle.rules_world.specs.Together.{upd, due_to, after_all, told_in}
+use Rattle.rules_world.specs.Together.{upd, deliver}
 use Rattle.theorem_honest.proofs.Ground as real
 use Rattle.model_pool.proofs.Ground.{split}
 use Rattle.model_pool.specs.Mirror.{stage_awaits, job_awaits}
-use Rattle.rules_world.specs.Whole.{World, Own, event_of, acted, delivered}
+use Rattle.rules_world.specs.Whole.{World, due_to, after_all, told_in, acted}
+use Rattle.rules_world.specs.History.{origin_of, is_message}
 use Rattle.theorem_map_check.proofs.StillRows.{Empty, brings, row_kept}
 use Rattle.theorem_map_check.proofs.Calm.{still, told-kept}
 
 -- what no message of the client brings leaves a node's own row alone
-pub own-quiet : (e : Own) → brings (event_of e) ≡ false
-own-quiet Own.register_create = refl
-own-quiet (Own.register_add set version) = refl
-own-quiet (Own.unregister delete) = refl
-own-quiet (Own.join_create set) = refl
-own-quiet Own.assemble = refl
-own-quiet Own.fault = refl
+pub own-quiet : (e : storage.Event) → is_message (origin_of e) ≡ false → brings e ≡ false
+own-quiet storage.Event.register_create z = refl
+own-quiet (storage.Event.register_add set version) z = refl
+own-quiet (storage.Event.unregister delete) z = refl
+own-quiet (storage.Event.join_create set) z = refl
+own-quiet storage.Event.assemble z = refl
+own-quiet (storage.Event.leave delete) z = refl
+own-quiet (storage.Event.enable1 version set) z = refl
+own-quiet storage.Event.enable0 z = refl
+own-quiet storage.Event.fault z = refl
+own-quiet (storage.Event.write chunk set version) z = z
+own-quiet (storage.Event.synced member chunk) z = refl
+own-quiet (storage.Event.pool_info op member) z = refl
+own-quiet (storage.Event.map_ready keep) z = refl
+own-quiet (storage.Event.give_part offset size) z = refl
+own-quiet (storage.Event.take_part offset part) z = refl
+own-quiet (storage.Event.map_done enable version set) z = z
+own-quiet storage.Event.map_disable z = refl
+own-quiet storage.Event.map_get_ver z = refl
+own-quiet (storage.Event.last_io_to_map chosen) z = z
+own-quiet (storage.Event.fill member version) z = z
 
 -- the awaited message of a removal
 abbrev pub parting : Message → Bool
@@ -60,16 +76,16 @@ module _ (m : ℕ) where
       (λ q. subst (λ (x : Station). Empty m x.map) (sym (real.upd_other f to m (does (f to) e).station q)) k)
 
   -- the awaited message
-  pub parts-kept : (o l : ℕ) (x : Message) (f : ℕ → Station) → parting x ≡ true → (f m).node.id ≡ m → Empty m (f m).map → Empty m ((delivered o l x f).nodes m).map
-  parts-kept o l Message.Nothing f p i k = clash p refl
-  parts-kept o l (Message.GetVersion to) f p i k = clash p refl
-  parts-kept o l (Message.Ready to keep) f p i k = clash p refl
-  parts-kept o l (Message.Send from to) f p i k = clash p refl
-  parts-kept o l (Message.Done to enable version members) f p i k = clash p refl
-  parts-kept o l (Message.LastIo to chosen) f p i k = clash p refl
-  parts-kept o l (Message.Enable to version members) f p i k = clash p refl
-  parts-kept o l (Message.Leave to mode) f p i k = one_kept f to (storage.Event.leave (is_delete mode)) refl i k
-  parts-kept o l (Message.Info to op member) f p i k = one_kept f to (storage.Event.pool_info op member) refl i k
+  pub parts-kept : (ls : List ℕ) (x : Message) (f : ℕ → Station) → parting x ≡ true → (f m).node.id ≡ m → Empty m (f m).map → Empty m ((deliver ls x f).nodes m).map
+  parts-kept ls Message.Nothing f p i k = clash p refl
+  parts-kept ls (Message.GetVersion to) f p i k = clash p refl
+  parts-kept ls (Message.Ready to keep) f p i k = clash p refl
+  parts-kept ls (Message.Send from to) f p i k = clash p refl
+  parts-kept ls (Message.Done to enable version members) f p i k = clash p refl
+  parts-kept ls (Message.LastIo to chosen) f p i k = clash p refl
+  parts-kept ls (Message.Enable to version members) f p i k = clash p refl
+  parts-kept ls (Message.Leave to mode) f p i k = one_kept f to (storage.Event.leave (is_delete mode)) refl i k
+  parts-kept ls (Message.Info to op member) f p i k = one_kept f to (storage.Event.pool_info op member) refl i k
 
   -- what an event of the client tells
   pub acted-kept : (x : Answer) (p : Pool) (got : ℕ) (w : World) → still (told_in x) ≡ true → (w.nodes m).node.id ≡ m → Empty m (w.nodes m).map → Empty m ((acted x p got w).nodes m).map

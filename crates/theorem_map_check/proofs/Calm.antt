@@ -1,6 +1,6 @@
 -- What an event of the client tells nodes that acknowledges no write and changes no session: no marks, no fill.
 use mathlib.Core.Path.{◌≡◌, refl}
-use mathlib.Core.Bool.{Bool, true, false}
+use mathlib.Core.Bool.{Bool, true, false, not}
 use Prim.Native.Nat.{ℕ}
 use lib.Dec.{eqb}
 use Rattle.laws_words.specs.Words.{pick}
@@ -25,7 +25,7 @@ use Rattle.rules_client.specs.Events.{Event, turn_of}
 use Rattle.rules_node.specs.Events as storage
 use Rattle.rules_world.specs.Station.{Station}
 use Rattle.model_pool.proofs.Tellings.{if-told, check-told, rejoin-told, try-told, enable-told, maintenance-told, down-told, answer-told}
-use Rattle.rules_world.specs.Together.{when_to, due_to, after_all, told_in}
+use Rattle.rules_world.specs.Whole.{when_to, due_to, after_all, told_in}
 use Rattle.theorem_map_check.proofs.StillRows.{Empty, brings, row_kept}
 
 abbrev pub still : Told → Bool

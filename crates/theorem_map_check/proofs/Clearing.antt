@@ -5,15 +5,16 @@ use mathlib.Core.List.{List, []}
 use Prim.Native.Nat.{ℕ, zero, suc, ◌<◌, ◌≤◌}
 use native.Mathlib.Decide.{ℕ_discrete, dec_lt}
 use native.Mathlib.Omega.{arith}
+use lib.Dec.{eqb, ltb}
 use lib.ListN.{length}
-use borrow.Author.Tests.{ltb-true, le-ltb}
+use borrow.Author.Tests.{ltb-true, ltb-false, le-ltb}
 use Rattle.laws_words.specs.Tests.{clash, by_cases}
 use Rattle.laws_words.specs.Words.{pick}
 use Rattle.rules_base.specs.Sets.{has}
 use Rattle.rules_base.specs.Chunk.{dirty, chunk_marked}
 use Rattle.rules_base.proofs.Chunk.{dirty-lt}
 use Rattle.rules_base.specs.Map.{zero_row}
-use Rattle.rules_base.proofs.Chunks.{same-no, dirty-zero_row, dirty-marked_for}
+use Rattle.rules_base.proofs.Chunks.{same, same-no, dirty-zero_row, dirty-marked_for}
 use Rattle.rules_base.specs.Fill.{row_filled}
 use Rattle.rules_base.proofs.Fills.{dirty-filled}
 use Rattle.rules_pool.specs.declared.Effect.{Effect}
@@ -31,8 +32,9 @@ use Rattle.theorem_client.proofs.Sound.{inside, write-inside, answer-inside}
 use Rattle.theorem_client.proofs.Extends.{extend-inside, extend-touches}
 use Rattle.theorem_client.proofs.Touches.{write-touches, answer-touches}
 use Rattle.rules_client.specs.ClientEvents.{Event, tests_of, lent_to, map_left}
+use Rattle.theorem_client.specs.Reached.{Reached}
 use Rattle.theorem_client.proofs.ClientShape.{Judged, answer-judged, answer_done}
-use Rattle.theorem_map_check.specs.Checks.{in_removal, Clears, NothingElse}
+use Rattle.theorem_map_check.specs.Checks.{in_removal, Zeroes, Clears, NothingElse}
 use Rattle.theorem_map_check.proofs.Steps.{valid}
 
 -- ---- what only sets bits

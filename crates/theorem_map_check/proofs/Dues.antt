@@ -1,12 +1,13 @@
 -- Which answers are taken: those that the last tick asked for.
 use mathlib.Core.Path.{◌≡◌, refl, ap, sym, ◌∙◌, subst}
-use mathlib.Core.Bool.{Bool, true, false, ◌&&◌}
+use mathlib.Core.Bool.{Bool, true, false, not, ◌&&◌}
 use mathlib.Core.List.{List}
-use Prim.Native.Nat.{ℕ}
+use mathlib.Core.Logic.{◌≢◌}
+use Prim.Native.Nat.{ℕ, ◌+◌, ◌%◌, ◌<◌}
 use lib.Dec.{eqb}
 use borrow.Author.Tests.{eqb-true, ne_eqb, not-false, not-true}
 use Rattle.laws_words.specs.Tests.{clash, and_left, and_right, and-false}
-use Rattle.rules_base.specs.Sets.{has}
+use Rattle.rules_base.specs.Sets.{has, without}
 use Rattle.rules_base.proofs.Sets.{has-below, has-none, still}
 use Rattle.rules_pool.specs.Session.{is_normal}
 use Rattle.rules_pool.specs.declared.Kind.{Kind}
@@ -22,7 +23,7 @@ use Rattle.rules_client.specs.Events as pool
 use Rattle.rules_client.specs.ClientEvents.{Event, tests_of, next}
 use Rattle.theorem_client.specs.Reached.{Reached}
 use Rattle.theorem_client.proofs.ClientShape.{Judged, tick-judged, answer-judged, tick_done, answer_done}
-use Rattle.theorem_map_check.specs.Checks.{taken, answers_for, Between, Waits, Asked, OnlyDue}
+use Rattle.theorem_map_check.specs.Checks.{taken, answers_for, ticks, Between, Waits, Asked, OnlyDue}
 use Rattle.theorem_map_check.proofs.Steps.{valid, due-stays, tick-stays}
 
 -- one event more that is no tick and no answer of m's

@@ -1,12 +1,14 @@
 -- Map check at the member's own node.
-use mathlib.Core.Path.{◌≡◌, refl, ap, ◌∙◌, subst}
+use mathlib.Core.Path.{◌≡◌, refl, ap, sym, ◌∙◌, subst}
 use mathlib.Core.Bool.{Bool, true, false, ◌&&◌}
 use mathlib.Core.List.{List}
-use Prim.Native.Nat.{ℕ}
+use Prim.Native.Nat.{ℕ, ◌<◌}
 use lib.Dec.{eqb}
 use borrow.Author.Tests.{eqb-true, eqb-false}
-use Rattle.laws_words.specs.Tests.{clash, and_left, and_right}
+use Rattle.laws_words.specs.Tests.{clash, by_cases, and_left, and_right}
+use Rattle.laws_words.specs.Words.{pick}
 use Rattle.rules_base.proofs.Order.{first-applies, none-applies}
+use Rattle.rules_base.specs.Chunk.{dirty}
 use Rattle.rules_base.specs.Empty.{row_empty}
 use Rattle.rules_base.proofs.EmptyRows.{empty-clean}
 use Rattle.rules_node.specs.States.{is_normal}
@@ -14,7 +16,7 @@ use Rattle.rules_node.specs.declared.Checked.{Checked}
 use Rattle.rules_node.specs.Check.{check_tests, check_refusal, map_check}
 use Rattle.rules_node.specs.Face.{StorageNode}
 use Rattle.rules_node.specs.Face.{lent_to, checked}
-use Rattle.theorem_map_check.specs.Node.{Verdict, Demand1, Clean, EmptyThen, OneWouldDo}
+use Rattle.theorem_map_check.specs.Node.{Verdict, Demand1, Gave, Clean, EmptyThen, OneWouldDo}
 use Rattle.theorem_map_check.proofs.Rows.{two-in-a-row}
 
 pub demand-1 : Demand1

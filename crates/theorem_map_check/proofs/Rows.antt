@@ -2,10 +2,11 @@
 use mathlib.Core.Path.{◌≡◌, refl, ap, sym, ◌∙◌, subst}
 use mathlib.Core.Bool.{Bool, true, false, not, ◌&&◌}
 use mathlib.Core.List.{List}
+use mathlib.Core.Logic.{◌≢◌}
 use Prim.Native.Nat.{ℕ, ◌<◌}
 use native.Mathlib.Decide.{ℕ_discrete}
 use native.Mathlib.Omega.{arith}
-use lib.Dec.{eqb}
+use lib.Dec.{eqb, ltb}
 use borrow.Author.Tests.{eq-eqb, ne_eqb, ltb-false}
 use Rattle.laws_words.specs.Tests.{clash, by_cases, and-false}
 use Rattle.laws_words.specs.Words.{pick}
@@ -18,14 +19,15 @@ use Rattle.rules_pool.specs.Jobs.{is_idle, is_running}
 use Rattle.rules_pool.specs.Breaking.{is_accepted, acknowledges, breaks}
 use Rattle.rules_client.specs.declared.Check.{Check}
 use Rattle.rules_client.specs.declared.Checked.{Checked}
+use Rattle.rules_client.specs.MapCheck.{answered, clears, declined}
 use Rattle.rules_client.specs.Client.{Client}
 use Rattle.rules_client.specs.Client.{tick_turn, check_turn}
 use Rattle.rules_client.specs.Events as pool
 use Rattle.theorem_client.specs.Reading as pool_read
-use Rattle.rules_client.specs.ClientEvents.{Event, tests_of, out_of, next}
+use Rattle.rules_client.specs.ClientEvents.{Event, tests_of, out_of, next, effect_of}
 use Rattle.theorem_client.specs.Reached.{Reached}
 use Rattle.theorem_client.proofs.ClientShape.{Judged, tick-judged, answer-judged, tick_done, answer_done}
-use Rattle.theorem_map_check.specs.Checks.{taken, answers_for, Between, Quiet, First, TwoInARow, ThenZeroed}
+use Rattle.theorem_map_check.specs.Checks.{taken, answers_for, Between, Quiet, First, Zeroes, TwoInARow, ThenZeroed}
 use Rattle.theorem_map_check.proofs.Steps.{turn, broken, stands, pool-quiet, quiet-stands, once-other}
 
 -- ---- while a run is in hand no answer stands

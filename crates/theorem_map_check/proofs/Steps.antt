@@ -1,33 +1,40 @@
 -- What one event does to what the client remembers of the check, to its sessions and to its job.
 use mathlib.Core.Path.{◌≡◌, refl, ap, sym, ◌∙◌}
 use mathlib.Core.Bool.{Bool, true, false, not, ◌&&◌, ◌||◌}
+use mathlib.Core.List.{List}
 use mathlib.Core.Logic.{◌≢◌}
 use Prim.Native.Nat.{ℕ, ◌<◌}
 use native.Mathlib.Decide.{dec_lt}
 use native.Mathlib.Omega.{arith}
+use lib.Dec.{eqb}
 use lib.ListN.{get_or-eq_default}
-use Rattle.laws_words.specs.Tests.{either}
+use Rattle.laws_words.specs.Tests.{clash, by_cases, either}
 use Rattle.laws_words.specs.Words.{pick}
-use Rattle.rules_base.specs.Sets.{has}
+use Rattle.rules_base.specs.Sets.{has, with, without}
 use Rattle.rules_base.proofs.Sets.{has-with-other, has-without-other}
+use Rattle.rules_pool.specs.declared.Answer.{Answer}
+use Rattle.rules_pool.specs.declared.Job.{Job}
 use Rattle.rules_pool.specs.declared.Pool.{Pool}
+use Rattle.rules_pool.specs.declared.Sent.{Sent}
 use Rattle.rules_pool.specs.declared.Turn.{Turn}
 use Rattle.rules_pool.specs.Session.{free}
-use Rattle.rules_pool.specs.Jobs.{is_running}
+use Rattle.rules_pool.specs.Jobs.{is_idle, is_running}
 use Rattle.laws_client.proofs.Pools.{Valid}
 use Rattle.rules_pool.specs.Breaking.{is_accepted, acknowledges, changed_to, has_run, breaks}
 use Rattle.laws_client.proofs.BreakingRecords.{neither, unchanged, no_change}
 use Rattle.rules_client.specs.declared.Check.{Check}
+use Rattle.rules_client.specs.declared.Checked.{Checked}
 use Rattle.rules_client.specs.MapCheck.{answered, after}
 use Rattle.rules_client.specs.Client.{Client}
 use Rattle.rules_client.specs.Events as pool
 use Rattle.theorem_client.specs.Demand1.{Verdict}
 use Rattle.theorem_client.proofs.Demand1.{demand-1}
 use Rattle.theorem_client.proofs.Demand2.{reached-valid}
-use Rattle.rules_client.specs.ClientEvents.{Event, next}
+use Rattle.rules_client.specs.ClientEvents.{Event, out_of, next}
 use Rattle.theorem_client.specs.Reached.{Reached}
+use Rattle.theorem_client.proofs.ClientDemand1.{refused-breaks}
 use Rattle.theorem_client.proofs.Reached.{pool-reached}
-use Rattle.theorem_map_check.specs.Checks.{Quiet}
+use Rattle.theorem_map_check.specs.Checks.{session_of, Quiet}
 
 -- the turn of an event of the pool
 abbrev pub turn : pool.Event → Client → Turn

@@ -29,19 +29,19 @@ use Rattle.rules_client.specs.ClientEvents.{Event, next, tests_of}
 use Rattle.theorem_client.specs.Reached.{Reached}
 use Rattle.theorem_client.proofs.Reached.{pool-reached}
 use Rattle.theorem_client.proofs.ClientShape.{Judged, tick-judged, answer-judged, tick_done, answer_done}
-use Rattle.theorem_map_check.specs.Checks.{taken, Quiet}
+use Rattle.theorem_map_check.specs.Checks.{taken, session_of, Between, Quiet, First}
 use Rattle.theorem_map_check.proofs.Steps.{turn, broken, stands, pool-quiet, once-other}
-use Rattle.theorem_map_check.proofs.Rows.{not-running, first-once, two-in-a-row}
+use Rattle.theorem_map_check.proofs.Rows.{not-running, first-stands, first-once, two-in-a-row}
 use Rattle.theorem_map_check.proofs.Node.{one-would-do}
 use Rattle.rules_node.specs.declared.Checked.{Checked}
 use Rattle.rules_node.specs.Face.{checked}
 use Rattle.rules_node.specs.Events as storage
 use Rattle.rules_world.specs.Station.{Station, face, does}
-use Rattle.rules_world.specs.Together.{upd, told_in}
+use Rattle.rules_world.specs.Together.{upd}
 use Rattle.theorem_honest.proofs.Ground as real
 use Rattle.model_pool.proofs.Ground.{split}
 use Rattle.model_pool.proofs.Sane.{sane-keeps}
-use Rattle.rules_world.specs.Whole.{bytes_in, World, event_of, Happening, acted, enabling, by_node, after}
+use Rattle.rules_world.specs.Whole.{World, state_in, Happening, told_in, acted, enabling, by_node, after}
 use Rattle.theorem_forgotten.specs.Premises.{Keeps, Kept}
 use Rattle.theorem_forgotten.proofs.Theorem.{tells}
 use Rattle.theorem_map_check.specs.Watched.{Watched, client_of, Sight, is_empty, finds, seen, Watching, unchecked}
@@ -73,11 +73,28 @@ reaches _ (Watching.then v (Sight.happens (Happening.node j e)) h) = reaches v h
 reaches _ (Watching.then v (Sight.happens (Happening.client e got)) h) = subst Reached (sym (client-is e got v.world v.check)) (Reached.then (client_of v) (Event.of_pool e) (reaches v h))
 reaches _ (Watching.then v (Sight.happens (Happening.hand_enable j)) h) =
     subst Reached (sym (client-is (pool.Event.enable j) 0 (by_node j (enabling v.world) v.world) v.check)) (Reached.then (client_of v) (Event.of_pool (pool.Event.enable j)) (reaches v h))
-reaches _ (Watching.then v (Sight.happens (Happening.arrives l)) h) = reaches v h
-reaches _ (Watching.then v (Sight.happens (Happening.another j s)) h) = reaches v h
+reaches _ (Watching.then v (Sight.happens (Happening.arrives ls)) h) = reaches v h
+reaches _ (Watching.then v (Sight.happens (Happening.breaks_off ls)) h) = reaches v h
+reaches _ (Watching.then v (Sight.happens (Happening.another j xs ys)) h) = reaches v h
 reaches _ (Watching.then v (Sight.tick xs) h) = Reached.then (client_of v) (Event.tick xs) (reaches v h)
 reaches _ (Watching.then v (Sight.asked j) h) = reaches v h
 reaches _ (Watching.then v (Sight.answered xs number m empty) h) = Reached.then (client_of v) (Event.check_answer xs number m empty) (reaches v h)
+
+-- ---- while one answer stands, the member has a session
+
+along : (m : ℕ) (c c' : Client) → Between (Quiet m) c c' → session_of c' m ≡ session_of c m
+along m c _ Between.none = refl
+along m c _ (Between.more c' e b q) = q.sessions m ∙ along m c c' b
+
+answers-held : (c : Client) (xs : List ℕ) (number m : ℕ) (empty : Bool) → taken (Event.check_answer xs number m empty) c ≡ true → is_free (session_of c m).state ≡ false
+answers-held c xs number m empty t = at (answer-judged c xs number m empty)
+  where
+    at : Judged (tests_of (Event.check_answer xs number m empty) c) c.check (answer_done c m empty) (check_turn c xs number m empty) → is_free (session_of c m).state ≡ false
+    at (Judged.declines n f q) = clash t (ap (λ (k : checks.Checked). is_accepted k.answer) q)
+    at (Judged.does f q) = f 7 refl
+
+held : (m : ℕ) (c : Client) → First m c → is_free (session_of c m).state ≡ false
+held m c f = ap (λ (s : Session). is_free s.state) (along m (next (Event.check_answer f.xs f.number m true) f.at) c f.quiet) ∙ answers-held f.at f.xs f.number m true f.accepted
 
 -- ---- an event of the client that does not break the row
 
@@ -175,23 +192,24 @@ module _ (v : Watched) (h : Watching v) (k : Kept (unchecked h)) (m : ℕ) (rec 
       (λ q. subst (λ (x : Station). x.node.id ≡ m) (sym (real.upd_other v.world.nodes to m (does (v.world.nodes to) e).station q)) itself)
 
   -- the awaited message comes: of a removal, since no run is in hand
-  lands : (l : ℕ) → is_idle v.world.pool.job ≡ false → has v.check.once m ≡ true → has v.check.due m ≡ true → v.found m ≡ true → Empty m ((after v.world (Happening.arrives l)).nodes m).map
+  lands : (ls : List ℕ) → is_idle v.world.pool.job ≡ false → has v.check.once m ≡ true → has v.check.due m ≡ true → v.found m ≡ true → Empty m ((after v.world (Happening.arrives ls)).nodes m).map
   unfolding after
-  lands l i o d f =
-      parts-kept m (bytes_in v.world.fate) l v.world.awaited v.world.nodes
+  lands ls i o d f =
+      parts-kept m ls v.world.awaited v.world.nodes
       (ap parting ((tells v.world (unchecked h) k).reflects.awaits i) ∙ job-parts v.world.pool.job v.world.pool i (not-running (client_of v) (reaches v h) m o))
       itself (rec o d f)
 
   happened : (x : Happening) → Keeps (unchecked h) x → Own (seen v (Sight.happens x)) m
   unfolding after
-  happened (Happening.node j e) kp o d f = one_kept m v.world.nodes j (event_of e) (own-quiet e) itself (rec o d (and_left (v.found m) _ f))
-  happened (Happening.client e got) kp o d f = acts e got v.world refl itself o d (and_left (v.found m) _ f) (λ z. z)
+  happened (Happening.node j e) kp o d f = one_kept m v.world.nodes j e (own-quiet e (kp.own j e refl)) itself (rec o d f)
+  happened (Happening.client e got) kp o d f = acts e got v.world refl itself o d f (λ z. z)
   happened (Happening.hand_enable j) kp o d f =
-      acts (pool.Event.enable j) 0 (by_node j (enabling v.world) v.world) refl (itself-after j (enabling v.world)) o d (and_left (v.found m) _ f) (λ z. one_kept m v.world.nodes j (enabling v.world) refl itself z)
-  happened (Happening.arrives l) kp o d f = lands l (kp.once l refl).0 o d (and_left (v.found m) _ f)
-  happened (Happening.another j s) kp o d f = split m j
-      (λ q. clash (and_right (v.found m) _ f) (ap not (eq-eqb m j q)))
-      (λ q. subst (λ (s : Station). Empty m s.map) (sym (real.upd_other v.world.nodes j m _ q)) (rec o d (and_left (v.found m) _ f)))
+      acts (pool.Event.enable j) 0 (by_node j (enabling v.world) v.world) refl (itself-after j (enabling v.world)) o d f (λ z. one_kept m v.world.nodes j (enabling v.world) refl itself z)
+  happened (Happening.arrives ls) kp o d f = lands ls (kp.once ls refl).0 o d f
+  happened (Happening.breaks_off ls) kp o d f = lands ls (kp.broken ls refl).0 o d f
+  happened (Happening.another j xs ys) kp o d f = split m j
+      (λ q. clash (ap (λ (n : ℕ). is_free (state_in v.world n)) q ∙ (kp.free j xs ys refl).1) (held m (client_of v) (first-stands m (client_of v) (reaches v h) o)))
+      (λ q. subst (λ (s : Station). Empty m s.map) (sym (real.upd_other v.world.nodes j m _ q)) (rec o d f))
 
 own : (v : Watched) (h : Watching v) → Kept (unchecked h) → (m : ℕ) → Own v m
 own _ (Watching.start w s) k m = λ o d f. clash f refl

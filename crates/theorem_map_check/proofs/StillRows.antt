@@ -15,10 +15,8 @@ use Rattle.rules_base.specs.Chunk.{there, byte_of, dirty}
 use Rattle.rules_node.specs.Events.{Event}
 use Rattle.rules_node.specs.Held.{Held, next}
 use Rattle.rules_node.specs.Turns.{is_accepted}
-use Rattle.rules_base.specs.declared.Op.{Op}
-use Rattle.theorem_node_exact.specs.Words.{Zeroed, Rows, Cleared, In}
-use Rattle.theorem_node_exact.specs.Fields.{Own, leaves}
-use Rattle.theorem_node_exact.proofs.Fields.{given-up-map, map-as-said}
+use Rattle.theorem_node.specs.Said.{Zeroed, Rows, Cleared, Own, In, zeroes_row, said_of}
+use Rattle.theorem_node.proofs.Said.{map-as-said}
 use Rattle.rules_world.specs.Station.{Station, face, does}
 use Rattle.model_pool.proofs.Did.{stays}
 
@@ -90,6 +88,10 @@ cleared-empty member chunk m from left c e k h = elim (ℕ_discrete m member) [
 same-empty : (m : ℕ) (from left : List ℕ) → left ≡ from → Empty m from → Empty m left
 same-empty m from left q e = subst (Empty m) (sym q) e
 
+picked-map : (b : Bool) (A B C : Type 0) → (A → C) → (B → C) → pick b A B → C
+picked-map true A B C f g x = f x
+picked-map false A B C f g x = g x
+
 in-or-not : (set m : ℕ) → In set m ⊎ (In set m → ⊥)
 in-or-not set m = by_cases (has set m) (λ e. inl e) (λ e. inr (λ z. clash z e))
 
@@ -99,24 +101,19 @@ not-or-is a b = elim (ℕ_discrete a b) [ yes p ↦ inr (λ d. d p) | no d ↦ i
 abbrev held : Station → Held
 held s = record { at = face s; map = s.map; staging = s.staging }
 
-said : (m : ℕ) (e : Event) (s : Station) → brings e ≡ false → s.node.id ≡ m → Empty m s.map → (left : List ℕ) → (leaves e (held s)).map left → Empty m left
+said : (m : ℕ) (e : Event) (s : Station) → brings e ≡ false → s.node.id ≡ m → Empty m s.map → (left : List ℕ) → (said_of e (held s)).map left → Empty m left
 said m Event.register_create s b i e left z = zeroed-empty m left z
 said m (Event.register_add set version) s b i e left z = same-empty m s.map left z e
-said m (Event.unregister true) s b i e left z = zeroed-empty m left (given-up-map s.node.state _ left z)
-said m (Event.unregister false) s b i e left z = same-empty m s.map left (given-up-map s.node.state _ left z) e
+said m (Event.unregister delete) s b i e left z = picked-map delete (Zeroed left) (left ≡ s.map) (Empty m left) (λ q. zeroed-empty m left q) (λ q. same-empty m s.map left q e) z
 said m (Event.join_create set) s b i e left z = rows_empty (Own (held s)) s.map left m z (inl (sym i)) e
 said m Event.assemble s b i e left z = same-empty m s.map left z e
-said m (Event.leave true) s b i e left z = rows_empty (Own (held s)) s.map left m z (inl (sym i)) e
-said m (Event.leave false) s b i e left z = same-empty m s.map left z e
+said m (Event.leave delete) s b i e left z = picked-map delete (Rows (Own (held s)) s.map left) (left ≡ s.map) (Empty m left) (λ q. rows_empty (Own (held s)) s.map left m q (inl (sym i)) e) (λ q. same-empty m s.map left q e) z
 said m (Event.enable1 version set) s b i e left z = rows_empty (In set) s.map left m z (in-or-not set m) e
 said m Event.enable0 s b i e left z = same-empty m s.map left z e
 said m Event.fault s b i e left z = same-empty m s.map left z e
 said m (Event.write chunk set version) s b i e left z = clash refl b
 said m (Event.synced member chunk) s b i e left z = cleared-empty member chunk m s.map left z e
-said m (Event.pool_info Op.AddCreate member) s b i e left z = rows_empty (λ n. n ≢ member) s.map left m z (not-or-is m member) e
-said m (Event.pool_info Op.AddAssemble member) s b i e left z = same-empty m s.map left z e
-said m (Event.pool_info Op.RemoveDelete member) s b i e left z = rows_empty (λ n. n ≢ member) s.map left m z (not-or-is m member) e
-said m (Event.pool_info Op.RemoveDisassemble member) s b i e left z = same-empty m s.map left z e
+said m (Event.pool_info op member) s b i e left z = picked-map (zeroes_row op) (Rows (λ n. n ≢ member) s.map left) (left ≡ s.map) (Empty m left) (λ q. rows_empty (λ n. n ≢ member) s.map left m q (not-or-is m member) e) (λ q. same-empty m s.map left q e) z
 said m (Event.map_ready keep) s b i e left z = same-empty m s.map left z e
 said m (Event.give_part offset size) s b i e left z = same-empty m s.map left z e
 said m (Event.take_part offset part) s b i e left z = same-empty m s.map left z e

@@ -65,12 +65,12 @@ abbrev pub Zeroes : Client → List ℕ → ℕ → ℕ → Bool → ℕ → Typ
 Zeroes c xs number m empty j = effect_of (Event.check_answer xs number m empty) c ≡ Effect.ZeroRow j
 
 -- "Two empty answers in a row for that member, with no acknowledged write, no session change and no run between them, and then the client row is zeroed." From any history: an answer that zeroes
--- a row zeroes the answering member's, is taken and empty, and is the second in a row. Refused: one answer that clears; a write, a session change or a run between them that does not break the row. (R-25, R-26)
+-- a row zeroes the answering member's, is taken and empty, and is the second in a row. Refused: one answer that clears; a write, a session change or a run between them that does not break the row.
 abbrev pub TwoInARow : Type 0
 TwoInARow = (c : Client) → Reached c → (xs : List ℕ) (number m : ℕ) (empty : Bool) (j : ℕ) → Zeroes c xs number m empty j
     → (j ≡ m) × (taken (Event.check_answer xs number m empty) c ≡ true) × (empty ≡ true) × First m c
 
--- And then it is: after such a first answer the next one of m's that is taken and empty zeroes its row. Refused: a row that is never zeroed. (R-25)
+-- And then it is: after such a first answer the next one of m's that is taken and empty zeroes its row. Refused: a row that is never zeroed.
 abbrev pub ThenZeroed : Type 0
 ThenZeroed = (c : Client) (xs : List ℕ) (number m : ℕ) → Reached c → First m c → taken (Event.check_answer xs number m true) c ≡ true → Zeroes c xs number m true m
 
@@ -94,7 +94,7 @@ pub record Asked (m number : ℕ) (c : Client) : Type 0 where
   pub since : Between (Waits m) (next (Event.tick xs) at) c
 
 -- "Answers carry their tick's number; another number, or a member whose answer is not due, is refusal 13." Refused: an answer to an older tick that is taken, or a second one to the same; one of a
--- member that was not asked. (R-24, R-25)
+-- member that was not asked.
 abbrev pub OnlyDue : Type 0
 OnlyDue = (c : Client) → Reached c → (xs : List ℕ) (number m : ℕ) (empty : Bool) → taken (Event.check_answer xs number m empty) c ≡ true → Asked m number c
 
@@ -112,7 +112,7 @@ pub data Clears (m : ℕ) (c : Client) : Event → Type 0 where
   removal : (e : pool.Event) → in_removal (pool_read.part_of e c.pool) ≡ true → Clears m c (Event.of_pool e)
 
 -- Nothing else but removal zeroes a client row, nor clears a bit of one (a map that has not 8,192 bytes is refused and stays as it is). Refused: any other event that does, or a check that zeroes
--- another member's row. (R-27)
+-- another member's row.
 abbrev pub NothingElse : Type 0
 NothingElse = (c : Client) → Reached c → (e : Event) (xs ys : List ℕ) → lent_to e ≡ pool.Lent.some xs → map_left e c ≡ pool.Lent.some ys → length xs ≡ 8192
     → (m k : ℕ) → m < 16 → k < 4096 → dirty xs m k ≡ 1 → dirty ys m k ≡ 0 → Clears m c e

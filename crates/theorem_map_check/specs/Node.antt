@@ -33,7 +33,7 @@ pub record Clean (m : ℕ) (s : StorageNode) (xs : List ℕ) : Type 0 where
   pub row : (k : ℕ) → k < 4096 → dirty xs m k ≡ 0
 
 -- "When this check zeroes a client row, the member's own node, keeping the rules, had an empty row for itself when it gave the second answer." The answer that the client takes is the one that
--- the node gave. Refused: a node that is not NORMAL and answers empty, one that answers for another row. (R-70)
+-- the node gave. Refused: a node that is not NORMAL and answers empty, one that answers for another row.
 abbrev pub EmptyThen : Type 0
 EmptyThen = (c : Client) → Reached c → (xs : List ℕ) (number m : ℕ) (empty : Bool) → (g : Gave m empty) → Zeroes c xs number m empty m → Clean m g.node g.map
 

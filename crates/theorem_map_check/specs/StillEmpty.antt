@@ -1,4 +1,4 @@
--- C-17, the stronger sentence: when the client zeroes a row, the member's own node still has an empty row for itself. (R-25)
+-- C-17, the stronger sentence: when the client zeroes a row, the member's own node still has an empty row for itself.
 use Rattle.std.specs.Prelude.{◌≡◌, Bool, List, ℕ, ◌<◌}
 use Rattle.rules_base.specs.Chunk.{dirty}
 use Rattle.theorem_map_check.specs.Checks.{Zeroes}

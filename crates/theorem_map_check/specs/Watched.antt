@@ -1,4 +1,4 @@
--- C-15's histories with map check in them: the client's ticks, what its nodes answer, and the client taking their answers. (R-25)
+-- C-15's histories with map check in them: the client's ticks, what its nodes answer, and the client taking their answers.
 use Rattle.std.specs.Prelude.{Bool, false, ◌&&◌, not, List, ℕ, eqb}
 use Rattle.laws_words.specs.Words.{pick}
 use Rattle.rules_client.specs.declared.Check.{Check}
@@ -37,16 +37,9 @@ abbrev pub check_after : Watched → Happening → Check
 check_after v (Happening.node j e) = v.check
 check_after v (Happening.client e got) = (next (Event.of_pool e) (client_of v)).check
 check_after v (Happening.hand_enable j) = (next (Event.of_pool (pool.Event.enable j)) (client_of v)).check
-check_after v (Happening.arrives l) = v.check
-check_after v (Happening.another j s) = v.check
-
--- another node comes to the id: what the one before it answered is not its
-abbrev pub is_another : Happening → ℕ → Bool
-is_another (Happening.node j e) k = false
-is_another (Happening.client e got) k = false
-is_another (Happening.hand_enable j) k = false
-is_another (Happening.arrives l) k = false
-is_another (Happening.another j s) k = eqb k j
+check_after v (Happening.arrives lengths) = v.check
+check_after v (Happening.breaks_off lengths) = v.check
+check_after v (Happening.another j xs ys) = v.check
 
 -- a node's answer says that its own row is empty
 abbrev pub is_empty : Checked → Bool
@@ -57,7 +50,7 @@ abbrev pub finds : Station → Bool
 finds s = is_empty (checked (face s) s.map s.staging).answer
 
 abbrev pub seen : Watched → Sight → Watched
-seen v (Sight.happens x) = record { world = after v.world x; check = check_after v x; found = λ j. v.found j && not (is_another x j) }
+seen v (Sight.happens x) = record { world = after v.world x; check = check_after v x; found = v.found }
 seen v (Sight.tick xs) = record { world = v.world; check = (next (Event.tick xs) (client_of v)).check; found = λ j. v.found j && not (taken (Event.tick xs) (client_of v)) }
 seen v (Sight.asked j) = record { world = v.world; check = v.check; found = λ k. pick (eqb k j) (finds (v.world.nodes j)) (v.found k) }
 seen v (Sight.answered xs number m empty) = record { world = v.world; check = (next (Event.check_answer xs number m empty) (client_of v)).check; found = v.found }

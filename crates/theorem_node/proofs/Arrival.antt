@@ -7,8 +7,8 @@ use lib.ListN.{length, drop, length-drop, length-append}
 use lib.Seq.{drop-drop}
 use Rattle.rules_node.specs.Events.{Event}
 use Rattle.rules_node.specs.Held.{Held, next}
-use Rattle.theorem_node_exact.specs.Words.{kept_chunks, last_sixteen}
-use Rattle.theorem_node_exact.proofs.Fields.{fields-as-said}
+use Rattle.theorem_node.specs.Said.{kept_chunks, last_sixteen}
+use Rattle.theorem_node.proofs.Said.{kept-as-said}
 use Rattle.theorem_node.specs.Commuting.{Sized, Marking, Write, AllTaken, chunks_of, KeptFollowArrival, FirstIsGone, KeptDiffer}
 use Rattle.theorem_node.proofs.Either.{good, good-next, still}
 
@@ -72,7 +72,7 @@ kept-follow-arrival (x ∷ xs) w h (a, t) =
     let e : Event = Event.write x.chunk x.set x.version in
     let g = good-next e w (good e w h a) in
     kept-follow-arrival xs (next e w) g.size (still-taken x xs w h t)
-    ∙ (ap (λ (l : List ℕ). last_sixteen (l ++ chunks_of xs)) ((fields-as-said e w a).kept h)
+    ∙ (ap (λ (l : List ℕ). last_sixteen (l ++ chunks_of xs)) (kept-as-said e w h a)
     ∙ (last-of-last (kept_chunks w.at.node ++ (x.chunk ∷ [])) (chunks_of xs) ∙ ap last_sixteen (joined (kept_chunks w.at.node) (chunks_of xs) x.chunk)))
 
 count_same : (xs : List Write) → length (chunks_of xs) ≡ length xs

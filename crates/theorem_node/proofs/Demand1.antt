@@ -5,17 +5,22 @@ use Prim.Native.Nat.{ℕ}
 use lib.Dec.{eqb}
 use borrow.Author.Tests.{eqb-true, eqb-false}
 use Rattle.laws_words.specs.Words.{pick}
+use Rattle.laws_words.specs.Tests.{clash}
 use Rattle.rules_base.specs.Refusals.{refusal}
 use Rattle.rules_base.proofs.Order.{first-applies, none-applies}
 use Rattle.rules_node.specs.declared.Answer.{Answer}
 use Rattle.rules_node.specs.declared.Turn.{Turn}
 use Rattle.rules_node.specs.Turns.{refused, settled}
 use Rattle.rules_node.specs.Face.{lent_to, turn_at, answers}
-use Rattle.laws_node.proofs.Theorems.{Law, law, refusal-changes-nothing}
-use Rattle.theorem_node_exact.proofs.Known.{not-refused}
+use Rattle.laws_node.proofs.Theorems.{is_refused, Law, law, refusal-changes-nothing}
 use Rattle.theorem_node.specs.Tests.{tests_of}
 use Rattle.theorem_node.specs.Demand1.{Verdict, Demand1}
 use Rattle.rules_node.specs.Turns.{is_accepted}
+
+pub not-refused : (a : Answer) → is_refused a ≡ false → is_accepted a ≡ true
+not-refused (Answer.Refused n) e = clash refl e
+not-refused Answer.Done e = refl
+not-refused (Answer.Version v) e = refl
 
 pub demand-1 : Demand1
 unfolding settled

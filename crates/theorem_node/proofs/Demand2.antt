@@ -10,15 +10,11 @@ use Rattle.rules_node.specs.declared.Answer.{Answer}
 use Rattle.rules_node.specs.Face.{StorageNode}
 use Rattle.rules_node.specs.Events.{Event}
 use Rattle.rules_node.specs.Face.{lent_to, answers}
-use Rattle.rules_node.specs.Held.{Held}
-use Rattle.laws_node.proofs.Theorems.{law, lent-zero, Good, fresh-good, stays-good, accepted-keeps}
-use Rattle.theorem_node_exact.specs.Words.{InOrder}
-use Rattle.theorem_node_exact.proofs.Rules.{rules-kept as in_words, a-map}
-use Rattle.theorem_node_exact.proofs.Known.{taken-plain}
+use Rattle.laws_node.proofs.Theorems.{is_refused, law, lent-zero, Good, fresh-good, stays-good, accepted-keeps}
 use Rattle.theorem_node.specs.Tests.{tests_of}
 use Rattle.theorem_node.specs.Demand1.{Verdict}
 use Rattle.rules_node.specs.Turns.{is_accepted}
-use Rattle.theorem_node.specs.Demand2.{Reached, RulesKept, InOrderReached, NeverOne, NeverTwo, NeverEighteen, ByTheTable}
+use Rattle.theorem_node.specs.Demand2.{Reached, RulesKept, NeverOne, NeverTwo, NeverEighteen, ByTheTable}
 use Rattle.theorem_node.proofs.Demand1.{demand-1}
 
 pub reached-good : (s : StorageNode) (xs ys : List ℕ) → Reached s xs ys → Good s xs ys
@@ -27,11 +23,6 @@ reached-good _ _ _ (Reached.then s xs ys e r) = stays-good e s xs ys (reached-go
 
 pub rules-kept : RulesKept
 rules-kept s xs ys r = let g = reached-good s xs ys r in (g.rules, g.map, g.staging, g.agrees)
-
-pub in-order-reached : InOrderReached
-in-order-reached w r =
-    let g = reached-good w.at w.map w.staging r in
-    record { rules = in_words w.at.node g.rules; map = a-map w.at.node.chunks w.map g.map; staging = a-map w.at.node.chunks w.staging g.staging; summaries = g.agrees }
 
 -- a refusal that was given applies
 given : (e : Event) (s : StorageNode) (xs ys : List ℕ) (n : ℕ) → (answers e s xs ys).answer ≡ Answer.Refused n → applies n (tests_of e s xs ys) ≡ true
@@ -57,6 +48,11 @@ never-eighteen s xs ys r e n q z =
     let g = reached-good s xs ys r in
     clash (ap (λ (k : ℕ). applies k (tests_of e s xs ys)) (sym z) ∙ given e s xs ys n q)
     ((law e s.node (lent_to s xs ys)).eighteen ∙ ap (λ (k : ℕ). eqb k 18) (lent-zero s xs ys (and_both g.map g.staging) g.agrees))
+
+pub taken-plain : (a : Answer) → is_accepted a ≡ true → is_refused a ≡ false
+taken-plain (Answer.Refused n) e = clash e refl
+taken-plain Answer.Done e = refl
+taken-plain (Answer.Version v) e = refl
 
 pub by-the-table : ByTheTable
 by-the-table s xs ys r e t = (accepted-keeps e s xs ys (reached-good s xs ys r).size (taken-plain (answers e s xs ys).answer t)).lawful

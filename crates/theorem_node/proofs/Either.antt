@@ -31,10 +31,9 @@ use Rattle.rules_node.specs.Held.{Held, next}
 use Rattle.laws_node.proofs.Theorems.{law, lent-zero, Good, stays-good}
 use Rattle.theorem_node.specs.Demand1.{Verdict}
 use Rattle.rules_node.specs.Turns.{is_accepted}
-use Rattle.theorem_node_exact.specs.Words.{Accepts, Marked, Cleared, In}
+use Rattle.theorem_node.specs.Said.{Accepts, Marked, Cleared, In}
 use Rattle.theorem_node.proofs.Demand1.{demand-1}
-use Rattle.theorem_node_exact.proofs.Known.{known}
-use Rattle.theorem_node_exact.proofs.Fields.{staging-as-said, map-as-said}
+use Rattle.theorem_node.proofs.Said.{known, staging-as-said, map-as-said}
 use Rattle.theorem_node.specs.Commuting.{both, Sized, StoresTheLarger, WritesCommute, WriteTwice, Marking, OrderFree, MarkAndClear, LastOneWins}
 
 -- ---- what an accepted mark or clear leaves of the node

@@ -11,8 +11,8 @@ use Rattle.rules_node.specs.Write.{written}
 use Rattle.rules_node.specs.Fill.{filled}
 use Rattle.rules_node.specs.Events.{Event}
 use Rattle.rules_node.specs.Held.{Held, next}
-use Rattle.theorem_node_exact.specs.Words.{Accepts, Marked, Filled, In}
-use Rattle.theorem_node_exact.proofs.Fields.{staging-as-said, map-as-said}
+use Rattle.theorem_node.specs.Said.{Accepts, Marked, Filled, In}
+use Rattle.theorem_node.proofs.Said.{staging-as-said, map-as-said}
 use Rattle.theorem_node.specs.Commuting.{both, Sized, Marking, FillStoresTheLarger, FillAndMark, FillsCommute, FillAndClear, FillOrClear}
 use Rattle.theorem_node.proofs.Either.{Alike, alike_next, still, same-node, good-both, same_map, sound-two, same-held, marked-or, cleared-or, bit-marked, bit-cleared, node-wrote, node-synced, node-filled}
 

@@ -4,7 +4,8 @@ pub mod Demand2
 pub mod Either
 pub mod Fills
 pub mod Maps
-pub mod Limits
+pub mod Parts
 pub mod Received
+pub mod Said
 pub mod Summaries
 pub mod Writes

@@ -33,12 +33,10 @@ use Rattle.rules_node.specs.Held.{Held, next, after}
 use Rattle.rules_node.specs.Cuts.{Cuts, takes}
 use Rattle.laws_node.proofs.Theorems.{law, accepted-keeps}
 use Rattle.theorem_node.specs.Demand1.{Verdict}
-use Rattle.theorem_node_exact.specs.Words.{Accepts, In}
-use Rattle.theorem_node.specs.Received.{took, Able}
+use Rattle.theorem_node.specs.Said.{Accepts, In, took, Able}
 use Rattle.theorem_node.proofs.Demand1.{demand-1}
-use Rattle.theorem_node_exact.proofs.Known.{taken-plain}
-use Rattle.theorem_node_exact.proofs.Known.{known}
-use Rattle.theorem_node_exact.proofs.Maps.{each-bit}
+use Rattle.theorem_node.proofs.Demand2.{taken-plain}
+use Rattle.theorem_node.proofs.Said.{known, each-bit}
 use Rattle.theorem_node.proofs.Received.{whole-staging, same_row, receives, old-marks-gone, old-marks-kept}
 use Rattle.theorem_node.specs.Commuting.{TakingIsOr, zeros, StagingLaws, receive, TransfersCommute, TransferAgain}
 use Rattle.theorem_node.proofs.Either.{GoodAt, good-next, same_map}

@@ -21,8 +21,7 @@ use Rattle.rules_base.proofs.Chunk.{dirty-there}
 use Rattle.rules_base.specs.Map.{sound, or_from, or_in}
 use Rattle.rules_base.proofs.Over.{length_over, over-in, over-past}
 use Rattle.rules_base.proofs.Rows.{zeroed-all, or-into-zero}
-use Rattle.rules_base.proofs.Chunks.{dirty-or}
-use Rattle.rules_base.proofs.Sound.{sound-or, Sound, sound-fact}
+use Rattle.rules_base.proofs.Sound.{Sound, sound-fact}
 use Rattle.rules_base.specs.Parts.{is_part, part_of}
 use Rattle.rules_base.proofs.Joined.{length-part_of, clean-part, parts_none, parts_more, parts_whole}
 use Rattle.rules_node.specs.declared.Transfer.{Transfer}
@@ -45,12 +44,9 @@ use Rattle.rules_node.specs.Held.{Held, next, after}
 use Rattle.rules_node.specs.Cuts.{sized, total, Cuts, takes}
 use Rattle.laws_node.proofs.Cuts.{next-part, later-parts}
 use Rattle.laws_node.proofs.Theorems.{law, words-stay, accepted-by, lent-zero, Good, stays-good}
-use Rattle.theorem_node_exact.proofs.Known.{not-refused}
-use Rattle.theorem_node_exact.specs.Words.{Accepts, Rows, In}
-use Rattle.theorem_node.specs.Received.{Ored, ready, took, AllAccepted, Able, Came, PartsTaken, PartsAsWhole, AnyCuts, Receives, OldMarksGone, OldMarksKept}
-use Rattle.theorem_node_exact.proofs.Known.{known}
-use Rattle.theorem_node_exact.proofs.Maps.{each-bit}
-use Rattle.theorem_node_exact.proofs.Fields.{fields-as-said, staging-as-said, map-as-said}
+use Rattle.theorem_node.proofs.Demand1.{not-refused}
+use Rattle.theorem_node.specs.Said.{Accepts, Rows, Ored, In, ready, took, AllAccepted, Able, Came, GivesParts, PartsTaken, PartsAsWhole, AnyCuts, Receives, OldMarksGone, OldMarksKept, NotBefore}
+use Rattle.theorem_node.proofs.Said.{known, ors, each-bit, staging-as-said, transfer-as-said, map-as-said}
 
 -- ---- the bytes below a have come
 
@@ -148,14 +144,6 @@ ready-leaves : (keep : Bool) (w : Held) → Accepts (Event.map_ready keep) w →
 unfolding law readied went_to transferred
 ready-leaves keep w a = let q = (known (Event.map_ready keep) w a).turn in record { id = ap (λ (t : Turn). t.node.id) q; count = ap (λ (t : Turn). t.node.chunks) q }
 
--- a second map ORed in
-ors : (n : ℕ) (xs : List ℕ) → Sound n xs → (zs : List ℕ) → Sound n zs → Ored xs zs (or_in xs zs)
-ors n xs s zs r =
-    record {
-      size = (sound-or n xs zs s r).len;
-      bits = λ m c. each-bit (or_in xs zs) m c (max (dirty xs m c) (dirty zs m c)) (λ hm hc. dirty-or xs zs m c s.len r.len hm hc) (λ t. rw (dirty-nowhere xs m c t, dirty-nowhere zs m c t) (omega arith));
-    }
-
 at-start : (zs : List ℕ) (v : Held) → v.at.node.transfer ≡ Transfer.InHand 0 → v ≡ partly zs 0 v
 unfolding transferred
 at-start zs v e = rw (parts_none v.staging zs, ← e) refl
@@ -168,6 +156,12 @@ module _ (w : Held) (b : Able w) where
   own =
       let v = valid-facts w.at.node b.rules in
       has-below w.at.node.members w.at.node.id (given _ _ (at-node (λ s store create hand own. gives (standing s store create hand own && (is_joined s && store)) own) refl w.at.node) (and_both v.stand b.serves))
+
+pub gives-parts : GivesParts
+unfolding give_part_refusal
+gives-parts offset size w b s f h =
+    taken-by (Event.give_part offset size) w
+    (give-none w.at.node (lent_at w) offset size b.rules (not-lent w (good w b)) (own w b) b.serves (and_both (and_both (le-leb 1 size s) (le-leb size 1024 f)) (le-leb (offset + size) 8192 h)))
 
 module _ (keep : Bool) (zs : List ℕ) (w : Held) (b : Able w) (z : sound w.at.node.chunks zs ≡ true) where
   starts : Accepts (Event.map_ready keep) w
@@ -186,7 +180,7 @@ module _ (keep : Bool) (zs : List ℕ) (w : Held) (b : Able w) (z : sound w.at.n
 
   here : v ≡ partly zs 0 v
   unfolding v
-  here = at-start zs (ready keep w) (fields-as-said (Event.map_ready keep) w starts).transfer
+  here = at-start zs (ready keep w) (transfer-as-said (Event.map_ready keep) w starts)
 
   good-v : GoodAt (partly zs 0 v)
   unfolding v
@@ -303,3 +297,15 @@ old-marks-kept zs ls enabling version set w b z c a =
       those = λ m k h. same_row (In set) _ _ r m k h ∙ (o.bits m k ∙ ap (λ (l : List ℕ). max (dirty l m k) (dirty zs m k)) (staging-as-said (Event.map_ready true) w (starts true zs w b z)));
       others = r.others;
     }
+
+-- ---- not before byte 8,192
+
+pub not-before : NotBefore
+unfolding map_done_refusal
+not-before enabling version set w a =
+    let d = known (Event.map_done enabling version set) w a in
+    at w.at.node.transfer (map_done-passed w.at.node (lent_at w) version set d.none).0.from d.rules.part
+  where
+    at : (t : Transfer) → is_whole t ≡ true → taken t ≤ 8192 → t ≡ Transfer.InHand 8192
+    at Transfer.Nothing e h = absurd (let q : 8192 ≤ 0 = leb-true 8192 0 e in omega arith)
+    at (Transfer.InHand bytes) e h = let l : 8192 ≤ bytes = leb-true 8192 bytes e in let q : bytes ≡ 8192 = omega arith in ap (λ (k : ℕ). Transfer.InHand k) q

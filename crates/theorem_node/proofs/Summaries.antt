@@ -19,7 +19,7 @@ use Rattle.rules_node.specs.Events.{Event}
 use Rattle.rules_node.specs.Face.{lent_to, answers, map_left}
 use Rattle.laws_node.proofs.Theorems.{lent-good, stays-true, accepted-done}
 use Rattle.theorem_node.specs.Summaries.{SummariesKept, SummariesLeft, Asked, NextDirty}
-use Rattle.theorem_node_exact.proofs.Known.{taken-plain}
+use Rattle.theorem_node.proofs.Demand2.{taken-plain}
 
 pub summaries-left : SummariesLeft
 summaries-left e s xs ys a =

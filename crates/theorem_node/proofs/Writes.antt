@@ -17,11 +17,10 @@ use Rattle.rules_node.specs.Held.{Held, next}
 use Rattle.laws_node.proofs.Theorems.{law}
 use Rattle.theorem_node.specs.Demand1.{Verdict}
 use Rattle.rules_node.specs.Turns.{is_accepted}
-use Rattle.theorem_node_exact.specs.Words.{Accepts}
+use Rattle.theorem_node.specs.Said.{Accepts}
 use Rattle.theorem_node.proofs.Demand1.{demand-1}
 use Rattle.theorem_node.proofs.Demand2.{reached-good}
-use Rattle.theorem_node_exact.proofs.Known.{known}
-use Rattle.theorem_node_exact.proofs.Fields.{staging-as-said}
+use Rattle.theorem_node.proofs.Said.{known, staging-as-said}
 use Rattle.theorem_node.specs.Commuting.{SameButKept, Marking, Write, arrive, Rearranged, AnyArrival}
 use Rattle.theorem_node.proofs.Either.{GoodAt, good-next, alike-good, same_answer, same-words, same-held, node-wrote, order-free, writes-commute, write-twice}
 

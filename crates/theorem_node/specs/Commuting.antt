@@ -14,8 +14,7 @@ use Rattle.rules_node.specs.Face.{answers}
 use Rattle.rules_node.specs.Held.{Held, next}
 use Rattle.rules_node.specs.Cuts.{Cuts}
 use Rattle.theorem_node.specs.Demand2.{Reached}
-use Rattle.theorem_node_exact.specs.Words.{Accepts, In, kept_chunks, last_sixteen}
-use Rattle.theorem_node.specs.Received.{ready, took, Able}
+use Rattle.theorem_node.specs.Said.{Accepts, In, kept_chunks, last_sixteen, ready, took, Able}
 
 -- one event, and then another
 abbrev pub both : Event → Event → Held → Held
@@ -39,7 +38,7 @@ pub record SameButKept (w v : Held) : Type 0 where
   pub staging : w.staging ≡ v.staging
   pub node : forgotten w.at.node ≡ forgotten v.at.node
 
--- two writes that the node accepts, in either order (R-79)
+-- two writes that the node accepts, in either order
 abbrev pub WritesCommute : Type 0
 WritesCommute = (chunk set version chunk' set' version' : ℕ) (w : Held) → Sized w
     → Accepts (Event.write chunk set version) w
@@ -72,7 +71,7 @@ pub data Rearranged : List Write → List Write → Type 0 where
   back : (xs ys : List Write) → Rearranged xs ys → Rearranged ys xs
   then : (xs ys zs : List Write) → Rearranged xs ys → Rearranged ys zs → Rearranged xs zs
 
--- At every reached node, whatever writes arrive, accepted or refused: however they arrive, all is the same but the kept chunks. (R-79)
+-- At every reached node, whatever writes arrive, accepted or refused: however they arrive, all is the same but the kept chunks.
 abbrev pub AnyArrival : Type 0
 AnyArrival = (xs ys : List Write) (w : Held) → Rearranged xs ys → Reached w.at w.map w.staging → SameButKept (arrive xs w) (arrive ys w)
 
@@ -135,7 +134,7 @@ TakingIsOr = (keep : Bool) (zs lengths : List ℕ) (w : Held) → Able w → sou
 abbrev pub zeros : List ℕ
 zeros = replicate 8192 0
 
--- the OR of maps that are sound for a chunk count (R-79)
+-- the OR of maps that are sound for a chunk count
 pub record OrLaws (chunks : ℕ) : Type 0 where
   pub commutative : (xs ys : List ℕ) → sound chunks xs ≡ true → sound chunks ys ≡ true → or_in xs ys ≡ or_in ys xs
   pub associative : (xs ys zs : List ℕ) → sound chunks xs ≡ true → sound chunks ys ≡ true → sound chunks zs ≡ true
@@ -203,7 +202,7 @@ abbrev pub chunks_of : List Write → List ℕ
 chunks_of [] = []
 chunks_of (x ∷ xs) = x.chunk ∷ chunks_of xs
 
--- the last sixteen of those kept and the new ones, in the order in which they came (R-79)
+-- the last sixteen of those kept and the new ones, in the order in which they came
 abbrev pub KeptFollowArrival : Type 0
 KeptFollowArrival = (xs : List Write) (w : Held) → Sized w → AllTaken xs w
     → kept_chunks (arrive xs w).at.node ≡ last_sixteen (kept_chunks w.at.node ++ chunks_of xs)

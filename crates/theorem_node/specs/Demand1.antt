@@ -21,6 +21,6 @@ pub data Verdict (e : Event) (s : StorageNode) (xs ys : List ℕ) : Type 0 where
   refused : (n : ℕ) → (answers e s xs ys).answer ≡ Answer.Refused n → Refuses e s xs ys n → Verdict e s xs ys
   done : is_accepted (answers e s xs ys).answer ≡ true → None (tests_of e s xs ys) → Verdict e s xs ys
 
--- Assumed: nothing. xs are the map's bytes, ys those of staging, of any length. (R-3)
+-- Assumed: nothing. xs are the map's bytes, ys those of staging, of any length.
 abbrev pub Demand1 : Type 0
 Demand1 = (e : Event) (s : StorageNode) (xs ys : List ℕ) → Verdict e s xs ys

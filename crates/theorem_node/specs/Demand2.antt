@@ -9,9 +9,7 @@ use Rattle.rules_node.specs.Table.{legal}
 use Rattle.rules_node.specs.Face.{StorageNode}
 use Rattle.rules_node.specs.Events.{Event, kind_of}
 use Rattle.rules_node.specs.Face.{fresh_node, answers, map_left, staging_left}
-use Rattle.rules_node.specs.Held.{Held}
 use Rattle.rules_node.specs.Turns.{is_accepted}
-use Rattle.theorem_node_exact.specs.Words.{InOrder}
 
 -- A node with its map and staging is reached if it is a fresh one of any id, with 1 to 4,096 chunks and two sound maps, its summaries agreeing with the map (in which nothing is dirty
 -- then), or what an event left of a reached one: any event, with any data, accepted or refused.
@@ -21,16 +19,12 @@ pub data Reached : StorageNode → List ℕ → List ℕ → Type 0 where
       → Reached (fresh_node id chunks) xs ys
   then : (s : StorageNode) (xs ys : List ℕ) (e : Event) → Reached s xs ys → Reached (answers e s xs ys).node (map_left e s xs ys) (staging_left e s xs ys)
 
--- Every reached node keeps the state rules, its two maps are sound, and its summaries agree with its map. (R-75)
+-- Every reached node keeps the state rules, its two maps are sound, and its summaries agree with its map.
 abbrev pub RulesKept : Type 0
 RulesKept = (s : StorageNode) (xs ys : List ℕ) → Reached s xs ys
     → (valid s.node ≡ true) × (sound s.node.chunks xs ≡ true) × (sound s.node.chunks ys ≡ true) × (agree s.summaries xs ≡ true)
 
--- In the documents' words: it is a node in order, so all that theorem_node_exact says of nodes in order holds there: which events are accepted, which number is given, what is answered.
-abbrev pub InOrderReached : Type 0
-InOrderReached = (w : Held) → Reached w.at w.map w.staging → InOrder w
-
--- So refusal 1 is never given there. (R-75)
+-- So refusal 1 is never given there.
 abbrev pub NeverOne : Type 0
 NeverOne = (s : StorageNode) (xs ys : List ℕ) → Reached s xs ys → (e : Event) (n : ℕ) → (answers e s xs ys).answer ≡ Answer.Refused n → n ≢ 1
 
@@ -42,7 +36,7 @@ NeverTwo = (s : StorageNode) (xs ys : List ℕ) → Reached s xs ys → (e : Eve
 abbrev pub NeverEighteen : Type 0
 NeverEighteen = (s : StorageNode) (xs ys : List ℕ) → Reached s xs ys → (e : Event) (n : ℕ) → (answers e s xs ys).answer ≡ Answer.Refused n → n ≢ 18
 
--- Every accepted event at a reached node changes its state only along source document 003's table. (R-50)
+-- Every accepted event at a reached node changes its state only along source document 003's table.
 abbrev pub ByTheTable : Type 0
 ByTheTable = (s : StorageNode) (xs ys : List ℕ) → Reached s xs ys → (e : Event) → is_accepted (answers e s xs ys).answer ≡ true
     → legal (kind_of e) s.node.state (answers e s xs ys).node.node.state ≡ true

@@ -10,7 +10,7 @@ use Rattle.rules_node.specs.Events.{Event}
 use Rattle.rules_node.specs.Face.{lent_to, answers, map_left, next_at}
 use Rattle.rules_node.specs.Turns.{is_accepted}
 
--- Every event keeps the summaries true of the map that it leaves: any event, at any node with any maps, accepted or refused. (R-71)
+-- Every event keeps the summaries true of the map that it leaves: any event, at any node with any maps, accepted or refused.
 abbrev pub SummariesKept : Type 0
 SummariesKept = (e : Event) (s : StorageNode) (xs ys : List ℕ) → agree s.summaries xs ≡ true → agree (answers e s xs ys).node.summaries (map_left e s xs ys) ≡ true
 

@@ -1,4 +1,4 @@
--- The tests of an event at a node with its two maps: its refusal is the first of them that applies. (R-4)
+-- The tests of an event at a node with its two maps: its refusal is the first of them that applies.
 use Rattle.std.specs.Prelude.{List, ℕ}
 use Rattle.rules_base.specs.Refusals.{Test}
 use Rattle.rules_node.specs.Face.{StorageNode}

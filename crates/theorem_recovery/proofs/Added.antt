@@ -2,7 +2,7 @@
 use mathlib.Core.Path.{◌≡◌, refl, sym, ap, ◌∙◌, subst}
 use mathlib.Core.Logic.{◌≢◌}
 use mathlib.Core.Bool.{Bool, true, false, not, ◌||◌}
-use mathlib.Core.List.{List, ◌++◌}
+use mathlib.Core.List.{List}
 use Prim.Native.Nat.{ℕ, ◌+◌, ◌*◌, ◌/◌, ◌≤◌, ◌<◌}
 use native.Mathlib.Decide.{ℕ_discrete, dec_lt}
 use native.Mathlib.Omega.{arith}
@@ -47,15 +47,13 @@ use Rattle.theorem_client.proofs.Extends.{added-roster}
 use Rattle.theorem_client.proofs.Demand2.{reached-valid}
 use Rattle.theorem_bounds.specs.Demand3.{most}
 use Rattle.theorem_bounds.specs.Demand3 as bounds
-use Rattle.rules_base.specs.declared.Op.{Op}
-use Rattle.rules_node.specs.Events as node
-use Rattle.rules_world.specs.Station.{Station, does}
-use Rattle.rules_world.specs.Together.{when_to, after_all, told_at, told_in, World, exchanges}
+use Rattle.rules_world.specs.Station.{Station}
+use Rattle.rules_world.specs.Together.{World, exchanges}
 use Rattle.rules_node.specs.Cuts.{Cuts}
 use Rattle.theorem_honest.specs.Demand.{Able, Copied, Case1}
 use Rattle.theorem_recovery.specs.Demand.{Leaves, normals, candidates, HonestNodes, Exact}
 use Rattle.theorem_recovery.proofs.Demand.{demand-3}
-use Rattle.theorem_recovery.specs.Added.{told_by, Full, FullOnNormals, pool_of, HonestBefore, Ends, LegAdded}
+use Rattle.theorem_recovery.specs.Added.{told_in, informed_at, filled_at, arrived, told_by, Full, FullOnNormals, pool_of, HonestBefore, Ends, LegAdded}
 use Rattle.theorem_recovery.proofs.Messages.{able-informed, knows, able-filled, full-filled}
 
 -- ---- an accepted extend
@@ -139,20 +137,6 @@ free-state (State.Failed cause) e = clash e refl
 free-state State.Reconnecting e = clash e refl
 free-state (State.Removing m owed) e = clash e refl
 
--- POOL_INFO where it goes to the node of id j, and the fill where it does
-abbrev informed_at : ℕ → ℕ → ℕ → Station → Station
-informed_at others member j s = pick (has others j) (does s (node.Event.pool_info Op.AddCreate member)).station s
-
-abbrev filled_at : ℕ → ℕ → ℕ → ℕ → Station → Station
-filled_at normals member version j s = pick (has normals j) (does s (node.Event.fill member version)).station s
-
--- one event after the other, where each is told
-in-turn : (a b : Bool) (d e : node.Event) (s : Station) → after_all (when_to a d ++ when_to b e) s ≡ pick b (does (pick a (does s d).station s) e).station (pick a (does s d).station s)
-in-turn true true d e s = refl
-in-turn true false d e s = refl
-in-turn false true d e s = refl
-in-turn false false d e s = refl
-
 -- the member of another id is honest after POOL_INFO
 able-told : (n j others member : ℕ) (s : Station) → Able n j s → j < 16 → member < 16 → (has others j ≡ true → member ≢ j) → Able n j (informed_at others member j s)
 able-told n j others member s a h m d = by_cases (has others j) (λ e. rw e (able-informed n j member s a h m (d e))) (λ e. rw e a)
@@ -201,18 +185,16 @@ module _ (c : Pool) (xs : List ℕ) (a : Accepts c (Event.extend xs)) where
   normal-is-told : (j : ℕ) → has h.fills j ≡ true → has h.told j ≡ true
   normal-is-told j e = h.others j ∙ normal-told (state_of c j) (sym (h.normals j) ∙ e)
 
-  arrives : (f : ℕ → Station) (j : ℕ) → told_at (told_by c xs) j (f j) ≡ filled_at h.fills (events_read.picks c) (version_of c) j (informed_at h.told (events_read.picks c) j (f j))
-  arrives f j =
-      ap (λ (t : Told). told_at t j (f j)) (told_is c xs h ∙ ap (λ (i : ℕ). Told.Extended h.told h.fills i (version_of c)) same_id)
-      ∙ in-turn (has h.told j) (has h.fills j) (node.Event.pool_info Op.AddCreate (events_read.picks c)) (node.Event.fill (events_read.picks c) (version_of c)) (f j)
+  arrives : (f : ℕ → Station) (j : ℕ) → arrived (told_by c xs) f j ≡ filled_at h.fills (events_read.picks c) (version_of c) j (informed_at h.told (events_read.picks c) j (f j))
+  arrives f j = ap (λ (t : Told). arrived t f j) (told_is c xs h ∙ ap (λ (i : ℕ). Told.Extended h.told h.fills i (version_of c)) same_id)
 
   -- an honest node is honest afterwards
-  able-after : (f : ℕ → Station) (j : ℕ) → j < 16 → Able c.chunks j (f j) → Able c.chunks j (told_at (told_by c xs) j (f j))
+  able-after : (f : ℕ → Station) (j : ℕ) → j < 16 → Able c.chunks j (f j) → Able c.chunks j (arrived (told_by c xs) f j)
   able-after f j l b =
       subst (Able c.chunks j) (sym (arrives f j))
       (able-arrived c.chunks j h.told h.fills (events_read.picks c) (version_of c) (f j) b l k.below (other-told j) (normal-is-told j) (version-top c v))
 
-  full-after : (f : ℕ → Station) (j : ℕ) → is_normal (state_of c j) ≡ true → Able c.chunks j (f j) → Full c.chunks (events_read.picks c) (told_at (told_by c xs) j (f j)).map
+  full-after : (f : ℕ → Station) (j : ℕ) → is_normal (state_of c j) ≡ true → Able c.chunks j (f j) → Full c.chunks (events_read.picks c) (arrived (told_by c xs) f j).map
   full-after f j is b =
       let e : has h.fills j ≡ true = h.normals j ∙ is in
       let o = normal-is-told j e in
@@ -288,7 +270,7 @@ module _ (c : Pool) (xs : List ℕ) (a : Accepts c (Event.extend xs)) where
       (candidate-normal (session_at (pool_of c xs).roster (lowest (normals (pool_of c xs)))) (sym (ids-has Kind.Candidates (pool_of c xs).roster long (lowest (normals (pool_of c xs))) source-below) ∙ e)))
       (λ e. e)
 
-  honest-after : (f : ℕ → Station) → HonestBefore c xs f → (w : World) → ((j : ℕ) → w.nodes j ≡ told_at (told_by c xs) j (f j)) → ((t : ℕ) → Cuts (w.cuts t)) → HonestNodes (pool_of c xs) w
+  honest-after : (f : ℕ → Station) → HonestBefore c xs f → (w : World) → ((j : ℕ) → w.nodes j ≡ arrived (told_by c xs) f j) → ((t : ℕ) → Cuts (w.cuts t)) → HonestNodes (pool_of c xs) w
   honest-after f b w at cuts =
       record {
         source = λ n. subst (Able c.chunks (lowest (normals (pool_of c xs)))) (sym (at (lowest (normals (pool_of c xs))))) (able-after f (lowest (normals (pool_of c xs))) source-below b.source);
@@ -303,7 +285,7 @@ module _ (c : Pool) (xs : List ℕ) (a : Accepts c (Event.extend xs)) where
   case-one n w (Exact.case2 z m e r) = absurd (some-normal z)
   case-one n w (Exact.case3 z m e r) = absurd (some-normal z)
 
-  ends : version_of c ≤ version_limit → (f : ℕ → Station) → HonestBefore c xs f → (w : World) → Leaves (Event.extend xs) c w → ((j : ℕ) → w.nodes j ≡ told_at (told_by c xs) j (f j)) → ((t : ℕ) → Cuts (w.cuts t))
+  ends : version_of c ≤ version_limit → (f : ℕ → Station) → HonestBefore c xs f → (w : World) → Leaves (Event.extend xs) c w → ((j : ℕ) → w.nodes j ≡ arrived (told_by c xs) f j) → ((t : ℕ) → Cuts (w.cuts t))
       → Ends c xs (most (pool_of c xs).roster) w
   ends low f b w l at cuts =
       let r = case-one (most (pool_of c xs).roster) w ((demand-3 c (Event.extend xs) first (starts low)).exact w l (honest-after f b w at cuts)) in

@@ -2,11 +2,10 @@
 -- message that reaches a node there is MAP_DISABLE.
 use mathlib.Core.Path.{◌≡◌, refl, ap}
 use mathlib.Core.Bool.{Bool, true, false}
-use mathlib.Core.List.{List, [], ◌∷◌}
 use Prim.Native.Nat.{ℕ, ◌≤◌}
 use lib.Dec.{eqb}
 use borrow.Author.Tests.{eqb-true}
-use Rattle.laws_words.specs.Tests.{by_cases, picked, and_left, and_right, and_both}
+use Rattle.laws_words.specs.Tests.{by_cases, and_left, and_right, and_both}
 use Rattle.rules_base.specs.Map.{sound, zeroed}
 use Rattle.rules_base.proofs.Sound.{sound-fact, sound-test, sound-zeroed}
 use Rattle.rules_pool.specs.declared.Told.{Told}
@@ -30,7 +29,7 @@ use Rattle.laws_node.proofs.HandKeeps.{map_disable-keeps}
 use Rattle.rules_node.specs.Events as node
 use Rattle.rules_node.specs.Face.{lent_to, map_by, staging_by}
 use Rattle.rules_world.specs.Station.{Station, face, does}
-use Rattle.rules_world.specs.Together.{World, after_all, told_in, tell, afterward}
+use Rattle.rules_world.specs.Together.{World, upd, tell, afterward}
 use Rattle.theorem_honest.specs.Demand.{Able}
 use Rattle.theorem_recovery.specs.Demand.{HeardLeaves}
 
@@ -66,18 +65,23 @@ disabled-version false s = refl
 
 -- ---- what is sent without being awaited
 
+upd-keeps : (P : ℕ → Station → Type 0) (f : ℕ → Station) (k : ℕ) (s : Station) → (P k (f k) → P k s) → (j : ℕ) → P j (f j) → P j (upd f k s j)
+unfolding upd
+upd-keeps P f k s h j p = by_cases (eqb j k) (λ e. rw (e, eqb-true j k e) (h (rw (eqb-true j k e) at p))) (λ e. rw e p)
+
 tell-keeps : (P : ℕ → Station → Type 0) → ((j : ℕ) (s : Station) → P j s → P j (does s node.Event.map_disable).station) → (t : Told) (f : ℕ → Station) (j : ℕ) → P j (f j) → P j (tell t f j)
 tell-keeps P h Told.Nothing f j p = p
 tell-keeps P h (Told.Marks to chunk list version) f j p = p
 tell-keeps P h (Told.Clears to member chunk) f j p = p
 tell-keeps P h (Told.Infos to op member) f j p = p
-tell-keeps P h (Told.Disable to) f j p = picked (λ (es : List node.Event). P j (after_all es (f j))) (eqb to j) (node.Event.map_disable ∷ []) [] (λ e. h j (f j) p) (λ e. p)
+tell-keeps P h (Told.Disable to) f j p = upd-keeps P f to (does (f to) node.Event.map_disable).station (λ q. h to (f to) q) j p
 tell-keeps P h (Told.Off to) f j p = p
 tell-keeps P h (Told.Extended others normals member version) f j p = p
 tell-keeps P h (Told.Checks to tick) f j p = p
 
 afterward-keeps : (P : ℕ → Station → Type 0) → ((j : ℕ) (s : Station) → P j s → P j (does s node.Event.map_disable).station) → (a : Answer) (f : ℕ → Station) (j : ℕ) → P j (f j) → P j (afterward a f j)
-afterward-keeps P h a f j p = tell-keeps P h (told_in a) f j p
+afterward-keeps P h (Answer.Refused n) f j p = p
+afterward-keeps P h (Answer.Done s) f j p = tell-keeps P h s.told f j p
 
 able-stays : (c : ℕ) (a : Answer) (f : ℕ → Station) (j : ℕ) → Able c j (f j) → Able c j (afterward a f j)
 able-stays c = afterward-keeps (λ j s. Able c j s) (λ j s p. rw (disables s) (able-disabled c j s p (eqb (refuses s) 0) refl))

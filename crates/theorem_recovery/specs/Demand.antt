@@ -77,6 +77,6 @@ pub record Recovers (c : Pool) (e : Event) : Type 0 where
   pub exact : (w : World) → Leaves e c w → HonestNodes (tried_in e c) w → Exact (tried_in e c) (most (next e c).roster) w
 
 -- From any state reached from a fresh pool: c is reached, and after e, any event with any data, a run is in hand that was not before, or that began after a link down
--- ended one (`Begins`). Every run in hand at a reached client began so (bounds: `EveryRun`). (R-77)
+-- ended one (`Begins`). Every run in hand at a reached client began so (bounds: `EveryRun`).
 abbrev pub Demand3 : Type 0
 Demand3 = (c : Pool) (e : Event) (r : Run) → Begins c e r → Recovers c e

@@ -1,7 +1,6 @@
 -- The starred rows of the tester's table: one list of rows, and what it says that each holds.
 use Rattle.std.specs.Prelude.{◌≡◌, true, false, List, [], ◌∷◌, ◌++◌, ℕ, zero, suc, get_or, replicate}
 use Rattle.rules_pool.specs.declared.Cause.{Cause}
-use Rattle.rules_pool.specs.declared.Mode.{Mode}
 use Rattle.rules_pool.specs.declared.State.{State}
 use Rattle.rules_pool.specs.declared.Job.{Job}
 use Rattle.rules_base.specs.declared.Op.{Op}
@@ -143,7 +142,7 @@ abbrev pub wells : ℕ → List Reply → List Reply
 wells zero rs = rs
 wells (suc n) rs = well ∷ wells n rs
 
--- Sets are numbers: {0} is 1, {1} is 2, {0, 1} is 3, {3} is 8, {15} is 32,768. (R-1, R-2)
+-- Sets are numbers: {0} is 1, {1} is 2, {0, 1} is 3, {3} is 8, {15} is 32,768.
 abbrev pub rows : List Row
 rows =
     -- id 15 taken, 16 refused 3
@@ -220,27 +219,4 @@ story =
     ∷ Message.LastIo 1 1
     ∷ [])
     (Outcome.Taken 6)
-    ∷ []
-
--- ---- the version's limits
-
--- a pool of one member assembled with this version, which a failed answer ended the run of: one more; then the member deleted, which clears what the pool went through; then 1 created
-abbrev pub assembled_with : ℕ → List Event
-assembled_with version = Event.join_assemble 0 1 version ∷ []
-
-abbrev pub failed_once : ℕ → List Event
-failed_once version = assembled_with version ++ (Event.answer zeros 1 Reply.Failed ∷ [])
-
-abbrev pub created : ℕ → List Event
-created version = failed_once version ++ (Event.remove zeros 0 Mode.Delete ∷ Event.answer zeros 2 well ∷ Event.join_create 1 ∷ [])
-
--- C-13: "Each limit of 2^63 - 33 in document 01 becomes 2^63 - 34": at join assemble, at enable from CREATED, and where a run begins.
-abbrev pub limits : List Row
-limits =
-    Row.asks [] (Event.join_assemble 0 1 9223372036854775774) [] (Message.GetVersion 0 ∷ []) Outcome.Plain
-    ∷ Row.answer [] (Event.join_assemble 0 1 9223372036854775775) (Answer.Refused 14)
-    ∷ Row.asks (failed_once 9223372036854775773) Event.try_run [] (Message.GetVersion 0 ∷ []) Outcome.Plain
-    ∷ Row.answer (failed_once 9223372036854775774) Event.try_run (sent Outcome.Plain Told.Nothing)
-    ∷ Row.answer (created 9223372036854775773) (Event.enable 1) (sent Outcome.Plain Told.Nothing)
-    ∷ Row.answer (created 9223372036854775774) (Event.enable 1) (Answer.Refused 14)
     ∷ []

@@ -19,12 +19,12 @@ answered-requires c κs = search rules
 clears-requires : tie.Need-clears-requires
 clears-requires c κs = search rules
 
-done-requires : tie.Need-done-requires
-done-requires c κs = search rules
+tells-requires : tie.Need-tells-requires
+tells-requires c κs = search rules
 
 returns-2 : tie.Need-returns-2
 unfolding answer
-returns-2 c = rw (c.done.ensures, c.before.clears.ensures, c.before.before.answered.ensures, ← c.before.before.before.before.answer-refusal.ensures, eq-eqb _ _ c.before.before.before.if1.false)
+returns-2 c = rw (c.tells.ensures, c.before.clears.ensures, c.before.before.answered.ensures, ← c.before.before.before.before.answer-refusal.ensures, eq-eqb _ _ c.before.before.before.if1.false)
 
 pub answer-spec : {M : Type 1} → statement M
 answer-spec =
@@ -35,5 +35,5 @@ answer-spec =
     returns
     answered-requires
     clears-requires
-    done-requires
+    tells-requires
     returns-2)

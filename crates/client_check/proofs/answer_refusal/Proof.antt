@@ -3,6 +3,9 @@ use Rattle.std.proofs.Common.{rules}
 use Rattle.client_check.proofs.answer_refusal.Statement.{statement}
 use Rattle.client_check.proofs.answer_refusal.Tie as tie
 
+valid-requires : tie.Need-valid-requires
+valid-requires c κs = search rules
+
 is-idle-requires : tie.Need-is-idle-requires
 is-idle-requires c κs = search rules
 
@@ -36,14 +39,32 @@ first-requires-4 c κs = search rules
 first-requires-5 : tie.Need-first-requires-5
 first-requires-5 c κs = search rules
 
-lent-requires : tie.Need-lent-requires
-lent-requires c κs = search rules
+first-requires-6 : tie.Need-first-requires-6
+first-requires-6 c κs = search rules
+
+first-requires-7 : tie.Need-first-requires-7
+first-requires-7 c κs = search rules
 
 returns : tie.Need-returns
 unfolding answer_refusal
-returns c = rw (c.lent.ensures, c.before.first5.ensures, c.before.before.first4.ensures, c.before.before.before.first3.ensures, c.before.before.before.before.first2.ensures, c.before.before.before.before.before.first.ensures, c.before.before.before.before.before.before.before.has.ensures, c.before.before.before.before.before.before.before.before.before.is_free.ensures, c.before.before.before.before.before.before.before.before.before.before.session.ensures, c.before.before.before.before.before.before.before.before.before.before.before.is-idle.ensures)
+returns c = rw (c.first7.ensures, c.before.first6.ensures, c.before.before.first5.ensures, c.before.before.before.first4.ensures, c.before.before.before.before.first3.ensures, c.before.before.before.before.before.first2.ensures, c.before.before.before.before.before.before.first.ensures, c.before.before.before.before.before.before.before.before.has.ensures, c.before.before.before.before.before.before.before.before.before.before.is_free.ensures, c.before.before.before.before.before.before.before.before.before.before.before.session.ensures, c.before.before.before.before.before.before.before.before.before.before.before.before.is-idle.ensures, c.before.before.before.before.before.before.before.before.before.before.before.before.before.before.valid.ensures)
 
 pub answer-refusal-spec : {M : Type 1} → statement M
 answer-refusal-spec =
     tie.close
-    (tie.spec is-idle-requires session-requires is-free-requires cast-has has-requires cast-awaited first-requires first-requires-2 first-requires-3 first-requires-4 first-requires-5 lent-requires returns)
+    (tie.spec
+    valid-requires
+    is-idle-requires
+    session-requires
+    is-free-requires
+    cast-has
+    has-requires
+    cast-awaited
+    first-requires
+    first-requires-2
+    first-requires-3
+    first-requires-4
+    first-requires-5
+    first-requires-6
+    first-requires-7
+    returns)

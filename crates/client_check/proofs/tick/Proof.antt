@@ -34,15 +34,15 @@ cast-ticked c = let h : c.ids.result < 65536 = rw c.ids.ensures (ids-lt _ _ (sea
 ticked-requires : tie.Need-ticked-requires
 ticked-requires c κs = search rules
 
-cast-number : tie.Need-overflow-cast-number
-cast-number c = search rules
+cast-t13 : tie.Need-overflow-cast-t13
+cast-t13 c = search rules
 
-done-requires : tie.Need-done-requires
-done-requires c κs = search rules
+tells-requires : tie.Need-tells-requires
+tells-requires c κs = search rules
 
 returns-2 : tie.Need-returns-2
 unfolding tick
-returns-2 c = rw (c.done.ensures, c.before.before.ticked.ensures, c.before.before.before.ids.ensures, ← c.before.before.before.before.before.before.tick-refusal.ensures, eq-eqb _ _ c.before.before.before.before.before.if1.false)
+returns-2 c = rw (c.tells.ensures, c.before.before.ticked.ensures, c.before.before.before.ids.ensures, ← c.before.before.before.before.before.before.tick-refusal.ensures, eq-eqb _ _ c.before.before.before.before.before.if1.false)
 
 pub tick-spec : {M : Type 1} → statement M
 tick-spec =
@@ -54,6 +54,6 @@ tick-spec =
     ids-requires
     cast-ticked
     ticked-requires
-    cast-number
-    done-requires
+    cast-t13
+    tells-requires
     returns-2)

@@ -19,18 +19,23 @@ fn other_mode(st: State, mode: Mode) -> bool
 fn remove_refusal(p: Pool, sound: bool, id: u64, mode: Mode) -> u64
     ensures { result ≡ remove_refusal p sound id mode }
 {
+    let ok = client_rules::rules::valid(p);
     let j = p.job;
     let idle = client_rules::rules::jobs::is_idle(j);
     let st = crate::removal::state_of(p, id);
     let free = client_state::state::is_free(st);
     let other = other_mode(st, mode);
-    client_rules::common::lent(
-        p,
-        sound,
+    first(
+        !ok,
+        1,
         first(
-            15 < id,
-            3,
-            first(!idle, 6, first(free, 7, first(other, 9, 0))),
+            !sound,
+            2,
+            first(
+                15 < id,
+                3,
+                first(!idle, 6, first(free, 7, first(other, 9, 0))),
+            ),
         ),
     )
 }
@@ -45,14 +50,14 @@ fn begin_removal(p: Pool, id: u64, mode: Mode) -> Gone
 }
 
 // An event that moved a removal on is accepted.
-pub fn accept(g: Gone) -> Turn
-    ensures { result ≡ gone g }
+pub fn accept(p: Pool, g: Gone) -> Turn
+    ensures { result ≡ gone p g }
 {
     let posted = g.posted;
     let effect = g.effect;
     let after = posted.pool;
     let awaited = posted.awaited;
-    client_run::exits::accept(after, Outcome::Plain, Told::Nothing, awaited, effect)
+    client_run::exits::accept(p, after, Outcome::Plain, Told::Nothing, awaited, effect)
 }
 
 pub fn remove(p: Pool, sound: bool, id: u64, mode: Mode) -> Turn
@@ -63,5 +68,5 @@ pub fn remove(p: Pool, sound: bool, id: u64, mode: Mode) -> Turn
         return client_run::exits::refuse(p, why);
     }
     let g = begin_removal(p, id, mode);
-    accept(g)
+    accept(p, g)
 }

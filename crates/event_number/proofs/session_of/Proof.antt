@@ -10,7 +10,7 @@ state-of-requires : tie.Need-state-of-requires
 state-of-requires c κs = search rules
 
 returns : tie.Need-returns
-returns c = rw (c.state-of.ensures, c.before.mode-of.ensures) refl
+returns c = rw (c.state-of.ensures, c.before.Mode-of.ensures) refl
 
 pub session-of-spec : {M : Type 1} → statement M
 session-of-spec = tie.close (tie.spec mode-of-requires state-of-requires returns)

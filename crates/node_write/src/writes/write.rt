@@ -1,5 +1,5 @@
 // Write, synced.
-ghost use Rattle.std.specs.Prelude.{◌≡◌};
+ghost use Rattle.std.specs.Prelude.{◌≡◌, max};
 ghost use Rattle.rules_node.specs.Write.{write_refusal, written, write, synced_refusal, synced};
 
 use map_numbers::refusals::first;
@@ -40,9 +40,15 @@ pub fn write(n: Node, lent: u64, chunk: u64, set: u64, version: u64) -> Turn
 fn written(n: Node, chunk: u64, version: u64) -> Node
     ensures { result ≡ written n chunk version }
 {
-    let top = map_numbers::numbers::larger(n.version, version);
+    let top = larger(n.version, version);
     let stored = change::stored_version(n, top);
     change::kept_chunk(stored, chunk)
+}
+
+pub fn larger(a: u64, b: u64) -> u64
+    ensures { result ≡ max a b }
+{
+    if a < b { b } else { a }
 }
 
 fn synced_refusal(n: Node, lent: u64, member: u64, chunk: u64) -> u64

@@ -3,6 +3,9 @@ use borrow.Author.Rules.{rules}
 use Rattle.client_join.proofs.enables.maintenance_refusal.Statement.{statement}
 use Rattle.client_join.proofs.enables.maintenance_refusal.Tie as tie
 
+valid-requires : tie.Need-valid-requires
+valid-requires c κs = search rules
+
 session-requires : tie.Need-session-requires
 session-requires c κs = search rules
 
@@ -30,14 +33,26 @@ first-requires-4 c κs = search rules
 first-requires-5 : tie.Need-first-requires-5
 first-requires-5 c κs = search rules
 
-common-requires : tie.Need-common-requires
-common-requires c κs = search rules
+first-requires-6 : tie.Need-first-requires-6
+first-requires-6 c κs = search rules
 
 returns : tie.Need-returns
 unfolding maintenance_refusal
-returns c = simp (c.common.ensures, c.before.first5.ensures, c.before.before.first4.ensures, c.before.before.before.first3.ensures, c.before.before.before.before.first2.ensures, c.before.before.before.before.before.first.ensures, c.before.before.before.before.before.before.is_normal.ensures, c.before.before.before.before.before.before.before.is_free.ensures, c.before.before.before.before.before.before.before.before.is-idle.ensures, c.before.before.before.before.before.before.before.before.before.session.ensures)
+returns c = simp (c.first6.ensures, c.before.first5.ensures, c.before.before.first4.ensures, c.before.before.before.first3.ensures, c.before.before.before.before.first2.ensures, c.before.before.before.before.before.first.ensures, c.before.before.before.before.before.before.is_normal.ensures, c.before.before.before.before.before.before.before.is_free.ensures, c.before.before.before.before.before.before.before.before.is-idle.ensures, c.before.before.before.before.before.before.before.before.before.session.ensures, c.before.before.before.before.before.before.before.before.before.before.before.valid.ensures)
 
 pub maintenance-refusal-spec : {M : Type 1} → statement M
 maintenance-refusal-spec =
     tie.close
-    (tie.spec session-requires is-idle-requires is-free-requires is-normal-requires first-requires first-requires-2 first-requires-3 first-requires-4 first-requires-5 common-requires returns)
+    (tie.spec
+    valid-requires
+    session-requires
+    is-idle-requires
+    is-free-requires
+    is-normal-requires
+    first-requires
+    first-requires-2
+    first-requires-3
+    first-requires-4
+    first-requires-5
+    first-requires-6
+    returns)

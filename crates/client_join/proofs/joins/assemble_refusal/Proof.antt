@@ -3,6 +3,9 @@ use borrow.Author.Rules.{rules}
 use Rattle.client_join.proofs.joins.assemble_refusal.Statement.{statement}
 use Rattle.client_join.proofs.joins.assemble_refusal.Tie as tie
 
+valid-requires : tie.Need-valid-requires
+valid-requires c κs = search rules
+
 session-requires : tie.Need-session-requires
 session-requires c κs = search rules
 
@@ -33,14 +36,27 @@ first-requires-5 c κs = search rules
 first-requires-6 : tie.Need-first-requires-6
 first-requires-6 c κs = search rules
 
-common-requires : tie.Need-common-requires
-common-requires c κs = search rules
+first-requires-7 : tie.Need-first-requires-7
+first-requires-7 c κs = search rules
 
 returns : tie.Need-returns
 unfolding assemble_refusal
-returns c = simp (c.common.ensures, c.before.first6.ensures, c.before.before.first5.ensures, c.before.before.before.first4.ensures, c.before.before.before.before.first3.ensures, c.before.before.before.before.before.first2.ensures, c.before.before.before.before.before.before.first.ensures, c.before.before.before.before.before.before.before.set-bars.ensures, c.before.before.before.before.before.before.before.before.is_free.ensures, c.before.before.before.before.before.before.before.before.before.is-idle.ensures, c.before.before.before.before.before.before.before.before.before.before.session.ensures)
+returns c = simp (c.first7.ensures, c.before.first6.ensures, c.before.before.first5.ensures, c.before.before.before.first4.ensures, c.before.before.before.before.first3.ensures, c.before.before.before.before.before.first2.ensures, c.before.before.before.before.before.before.first.ensures, c.before.before.before.before.before.before.before.set-bars.ensures, c.before.before.before.before.before.before.before.before.is_free.ensures, c.before.before.before.before.before.before.before.before.before.is-idle.ensures, c.before.before.before.before.before.before.before.before.before.before.session.ensures, c.before.before.before.before.before.before.before.before.before.before.before.before.valid.ensures)
 
 pub assemble-refusal-spec : {M : Type 1} → statement M
 assemble-refusal-spec =
     tie.close
-    (tie.spec session-requires is-idle-requires is-free-requires set-bars-requires first-requires first-requires-2 first-requires-3 first-requires-4 first-requires-5 first-requires-6 common-requires returns)
+    (tie.spec
+    valid-requires
+    session-requires
+    is-idle-requires
+    is-free-requires
+    set-bars-requires
+    first-requires
+    first-requires-2
+    first-requires-3
+    first-requires-4
+    first-requires-5
+    first-requires-6
+    first-requires-7
+    returns)

@@ -15,7 +15,7 @@ with-roster-requires : tie.Need-with-roster-requires
 with-roster-requires c κs = search rules
 
 returns : tie.Need-returns
-returns c = simp (c.with-roster.ensures, c.before.go.ensures, c.before.before.mode-of.ensures, c.before.before.before.state-of.ensures)
+returns c = simp (c.with-roster.ensures, c.before.go.ensures, c.before.before.Mode-of.ensures, c.before.before.before.state-of.ensures)
 
 pub pay-spec : {M : Type 1} → statement M
 pay-spec =

@@ -17,7 +17,7 @@ ask-requires c κs = search rules
 
 returns : tie.Need-returns
 unfolding started
-returns c = simp (c.ask.ensures, c.before.mode-of.ensures, simp (c.before.before.before.is-owed.ensures, c.before.before.before.before.state-of.ensures) at c.before.before.if1.true, c.before.before.before.is-owed.ensures, c.before.before.before.before.state-of.ensures)
+returns c = simp (c.ask.ensures, c.before.Mode-of.ensures, simp (c.before.before.before.is-owed.ensures, c.before.before.before.before.state-of.ensures) at c.before.before.if1.true, c.before.before.before.is-owed.ensures, c.before.before.before.before.state-of.ensures)
 
 depart-requires : tie.Need-depart-requires
 depart-requires c κs = search rules

@@ -6,7 +6,7 @@ all-asked-requires : tie.Need-all-asked-requires
 all-asked-requires c κs = search rules
 
 returns : tie.Need-returns
-returns c = simp (c.all_asked.ensures, c.before.if1.true)
+returns c = simp (c.all-Asked.ensures, c.before.if1.true)
 
 one-asked-requires : tie.Need-one-asked-requires
 one-asked-requires c κs = search rules

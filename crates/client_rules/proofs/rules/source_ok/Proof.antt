@@ -51,7 +51,7 @@ is-normal-requires : tie.Need-is-normal-requires
 is-normal-requires c κs = search rules
 
 returns : tie.Need-returns
-returns c = simp (c.all_asked.ensures, c.before.before.p.given.1)
+returns c = simp (c.all-Asked.ensures, c.before.before.p.given.1)
 
 returns-2 : tie.Need-returns-2
 returns-2 c = simp (c.has.ensures, c.before.all-asked2.ensures, c.before.before.before.p2.given.1)

@@ -54,7 +54,7 @@ first-requires-7 c κs = search rules
 
 returns : tie.Need-returns
 unfolding whole_events
-returns c = rw (c.first7.ensures, c.before.plain7.ensures, c.before.before.first6.ensures, c.before.before.before.plain6.ensures, c.before.before.before.before.first5.ensures, c.before.before.before.before.before.plain5.ensures, c.before.before.before.before.before.before.first4.ensures, c.before.before.before.before.before.before.before.plain4.ensures, c.before.before.before.before.before.before.before.before.first3.ensures, c.before.before.before.before.before.before.before.before.before.plain3.ensures, c.before.before.before.before.before.before.before.before.before.before.first2.ensures, c.before.before.before.before.before.before.before.before.before.before.before.plain2.ensures, c.before.before.before.before.before.before.before.before.before.before.before.before.first.ensures, c.before.before.before.before.before.before.before.before.before.before.before.before.before.plain.ensures, c.before.before.before.before.before.before.before.before.before.before.before.before.before.before.reply-of.ensures, c.before.before.before.before.before.before.before.before.before.before.before.before.before.before.before.mode-of.ensures) refl
+returns c = rw (c.first7.ensures, c.before.plain7.ensures, c.before.before.first6.ensures, c.before.before.before.plain6.ensures, c.before.before.before.before.first5.ensures, c.before.before.before.before.before.plain5.ensures, c.before.before.before.before.before.before.first4.ensures, c.before.before.before.before.before.before.before.plain4.ensures, c.before.before.before.before.before.before.before.before.first3.ensures, c.before.before.before.before.before.before.before.before.before.plain3.ensures, c.before.before.before.before.before.before.before.before.before.before.first2.ensures, c.before.before.before.before.before.before.before.before.before.before.before.plain2.ensures, c.before.before.before.before.before.before.before.before.before.before.before.before.first.ensures, c.before.before.before.before.before.before.before.before.before.before.before.before.before.plain.ensures, c.before.before.before.before.before.before.before.before.before.before.before.before.before.before.reply-of.ensures, c.before.before.before.before.before.before.before.before.before.before.before.before.before.before.before.Mode-of.ensures) refl
 
 pub whole-events-spec : {M : Type 1} → statement M
 whole-events-spec =

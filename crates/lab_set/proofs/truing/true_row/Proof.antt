@@ -1,5 +1,5 @@
 use mathlib.Core.Path.{refl}
-use Rattle.lab_lend.proofs.Parts.{part-is}
+use Rattle.event_ask.proofs.Parts.{part-is}
 use Rattle.lab_set.specs.Truing.{trued}
 use borrow.Author.Rules.{rules}
 use Rattle.lab_set.proofs.truing.true_row.Statement.{statement}

@@ -1,12 +1,12 @@
 use lib.ListN.{length}
-use mathlib.Core.Path.{◌≡◌}
 use Rattle.library_client_words.proofs.Laws.{unpack-of}
+use mathlib.Core.Path.{◌≡◌}
 use borrow.Author.Rules.{rules}
 use Rattle.library_client_words.proofs.client_words.unpack.Statement.{statement}
 use Rattle.library_client_words.proofs.client_words.unpack.Tie as tie
 
-array-read-t14 : tie.Need-array-read-t14
-array-read-t14 c = search rules
+array-read-t13 : tie.Need-array-read-t13
+array-read-t13 c = search rules
 
 array-read-job-of : tie.Need-array-read-job-of
 array-read-job-of c = search rules
@@ -17,62 +17,62 @@ array-read-job-of-2 c = search rules
 array-read-job-of-3 : tie.Need-array-read-job-of-3
 array-read-job-of-3 c = search rules
 
-array-read-t26 : tie.Need-array-read-t26
-array-read-t26 c = search rules
+array-read-t25 : tie.Need-array-read-t25
+array-read-t25 c = search rules
 
-array-read-t29 : tie.Need-array-read-t29
-array-read-t29 c = search rules
+array-read-t28 : tie.Need-array-read-t28
+array-read-t28 c = search rules
 
-array-read-t32 : tie.Need-array-read-t32
-array-read-t32 c = search rules
+array-read-t31 : tie.Need-array-read-t31
+array-read-t31 c = search rules
 
-array-read-t35 : tie.Need-array-read-t35
-array-read-t35 c = search rules
+array-read-t34 : tie.Need-array-read-t34
+array-read-t34 c = search rules
 
-array-read-t38 : tie.Need-array-read-t38
-array-read-t38 c = search rules
+array-read-t37 : tie.Need-array-read-t37
+array-read-t37 c = search rules
 
-array-read-t41 : tie.Need-array-read-t41
-array-read-t41 c = search rules
+array-read-t40 : tie.Need-array-read-t40
+array-read-t40 c = search rules
 
 array-read-job-of-4 : tie.Need-array-read-job-of-4
 array-read-job-of-4 c = search rules
 
-array-read-t47 : tie.Need-array-read-t47
-array-read-t47 c = search rules
+array-read-t46 : tie.Need-array-read-t46
+array-read-t46 c = search rules
 
-array-read-t50 : tie.Need-array-read-t50
-array-read-t50 c = search rules
+array-read-t49 : tie.Need-array-read-t49
+array-read-t49 c = search rules
 
-array-read-t53 : tie.Need-array-read-t53
-array-read-t53 c = search rules
+array-read-t52 : tie.Need-array-read-t52
+array-read-t52 c = search rules
 
-array-read-t56 : tie.Need-array-read-t56
-array-read-t56 c = search rules
+array-read-t55 : tie.Need-array-read-t55
+array-read-t55 c = search rules
 
-array-read-t59 : tie.Need-array-read-t59
-array-read-t59 c = search rules
+array-read-t58 : tie.Need-array-read-t58
+array-read-t58 c = search rules
 
 sessions-in-requires : tie.Need-sessions-in-requires
 sessions-in-requires c κs = search rules
 
-array-read-t14-2 : tie.Need-array-read-t14-2
-array-read-t14-2 c = search rules
+array-read-t13-2 : tie.Need-array-read-t13-2
+array-read-t13-2 c = search rules
 
-array-read-t59-2 : tie.Need-array-read-t59-2
-array-read-t59-2 c = search rules
+array-read-t58-2 : tie.Need-array-read-t58-2
+array-read-t58-2 c = search rules
 
-array-read-t56-2 : tie.Need-array-read-t56-2
-array-read-t56-2 c = search rules
+array-read-t55-2 : tie.Need-array-read-t55-2
+array-read-t55-2 c = search rules
 
-array-read-t53-2 : tie.Need-array-read-t53-2
-array-read-t53-2 c = search rules
+array-read-t52-2 : tie.Need-array-read-t52-2
+array-read-t52-2 c = search rules
 
-array-read-t50-2 : tie.Need-array-read-t50-2
-array-read-t50-2 c = search rules
+array-read-t49-2 : tie.Need-array-read-t49-2
+array-read-t49-2 c = search rules
 
-array-read-t47-2 : tie.Need-array-read-t47-2
-array-read-t47-2 c = search rules
+array-read-t46-2 : tie.Need-array-read-t46-2
+array-read-t46-2 c = search rules
 
 array-read-job-of-5 : tie.Need-array-read-job-of-5
 array-read-job-of-5 c = search rules
@@ -116,39 +116,39 @@ array-read-low16-2 c = search rules
 low16-requires-2 : tie.Need-low16-requires-2
 low16-requires-2 c κs = search rules
 
-array-read-t50-3 : tie.Need-array-read-t50-3
-array-read-t50-3 c = search rules
+array-read-t49-3 : tie.Need-array-read-t49-3
+array-read-t49-3 c = search rules
 
 returns : tie.Need-returns
-returns c = let ws = c.before.before.before.before.before.before.before.args.t1 in let h : length ws ≡ 32 = search rules in unpack-of ws _ _ _ _ _ _ h c.before.before.before.before.before.before.sessions-in.ensures c.before.before.before.before.Job-of.ensures c.before.before.before.low32.ensures c.before.before.low322.ensures c.before.low16.ensures c.low162.ensures
+returns c = let ws = c.before.before.before.before.before.before.args.t1 in let h : length ws ≡ 32 = search rules in unpack-of ws _ _ _ _ _ _ h c.before.before.before.before.before.sessions-in.ensures c.before.before.before.before.Job-of.ensures c.before.before.before.low32.ensures c.before.before.low322.ensures c.before.low16.ensures c.low162.ensures
 
 pub unpack-spec : {M : Type 1} → statement M
 unpack-spec =
     tie.close
     (tie.spec
-    array-read-t14
+    array-read-t13
     array-read-job-of
     array-read-job-of-2
     array-read-job-of-3
-    array-read-t26
-    array-read-t29
-    array-read-t32
-    array-read-t35
-    array-read-t38
-    array-read-t41
+    array-read-t25
+    array-read-t28
+    array-read-t31
+    array-read-t34
+    array-read-t37
+    array-read-t40
     array-read-job-of-4
-    array-read-t47
-    array-read-t50
-    array-read-t53
-    array-read-t56
-    array-read-t59
+    array-read-t46
+    array-read-t49
+    array-read-t52
+    array-read-t55
+    array-read-t58
     sessions-in-requires
-    array-read-t14-2
-    array-read-t59-2
-    array-read-t56-2
-    array-read-t53-2
-    array-read-t50-2
-    array-read-t47-2
+    array-read-t13-2
+    array-read-t58-2
+    array-read-t55-2
+    array-read-t52-2
+    array-read-t49-2
+    array-read-t46-2
     array-read-job-of-5
     array-read-job-of-6
     array-read-job-of-7
@@ -163,5 +163,5 @@ unpack-spec =
     low16-requires
     array-read-low16-2
     low16-requires-2
-    array-read-t50-3
+    array-read-t49-3
     returns)

@@ -44,7 +44,7 @@ loop-less c = search rules
 
 -- src/lib.rt:84:5
 loop-again : tie.Need-loop-preserved invariant-loop decreases-loop
-loop-again c = let k = c.before.before.before.loop in let n : k.j < length k.words = omega (arith, k.invariant.1.0) in (search rules, (length-set k.words k.j c.word-at.result ∙ k.invariant.1.0, words_more k.words c.before.before.before.before.before.args.map.now k.j c.word-at.result n k.invariant.1.1 c.word-at.ensures))
+loop-again c = let k = c.before.before.before.loop in let n : k.j < length k.words = omega (arith, k.invariant.1.0) in (search rules, (length-set k.words k.j c.word_at.result ∙ k.invariant.1.0, words_more k.words c.before.before.before.before.before.args.map.now k.j c.word_at.result n k.invariant.1.1 c.word_at.ensures))
 
 -- src/lib.rt:79:1
 returns : tie.Need-returns invariant-loop decreases-loop

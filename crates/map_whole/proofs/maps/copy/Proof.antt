@@ -14,8 +14,8 @@ invariant-loop map₀ other end i₀ map i = (i ≤ end) × (map ≡ replaced 0 
 abbrev decreases-loop : tie.decreases-loop
 decreases-loop map₀ other end i₀ map i = end - i
 
-least-size-requires : tie.Need-least-size-requires invariant-loop decreases-loop
-least-size-requires c κs = search rules
+least-requires : tie.Need-least-requires invariant-loop decreases-loop
+least-requires c κs = search rules
 
 loop-holds : tie.Need-loop-init invariant-loop decreases-loop
 loop-holds c = (search rules, sym (over_none _ _ _), refl)
@@ -40,7 +40,7 @@ same_length c = c.before.loop.invariant.2
 
 returns : tie.Need-returns invariant-loop decreases-loop
 unfolding copied
-returns c = over_done _ _ _ _ _ _ c.before.loop.invariant.1 (let q : c.before.loop.i ≡ c.before.before.least_size.result = omega arith in q ∙ c.before.before.least_size.ensures)
+returns c = over_done _ _ _ _ _ _ c.before.loop.invariant.1 (let q : c.before.loop.i ≡ c.before.before.least.result = omega arith in q ∙ c.before.before.least.ensures)
 
 pub copy_spec : {M : Type 1} → statement M
 copy_spec =
@@ -48,7 +48,7 @@ copy_spec =
     (tie.spec
     invariant-loop
     decreases-loop
-    least-size-requires
+    least-requires
     loop-holds
     shared-slice-read-map
     slice-write-map

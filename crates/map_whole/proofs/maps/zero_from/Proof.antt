@@ -14,8 +14,8 @@ invariant-loop map₀ a e end i₀ map i = (a ≤ i) × (i ≤ max a end) × (ma
 abbrev decreases-loop : tie.decreases-loop
 decreases-loop map₀ a e end i₀ map i = end - i
 
-least-size-requires : tie.Need-least-size-requires invariant-loop decreases-loop
-least-size-requires c κs = search rules
+least-requires : tie.Need-least-requires invariant-loop decreases-loop
+least-requires c κs = search rules
 
 loop-holds : tie.Need-loop-init invariant-loop decreases-loop
 loop-holds c = (search rules, omega arith, sym (over_none _ _ _), refl)
@@ -37,7 +37,7 @@ same_length c = c.before.loop.invariant.3
 
 returns : tie.Need-returns invariant-loop decreases-loop
 unfolding zero_from
-returns c = over-end _ _ _ _ _ _ c.before.loop.invariant.2 c.before.loop.invariant.0 (rw (← c.before.before.least_size.ensures) c.before.loop.invariant.1) (rw (← c.before.before.least_size.ensures) c.loop-test.false)
+returns c = over-end _ _ _ _ _ _ c.before.loop.invariant.2 c.before.loop.invariant.0 (rw (← c.before.before.least.ensures) c.before.loop.invariant.1) (rw (← c.before.before.least.ensures) c.loop-test.false)
 
 pub zero-from-spec : {M : Type 1} → statement M
 zero-from-spec =
@@ -45,7 +45,7 @@ zero-from-spec =
     (tie.spec
     invariant-loop
     decreases-loop
-    least-size-requires
+    least-requires
     loop-holds
     slice-write-map
     add-i

@@ -23,11 +23,11 @@ returns c =
     let f : ℕ → ℕ → ℕ = λ k x. bit_or x (get_or a.part.now (k - a.offset) 0) in
     over-end a.offset a.offset (a.offset + length a.part.now) f a.map.now a.map.now (sym (over_none a.offset f a.map.now)) (omega arith) (omega arith) (omega arith)
 
-sub-least-size : tie.Need-overflow-sub-least-size invariant-loop decreases-loop
-sub-least-size c = search rules
+sub-least : tie.Need-overflow-sub-least invariant-loop decreases-loop
+sub-least c = search rules
 
-least-size-requires : tie.Need-least-size-requires invariant-loop decreases-loop
-least-size-requires c κs = search rules
+least-requires : tie.Need-least-requires invariant-loop decreases-loop
+least-requires c κs = search rules
 
 add-end : tie.Need-overflow-add-end invariant-loop decreases-loop
 add-end c = search rules
@@ -72,8 +72,8 @@ or-part-spec =
     invariant-loop
     decreases-loop
     returns
-    sub-least-size
-    least-size-requires
+    sub-least
+    least-requires
     add-end
     loop-holds
     slice-read-map

@@ -3,6 +3,9 @@ use borrow.Author.Rules.{rules}
 use Rattle.client_remove.proofs.removal.remove.remove_refusal.Statement.{statement}
 use Rattle.client_remove.proofs.removal.remove.remove_refusal.Tie as tie
 
+valid-requires : tie.Need-valid-requires
+valid-requires c κs = search rules
+
 is-idle-requires : tie.Need-is-idle-requires
 is-idle-requires c κs = search rules
 
@@ -27,14 +30,29 @@ first-requires-3 c κs = search rules
 first-requires-4 : tie.Need-first-requires-4
 first-requires-4 c κs = search rules
 
-lent-requires : tie.Need-lent-requires
-lent-requires c κs = search rules
+first-requires-5 : tie.Need-first-requires-5
+first-requires-5 c κs = search rules
+
+first-requires-6 : tie.Need-first-requires-6
+first-requires-6 c κs = search rules
 
 returns : tie.Need-returns
 unfolding remove_refusal
-returns c = rw (c.lent.ensures, c.before.first4.ensures, c.before.before.first3.ensures, c.before.before.before.first2.ensures, c.before.before.before.before.first.ensures, c.before.before.before.before.before.other-mode.ensures, c.before.before.before.before.before.before.is_free.ensures, c.before.before.before.before.before.before.before.state-of.ensures, c.before.before.before.before.before.before.before.before.is-idle.ensures)
+returns c = rw (c.first6.ensures, c.before.first5.ensures, c.before.before.first4.ensures, c.before.before.before.first3.ensures, c.before.before.before.before.first2.ensures, c.before.before.before.before.before.first.ensures, c.before.before.before.before.before.before.other-mode.ensures, c.before.before.before.before.before.before.before.is_free.ensures, c.before.before.before.before.before.before.before.before.state-of.ensures, c.before.before.before.before.before.before.before.before.before.is-idle.ensures, c.before.before.before.before.before.before.before.before.before.before.valid.ensures)
 
 pub remove-refusal-spec : {M : Type 1} → statement M
 remove-refusal-spec =
     tie.close
-    (tie.spec is-idle-requires state-of-requires is-free-requires other-mode-requires first-requires first-requires-2 first-requires-3 first-requires-4 lent-requires returns)
+    (tie.spec
+    valid-requires
+    is-idle-requires
+    state-of-requires
+    is-free-requires
+    other-mode-requires
+    first-requires
+    first-requires-2
+    first-requires-3
+    first-requires-4
+    first-requires-5
+    first-requires-6
+    returns)

@@ -1,0 +1,57 @@
+// The lab's maps: those of one kind stand one after another in a buffer, and of each the first bytes are lent, as many as the lab says.
+ghost use Rattle.std.specs.Prelude.{◌≡◌};
+ghost use Rattle.event_ask.specs.Lending.{cut, size_of, Stands};
+
+// How many bytes are lent: of the client's map, of each node's map, of each node's staging map. More than a map has is all of it.
+#[derive(Clone, Copy)]
+pub struct Lent {
+    pub own: u64,
+    pub maps: [u64; 16],
+    pub stagings: [u64; 16],
+}
+
+// So many bytes of a map, or all of it.
+pub fn cut(n: u64) -> usize
+    ensures { result ≡ cut n }
+{
+    if (map_numbers::refusals::MAP_BYTES as u64) < n {
+        return map_numbers::refusals::MAP_BYTES;
+    }
+    n as usize
+}
+
+// How much of map k is lent; nothing where there is none.
+pub fn size(sizes: [u64; 16], k: u64) -> usize
+    ensures { result ≡ size_of sizes k }
+{
+    if 15 < k {
+        return 0;
+    }
+    let i = k as usize;
+    cut(sizes[i])
+}
+
+// A part of a buffer.
+#[derive(Clone, Copy)]
+pub struct Span {
+    pub from: usize,
+    pub to: usize,
+}
+
+// The first n bytes of map k in a buffer of len bytes, as far as it goes.
+pub fn find(len: usize, k: u64, n: usize) -> Span
+    ensures { Stands len k n result }
+{
+    let maps = (len / map_numbers::refusals::MAP_BYTES) as u64;
+    if maps < k {
+        return Span { from: len, to: len };
+    }
+    let at = map_numbers::refusals::MAP_BYTES * (k as usize);
+    if len - at < n {
+        return Span { from: at, to: len };
+    }
+    Span {
+        from: at,
+        to: at + n,
+    }
+}

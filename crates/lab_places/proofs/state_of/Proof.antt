@@ -1,0 +1,21 @@
+use borrow.Author.Tests.{eq-eqb, ne_eqb}
+use Rattle.lab_places.proofs.state_of.Statement.{statement}
+use Rattle.lab_places.proofs.state_of.Tie as tie
+
+returns : tie.Need-returns
+returns c = simp (eq-eqb _ _ c.if1.true)
+
+returns-2 : tie.Need-returns-2
+returns-2 c = simp (eq-eqb _ _ c.if2.true, ne_eqb _ _ c.before.if1.false)
+
+returns-3 : tie.Need-returns-3
+returns-3 c = simp (eq-eqb _ _ c.if3.true, ne_eqb _ _ c.before.if2.false, ne_eqb _ _ c.before.before.if1.false)
+
+returns-4 : tie.Need-returns-4
+returns-4 c = simp (eq-eqb _ _ c.if4.true, ne_eqb _ _ c.before.if3.false, ne_eqb _ _ c.before.before.if2.false, ne_eqb _ _ c.before.before.before.if1.false)
+
+returns-5 : tie.Need-returns-5
+returns-5 c = simp (ne_eqb _ _ c.if4.false, ne_eqb _ _ c.before.if3.false, ne_eqb _ _ c.before.before.if2.false, ne_eqb _ _ c.before.before.before.if1.false)
+
+pub state-of-spec : {M : Type 1} → statement M
+state-of-spec = tie.close (tie.spec returns returns-2 returns-3 returns-4 returns-5)

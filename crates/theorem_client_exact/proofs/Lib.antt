@@ -1,9 +1,0 @@
-pub mod Accepted
-pub mod AtReached
-pub mod Became
-pub mod Checks
-pub mod Clean
-pub mod Demands
-pub mod Fields
-pub mod StateRules
-pub mod Tells

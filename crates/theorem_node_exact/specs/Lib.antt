@@ -1,5 +1,0 @@
-pub mod Fields
-pub mod Numbers
-pub mod Questions
-pub mod When
-pub mod Words

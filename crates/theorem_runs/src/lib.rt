@@ -1,2 +1,0 @@
-// No code: recovery runs, removals and jobs, sentence by sentence.
-#![tactic(auto)]
