@@ -1,0 +1,16 @@
+use Rattle.laws_words.specs.Tests.{one-le}
+use borrow.Author.Rules.{rules}
+use Rattle.rules_base.proofs.Sets.{count_to-le}
+use Rattle.rules_base.specs.Sets.{has, count_to, size}
+use native.Mathlib.Numerals.{add-one}
+use Prim.Native.Nat.{◌-◌, ◌≤◌}
+use native.Mathlib.Omega.{arith}
+use mathlib.Core.Path.{◌≡◌, refl}
+use Rattle.map_numbers.proofs.sets.size.Goals as goal
+
+pub returns : goal.returns
+unfolding size
+returns c = record {
+  value = let e : c.loop-i.i ≡ 16 = omega arith in rw e at c.loop-i.invariant.1;
+  upper_bound = omega (arith, c.loop-i.invariant.1, count_to-le (has c.args.set) c.loop-i.i);
+}

@@ -1,0 +1,14 @@
+use Prim.Native.Nat.{◌-◌}
+use mathlib.Core.Path.{◌≡◌, refl, sym, ap, ◌∙◌}
+use borrow.Author.Rules.{rules}
+use lib.ListN.{length}
+use Rattle.text_bytes.specs.Ink.{ink, emits}
+use Rattle.text_bytes.proofs.Laws.{Rest, rest-start, rest_more, rest-done, emits-more, emits-end, emit-length}
+use Rattle.text_bytes.proofs.put_bytes.Goals as goal
+
+pub loop-i-preserved : goal.loop-i-preserved
+loop-i-preserved c = let k = c.loop-i in
+    (ap (λ x. length x.buf) c.put-to.ensures ∙ emit-length _ _ ∙ k.invariant.0, rest_more _ k.invariant.1 (search rules) (emits-more _ _ _ c.put-to.ensures))
+
+pub returns : goal.returns
+returns c = sym (emits-end _) ∙ rest-done c.loop-i.invariant.1 (search rules)
