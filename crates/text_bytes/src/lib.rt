@@ -1,6 +1,8 @@
 // Numbers read from bytes, bytes compared, and bytes and numbers put into a lent buffer.
 #![tactic(auto)]
 
+pub mod failing;
+
 ghost use Rattle.std.specs.Prelude.{◌≡◌};
 ghost use Rattle.text_bytes.specs.Numbers.{digit_of, num_of};
 ghost use Rattle.text_bytes.specs.Bytes.{eq_bytes};

@@ -2,6 +2,9 @@
 ghost use Rattle.std.specs.Prelude.{◌≡◌};
 ghost use Rattle.text_words.specs.Fetching.{started, next_line};
 
+use std::io;
+use std::io::Read;
+
 // Where the reading stands: the bytes of buf from pos up to end are not looked at yet; len bytes of the line are taken, 256 where there were more than 255.
 #[derive(Clone, Copy)]
 pub struct Cur {
@@ -43,24 +46,23 @@ pub fn fresh(c: Cur) -> Cur
 }
 
 // Takes bytes up to the line's end; reads where none is left.
-pub fn fetch(c: Cur, buf: &mut [u8], line: &mut [u8]) -> Cur {
+pub fn fetch(input: &mut impl Read, c: Cur, buf: &mut [u8], line: &mut [u8]) -> io::Result<Cur> {
     let pos = c.pos;
     let end = c.end;
     let len = c.len;
     if pos < end {
-        return scan(pos, end, len, buf, line);
+        return Ok(scan(pos, end, len, buf, line));
     }
-    let got = libc::read(0, buf);
-    let n = io::count(got, buf);
+    let n = input.read(buf)?;
     if n == 0 {
-        return Cur {
+        return Ok(Cur {
             pos: 0,
             end: 0,
             len: len,
             kind: Got::End,
-        };
+        });
     }
-    scan(0, n, len, buf, line)
+    Ok(scan(0, n, len, buf, line))
 }
 
 fn scan(pos: usize, end: usize, len: usize, buf: &[u8], line: &mut [u8]) -> Cur {

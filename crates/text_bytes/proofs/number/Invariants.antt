@@ -1,9 +1,7 @@
 use Prim.Native.Nat.{◌-◌}
-use mathlib.Core.Path.{sym, ◌∙◌}
-use borrow.Author.Rules.{rules}
 use lib.ListN.{length}
 use Rattle.text_bytes.specs.Numbers.{num_from, num_of}
-use Rattle.text_bytes.proofs.Laws.{Rest, rest-start, rest_more, rest-stop, rest-done, num-more, num-bad, num-end, num-of, num-none}
+use Rattle.text_bytes.proofs.Laws.{Rest}
 use Rattle.text_bytes.proofs.number.Given as goal
 
 abbrev pub invariant-loop-i : goal.invariant-loop-i

@@ -1,4 +1,3 @@
-use borrow.Author.Rules.{rules}
 use borrow.Author.Tests.{lt-ltb, le-ltb}
 use Rattle.text_bytes.specs.Ink.{emit}
 use Rattle.text_bytes.proofs.put.Goals as goal

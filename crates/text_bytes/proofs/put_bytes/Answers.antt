@@ -1,9 +1,7 @@
-use Prim.Native.Nat.{◌-◌}
-use mathlib.Core.Path.{◌≡◌, refl, sym, ap, ◌∙◌}
+use mathlib.Core.Path.{sym, ap, ◌∙◌}
 use borrow.Author.Rules.{rules}
 use lib.ListN.{length}
-use Rattle.text_bytes.specs.Ink.{ink, emits}
-use Rattle.text_bytes.proofs.Laws.{Rest, rest-start, rest_more, rest-done, emits-more, emits-end, emit-length}
+use Rattle.text_bytes.proofs.Laws.{rest_more, rest-done, emits-more, emits-end, emit-length}
 use Rattle.text_bytes.proofs.put_bytes.Goals as goal
 
 pub loop-i-preserved : goal.loop-i-preserved

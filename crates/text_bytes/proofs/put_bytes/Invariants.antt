@@ -1,9 +1,8 @@
 use Prim.Native.Nat.{◌-◌}
-use mathlib.Core.Path.{◌≡◌, refl, sym, ap, ◌∙◌}
-use borrow.Author.Rules.{rules}
+use mathlib.Core.Path.{◌≡◌}
 use lib.ListN.{length}
 use Rattle.text_bytes.specs.Ink.{ink, emits}
-use Rattle.text_bytes.proofs.Laws.{Rest, rest-start, rest_more, rest-done, emits-more, emits-end, emit-length}
+use Rattle.text_bytes.proofs.Laws.{Rest}
 use Rattle.text_bytes.proofs.put_bytes.Given as goal
 
 abbrev pub invariant-loop-i : goal.invariant-loop-i

@@ -5,5 +5,5 @@ use Rattle.text_bytes.proofs.put_number.Goals as goal
 pub returns : goal.returns
 returns c = let k = c.decimal-k in
     let n = c.args.n in
-    let e = dec-of n k.result _ (search rules) k.ensures.1.0 k.ensures.1.1 in
-    rw (← e) c.put-bytes.ensures
+    let e = dec-of n k.result _ (search rules) k.ensures.len k.ensures.digits in
+    rw (← e) c.put_bytes.ensures

@@ -1,9 +1,6 @@
-use Prim.Native.Nat.{◌-◌}
-use mathlib.Core.Path.{◌≡◌, refl, sym, ◌∙◌}
+use mathlib.Core.Path.{sym, ◌∙◌}
 use borrow.Author.Rules.{rules}
-use lib.ListN.{length, drop}
-use Rattle.text_bytes.specs.Bytes.{eq_bytes}
-use Rattle.text_bytes.proofs.Laws.{Rest, rest-start, rest_more, rest-stop, rest-done, eq_with, eq-length, eq_no, eq-more, eq-end}
+use Rattle.text_bytes.proofs.Laws.{rest_more, rest-stop, rest-done, eq-length, eq_no, eq-more, eq-end}
 use Rattle.text_bytes.proofs.same.Goals as goal
 
 pub returns-then-n-t : goal.returns-then-n-t

@@ -1,9 +1,8 @@
 use Prim.Native.Nat.{◌-◌}
-use mathlib.Core.Path.{◌≡◌, refl, sym, ◌∙◌}
-use borrow.Author.Rules.{rules}
+use mathlib.Core.Path.{◌≡◌}
 use lib.ListN.{length, drop}
 use Rattle.text_bytes.specs.Bytes.{eq_bytes}
-use Rattle.text_bytes.proofs.Laws.{Rest, rest-start, rest_more, rest-stop, rest-done, eq_with, eq-length, eq_no, eq-more, eq-end}
+use Rattle.text_bytes.proofs.Laws.{Rest, eq_with}
 use Rattle.text_bytes.proofs.same.Given as goal
 
 abbrev pub invariant-loop-i : goal.invariant-loop-i
