@@ -12,9 +12,10 @@ import stat
 import subprocess
 import sys
 import tempfile
+import time
 
 from tools.check_times import seconds
-from tools.crates import ROOT, graph, made_of, under
+from tools.crates import ROOT, depths, graph, made_of
 
 TARGET = os.path.join(ROOT, "target")
 QUICK = os.path.join(TARGET, "quick")
@@ -44,20 +45,13 @@ def kit():
         said = subprocess.run(["rt", "doc"], stdout=subprocess.PIPE, check=True, universal_newlines=True).stdout
     except (OSError, subprocess.CalledProcessError):
         raise Wrong("the Rattle kit is not here: `rt` could not be run") from None
-    return os.path.dirname(os.path.dirname(said.split("\n")[0]))
-
-
-def own():
-    """What of the kit is for this processor: its programs, and the toolchain."""
-    there = os.path.join(kit(), "on", os.uname().machine)
-    return there if os.path.isdir(there) else kit()
+    return os.path.dirname(os.path.realpath(said.split("\n")[0]))
 
 
 def runner(path):
-    """The words that run a program: it is an x86-64 program; on another processor the kit's emulator runs it."""
-    tools = os.path.join(own(), "toolchain")
-    words = [os.path.join(tools, "lib", "ld-linux-x86-64.so.2"), "--library-path", os.path.join(tools, "lib"), path]
-    return words if os.uname().machine == "x86_64" else [os.path.join(tools, "bin", "qemu-x86_64")] + words
+    """The words that run a program, an x86-64 program, over the kit's C library."""
+    there = os.path.join(kit(), "toolchain", "lib")
+    return [os.path.join(there, "ld-linux-x86-64.so.2"), "--library-path", there, path]
 
 
 # What is newer.
@@ -93,56 +87,53 @@ def built_from(path, changed):
 
 # Compiled.
 
-# The compiler is told -O0 first, then -O3: the second link is the one to keep, and nothing more is wanted after it.
+# What `rt try` compiles and links, run with the checks that it puts into the code, and throws away: here it is compiled fast to run, without the memory checks that the compiler could put in besides, and kept.
 CLANG = """#!/bin/sh
-case " $* " in *" -O3 "*) : >"{mine}/o3" ;; esac
-exec "{tools}/bin/clang" "$@"
+for word; do
+	shift
+	case $word in -fsanitize=address) ;; -O0) set -- "$@" -O1 ;; *) set -- "$@" "$word" ;; esac
+done
+exec "{kit}/toolchain/bin/clang" "$@"
 """
 LINKER = """#!/bin/sh
-"{tools}/bin/ld.lld" "$@" || exit
-[ -e "{mine}/o3" ] || exit 0
+"{kit}/toolchain/bin/ld.lld" "$@" || exit
 while [ $# -gt 1 ]; do [ "$1" != -o ] || cp "$2" "{mine}/program"; shift; done
 exit 1
 """
+# `rt try` also looks whether a name of the crate is reserved; `rt check` says that.
+RATTLE = """#!/bin/sh
+case " $* " in *" --start "*) exit 1 ;; esac
+exec "{kit}/bin/rattle" "$@"
+"""
+EMPTY_ARCHIVE = "!<arch>\n"
+OTHER = {"toolchain/bin/clang": CLANG, "toolchain/bin/ld.lld": LINKER, "bin/rattle": RATTLE, "c/asan.a": EMPTY_ARCHIVE}
+COPIED = ("bin/rt", "bin/rtlib.py")  # they look for the kit from where they are
 
 
-def toolchain(mine):
-    """A folder like the kit's toolchain, but for a compiler and a linker that keep what `rt try` would throw away."""
-    tools = os.path.join(own(), "toolchain")
-    os.mkdir(os.path.join(mine, "bin"))
-    os.symlink(os.path.join(tools, "lib"), os.path.join(mine, "lib"))
-    for name in os.listdir(os.path.join(tools, "bin")):
-        path, text = os.path.join(mine, "bin", name), {"clang": CLANG, "ld.lld": LINKER}.get(name)
-        if text is None:
-            os.symlink(os.path.join(tools, "bin", name), path)
-            continue
-        with open(path, "w", encoding="utf-8") as f:
-            f.write(text.format(mine=mine, tools=tools))
-        os.chmod(path, 0o755)
-
-
-def library(name):
-    """Where a library's source is: in the repository, or in the kit."""
-    own_source = os.path.join(ROOT, "crates", name, "src", "lib.rt")
-    return own_source if os.path.exists(own_source) else os.path.join(kit(), "libs", name, "src", "lib.rt")
-
-
-def compiler_words(name, mine):
-    reached = sorted(under([name], graph()) - {name})
-    words = [os.path.join(own(), "bin", "rattle-cases"), "--toolchain", mine, "--stdin", os.devnull]
-    if "os" in reached:
-        words += ["--link", os.path.join(kit(), "lib", "libos_c.a")]  # what the kit's os calls in C
-    words += [os.path.join(ROOT, "crates", name, "src", "main.rt"), "--crate-name", name]
-    for used in ["std"] + reached:
-        words += ["--lib", "%s=%s" % (used, library(used))]
-    return words
+def kit_of_our_own(mine):
+    """A folder like the kit, but for a compiler and a linker that keep what `rt try` would throw away."""
+    for folder in {os.path.dirname(path) for path in OTHER}:
+        os.makedirs(os.path.join(mine, folder))
+    for folder in ("", "bin", "c", "toolchain", "toolchain/bin"):
+        for name in os.listdir(os.path.join(kit(), folder)):
+            path = os.path.join(folder, name)
+            there, here = os.path.join(kit(), path), os.path.join(mine, path)
+            if path in OTHER:
+                with open(here, "w", encoding="utf-8") as f:
+                    f.write(OTHER[path].format(kit=kit(), mine=mine))
+                os.chmod(here, 0o755)
+            elif path in COPIED:
+                shutil.copy(there, here)
+            elif not os.path.isdir(here):
+                os.symlink(there, here)
 
 
 def compile_quickly(name, changed):
     """Compiles a program as `rt try` does, with no proof, and keeps it as target/quick/NAME."""
     with tempfile.TemporaryDirectory(dir=QUICK, prefix=name + ".") as mine:
-        toolchain(mine)
-        done = subprocess.run(compiler_words(name, mine), cwd=mine, stdin=subprocess.DEVNULL, stdout=subprocess.PIPE, stderr=subprocess.STDOUT, universal_newlines=True, errors="replace")
+        kit_of_our_own(mine)
+        done = subprocess.run([sys.executable, "-B", os.path.join(mine, "bin", "rt"), "try", "--steps", "1"], cwd=os.path.join(ROOT, "crates", name), stdin=subprocess.DEVNULL,
+                              stdout=subprocess.PIPE, stderr=subprocess.STDOUT, universal_newlines=True, errors="replace")
         made = os.path.join(mine, "program")
         if not os.path.exists(made):
             sys.stderr.write("".join(line + "\n" for line in done.stdout.split("\n")[-20:] if line))
@@ -166,13 +157,10 @@ def compiled(name, changed):
 
 # Proved.
 
-WAITED = 1.4  # the last crates stand one on the other, and one processor is idle: 12 minutes for the lab on two
-
-
 def minutes(names):
-    """How long a proof from nothing takes on this machine, by the times of the last whole run of the gate."""
+    """How long a proof from nothing takes, by the times of docs/CHECK-TIMES.md: the crates are proved one after the other."""
     times = seconds()
-    count = math.ceil(WAITED * sum(times.get(crate, 0) for crate in made_of(names, graph())) / 60 / cores())
+    count = math.ceil(sum(times.get(crate, 0) for crate in made_of(names, graph())) / 60)
     return "%d minute%s" % (count, "" if count == 1 else "s")
 
 
@@ -180,43 +168,73 @@ def cores():
     return len(os.sched_getaffinity(0))
 
 
+def in_turn(names):
+    """The crates that these are made of, each after those that it rests on."""
+    depth = depths(graph())
+    return sorted(made_of(names, graph()), key=depth.get)
+
+
+def made_by_rt(crate, file):
+    """A file that rt leaves with a crate: the program NAME, the archive libNAME.a."""
+    return os.path.join(ROOT, "crates", crate, "out", file)
+
+
+def prove_crate(crate, log):
+    """Whether a crate is proved. A library is built for those above it, a static one as an archive; a program is built and run once, on nothing, since rt builds none without running it."""
+    folder = os.path.join(ROOT, "crates", crate)
+    is_program = os.path.exists(os.path.join(folder, "src", "main.rt"))
+    began = time.monotonic()
+    done = subprocess.run(["rt", "run" if is_program else "lib"], cwd=folder, stdin=subprocess.DEVNULL, stdout=subprocess.PIPE, stderr=subprocess.STDOUT, universal_newlines=True, errors="replace")
+    log.write(done.stdout)
+    proved = "rt: running out/%s;" % crate in done.stdout if is_program else not done.returncode
+    log.write("%s %s (%d s)\n" % (crate, "proved" if proved else "not proved", round(time.monotonic() - began)))
+    log.flush()
+    return proved
+
+
 def prove(what, names):
-    """Proves crates and all they rest on, and says how far it is. Checks that are started together are waited for together, so four are started at a time even on two processors."""
-    crates, proved = made_of(names, graph()), 0
+    """Proves crates and all they rest on, and says how far it is."""
+    crates = in_turn(names)
     os.makedirs(TARGET, exist_ok=True)
     say(what, "proving %d crates, from nothing some %s" % (len(crates), minutes(names)))
     kit()
     with open(os.path.join(TARGET, what + ".log"), "w+", encoding="utf-8", errors="replace") as log:
-        with subprocess.Popen(["rt", "check"] + crates, cwd=ROOT, stdin=subprocess.DEVNULL, stdout=subprocess.PIPE, stderr=subprocess.STDOUT, universal_newlines=True, errors="replace",
-                              env=dict(os.environ, RT_JOBS=os.environ.get("RT_JOBS", "4"))) as rt:
-            for line in rt.stdout:
-                log.write(line)
-                found = re.match(r"rt: (\w+) proved", line)
-                if found:
-                    proved += 1
-                    say(what, "crate %d of %d: %s" % (proved, len(crates), found.group(1)))
-        if rt.returncode:
-            log.seek(0)
-            sys.stderr.writelines(log.readlines()[-20:])
-            say(what, "NOT PROVED (target/%s.log has all of it)" % what)
-    return rt.returncode == 0
+        for k, crate in enumerate(crates, 1):
+            if not prove_crate(crate, log):
+                log.seek(0)
+                sys.stderr.writelines(log.readlines()[-20:])
+                say(what, "NOT PROVED (target/%s.log has all of it)" % what)
+                return False
+            say(what, "crate %d of %d: %s" % (k, len(crates), crate))
+    return True
 
 
 def proved_program(name):
     return os.path.join(TARGET, "bin", name)
 
 
+def stamp_of(name):
+    """A file that is there where the proved program is one that rt passed."""
+    return os.path.join(TARGET, "stamp", name)
+
+
 def is_proved(name, changed):
-    """Whether the proved program is there and as new as its sources. rt leaves the stamp where it also wrote what it has to."""
-    return is_new(proved_program(name), changed) and os.path.exists(os.path.join(TARGET, "stamp", name))
+    """Whether the proved program is there and as new as its sources."""
+    return is_new(proved_program(name), changed) and os.path.exists(stamp_of(name))
 
 
 def prove_program(name):
     """What `./NAME --prove` does; the exit status."""
     changed = sources_changed([name])
+    for path in (proved_program(name), stamp_of(name)):
+        os.makedirs(os.path.dirname(path), exist_ok=True)
     if not prove(name, [name]):
         return 1
-    built_from(proved_program(name), changed)  # rt leaves an unchanged program as it is, however new its sources look
+    mine = proved_program(name) + ".new"  # the old one may be running
+    shutil.copy(made_by_rt(name, name), mine)
+    built_from(mine, changed)
+    os.replace(mine, proved_program(name))
+    open(stamp_of(name), "w", encoding="utf-8").close()
     say(name, "proved: target/bin/%s is used from now on" % name)
     return 0
 

@@ -6,10 +6,8 @@ It is built by proving it: some minutes the first time, and whenever its sources
 """
 import os
 import shutil
-import subprocess
-import sys
 
-from programs.build import ROOT, TARGET, Wrong, built_from, is_new, prove, say, sources_changed
+from programs.build import ROOT, TARGET, Wrong, built_from, is_new, made_by_rt, prove, say, sources_changed
 
 THERE = os.path.join(TARGET, "library")
 HEADERS = ("munzolkheg.h", "lines.h")
@@ -20,18 +18,6 @@ def path_of(side):
     return os.path.join(THERE, "libmunzolkheg_%s.a" % side)
 
 
-def archive(side, crate):
-    """The archive of one side, made by proving its crate once more."""
-    with open(os.path.join(TARGET, "library.log"), "a+", encoding="utf-8", errors="replace") as log:
-        done = subprocess.run(["rt", "staticlib", crate], cwd=ROOT, stdin=subprocess.DEVNULL, stdout=log, stderr=subprocess.STDOUT)
-        if done.returncode:
-            log.seek(0)
-            sys.stderr.writelines(log.readlines()[-20:])
-            return False
-    shutil.copy(os.path.join(TARGET, "staticlib", "lib%s.a" % crate), path_of(side))
-    return True
-
-
 def build(sides):
     """Whether these archives were proved and made."""
     changed = sources_changed([SIDES[side] for side in sides])
@@ -39,8 +25,7 @@ def build(sides):
         return False
     for k, side in enumerate(sides, 1):
         say("library", "archive %d of %d: %s" % (k, len(sides), side))
-        if not archive(side, SIDES[side]):
-            return False
+        shutil.copy(made_by_rt(SIDES[side], "lib%s.a" % SIDES[side]), path_of(side))
         built_from(path_of(side), changed)
     return True
 

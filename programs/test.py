@@ -14,7 +14,7 @@ import tempfile
 import time
 
 from programs import audit, build
-from tools.crates import ROOT, graph, made_of
+from tools.crates import ROOT
 
 CASES = os.path.join(ROOT, "programs", "cases")
 NOT_PROVED = "compiled, not proved on this machine: ./%s --prove proves it ("
@@ -120,17 +120,17 @@ def try_reasons():
 
 RT = """#!/bin/sh
 # In the place of the kit's: proves nothing.
+crate=$(basename "$PWD")
 case $1 in
-check)
-	shift
-	for crate; do echo "rt: $crate proved (1 s)"; done
+lib | run)
 	[ -z "${FAILS-}" ] || { echo 'rt: some words'; exit 1; }
-	mkdir -p target/bin target/stamp
-	[ -e target/bin/$crate ] || cp target/quick/$crate target/bin/$crate || : # a library
-	: >target/stamp/$crate ;;
-staticlib)
-	mkdir -p target/staticlib
-	echo "$2" >target/staticlib/lib$2.a ;;
+	mkdir -p out
+	if [ $1 = run ]; then
+		[ -e out/$crate ] || cp ../../target/quick/$crate out/$crate
+		echo "rt: running out/$crate; and so on" >&2
+		exit 1 # the program's own
+	fi
+	echo $crate >out/lib$crate.a ;;
 *) exec %s "$@" ;;
 esac
 """
@@ -140,7 +140,7 @@ def try_built(name="compare"):
     """In a copy of the repository: compiled at the first use and said so; compiled anew after an edit; proved with progress, then used in silence; after an edit no more."""
     with tempfile.TemporaryDirectory() as folder:
         copy = os.path.join(folder, "copy")
-        shutil.copytree(ROOT, copy, symlinks=True, ignore=shutil.ignore_patterns(".git", "target", "docs/landings", "must-fail", "stdin", "stdout"))
+        shutil.copytree(ROOT, copy, symlinks=True, ignore=shutil.ignore_patterns(".git", "target", "out", "docs/landings", "must-fail", "stdin", "stdout"))
         os.mkdir(os.path.join(folder, "bin"))
         with open(os.path.join(folder, "bin", "rt"), "w", encoding="utf-8") as f:
             f.write(RT % shutil.which("rt"))
@@ -149,7 +149,7 @@ def try_built(name="compare"):
             f.write(bytes(8192))
         other = dict(os.environ, PATH=os.path.join(folder, "bin") + os.pathsep + os.environ["PATH"])
         quick, proved = (os.path.join(copy, "target", part, name) for part in ("quick", "bin"))
-        crates = made_of([name], graph())
+        crates = build.in_turn([name])
         source = os.path.join(copy, "crates", crates[0], "src", "lib.rt")
 
         def run(*words, **more):

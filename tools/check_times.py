@@ -1,30 +1,37 @@
-"""docs/CHECK-TIMES.md from the log of a whole run of the gate, and what the gate will take by it.
+"""docs/CHECK-TIMES.md from measured times, and what the gate will take by it.
 
-  { time .ci/run; } > LOG 2>&1; python3 -m tools.check_times LOG   writes the page
-  python3 -m tools.check_times estimate                             what the tree as it stands takes by the page's times, and a warning where that is beyond the budget
+  python3 -m tools.check_times measure >LOG   proves each crate from nothing and tries its must-fail edits, one after the other, on a copy of the tree: as long as a whole run of the gate, and longer
+  python3 -m tools.check_times LOG            writes the page
+  python3 -m tools.check_times estimate       what the tree as it stands takes by the page's times, and a warning where that is beyond the budget
 """
 import glob
 import os
 import re
+import resource
+import shutil
+import subprocess
 import sys
+import tempfile
+import time
 
-from tools.crates import ROOT
+from tools.crates import ROOT, depths, graph
 
 PAGE = os.path.join(ROOT, "docs", "CHECK-TIMES.md")
 BUDGET = 60  # minutes of CPU time
 UNKNOWN = 10  # seconds, of a crate that the page has not
 
-# Whole runs of the gate before the one whose log is read: what was in, crates and edits that passed, minutes and seconds, minutes of CPU time (0: not measured).
+# Whole runs of the gate, with an older kit: what was in, crates and edits that passed, minutes and seconds, minutes of CPU time (0: not measured).
 EARLIER = [
     ("the base as first proved", 176, "29:49", 0),
     ("document 01 to the letter, C-23, C-14; other checks beside it", 215, "44:25", 56),
     ("C-22, C-21, NBD, C-11, C-24", 286, "38:55", 62),
     ("C-12, C-13, C-19, C-20; other checks beside it", 330, "50:23", 79),
     ("C-17, C-16, C-18, C-15, the bench, the C library; other checks beside its first half hour", 480, "85:56", 139),
+    ("the rooms of the crates; alone", 224, "25:33", 40),
 ]
 
-# Measured apart: from nothing and alone on two cores.
-FIRST_ANSWER = "The first answer of `./lab` in a fresh clone: below 20 seconds, by the program compiled without proof. The proved lab from nothing (`RT_JOBS=4 rt check lab`, 45 crates): 12 minutes and 5 seconds, 17.5 minutes of CPU time; the last five crates stand one on the other."
+# Measured apart, with an older kit: from nothing and alone on two cores.
+FIRST_ANSWER = "The first answer of `./lab` in a fresh clone: below 20 seconds, by the program compiled without proof. The proved lab from nothing (45 crates): 12 minutes and 5 seconds, 17.5 minutes of CPU time; the last five crates stand one on the other."
 
 
 def lines(crate, folder, ending):
@@ -35,48 +42,67 @@ def lines(crate, folder, ending):
     return total
 
 
+def timed(words, folder):
+    """Seconds and seconds of CPU time of a command that has to pass."""
+    used = lambda: sum(resource.getrusage(resource.RUSAGE_CHILDREN)[:2])
+    began, before = time.monotonic(), used()
+    done = subprocess.run(words, cwd=folder, stdin=subprocess.DEVNULL, stdout=subprocess.PIPE, stderr=subprocess.STDOUT, universal_newlines=True, errors="replace")
+    if done.returncode:
+        sys.exit("check_times: %s in %s:\n%s" % (" ".join(words), folder, "\n".join(done.stdout.split("\n")[-20:])))
+    return round(time.monotonic() - began), round(used() - before)
+
+
+def measure():
+    uses = graph()
+    depth = depths(uses)
+    with tempfile.TemporaryDirectory() as tree:
+        shutil.copytree(os.path.join(ROOT, "crates"), os.path.join(tree, "crates"), ignore=shutil.ignore_patterns("out"))
+        shutil.copy(os.path.join(ROOT, "crates.txt"), tree)
+        for crate in sorted(uses, key=lambda c: (depth[c], c)):
+            folder = os.path.join(tree, "crates", crate)
+            is_program = os.path.exists(os.path.join(folder, "src", "main.rt"))
+            print("%s proved (%d s, %d s of CPU time)" % (crate, *timed(["rt", "check" if is_program else "lib"], folder)), flush=True)
+            count = len(glob.glob(os.path.join(folder, "must-fail", "*.edit")))
+            if count:
+                print("%s edits: %d (%d s, %d s of CPU time)" % (crate, count, *timed(["rt", "must-fail", crate, "--anew"], tree)), flush=True)
+
+
 def read(log):
-    """Of a log: each crate with its wall seconds, each edit with its own and where it was refused first, the last line, real and CPU seconds."""
-    proved = [(c, int(s)) for c, s in re.findall(r"^rt: (\w+) proved \((\d+) s\)", log, re.M)]
-    edits = [(c, n, at, int(s)) for c, n, at, s in re.findall(r"^rt: must-fail (\w+)/(\w+): refused.*?(?:first at ([^;]*); )?(\d+) s\)", log, re.M)]
-    ends = re.findall(r"^\d+ passed, \d+ failed$", log, re.M)
-    real = re.findall(r"^real\t(\d+)m([\d.]+)", log, re.M)
-    cpu = sum(60 * int(m) + float(t) for m, t in re.findall(r"^(?:user|sys)\t(\d+)m([\d.]+)", log, re.M))
-    if not ends or not real:
-        sys.exit("check_times: the log has no end of a run, or not its times")
-    return proved, edits, ends[-1], 60 * int(real[-1][0]) + float(real[-1][1]), cpu
+    """Of a log: the seconds of CPU time of each crate and of each crate's edits, and the wall seconds of all."""
+    proved = {c: int(cpu) for c, cpu in re.findall(r"^(\w+) proved \(\d+ s, (\d+) s of CPU time\)$", log, re.M)}
+    edits = {c: (int(n), int(cpu)) for c, n, cpu in re.findall(r"^(\w+) edits: (\d+) \(\d+ s, (\d+) s of CPU time\)$", log, re.M)}
+    if set(proved) != set(graph()):
+        sys.exit("check_times: the log has not the time of every crate")
+    return proved, edits, sum(int(wall) for wall in re.findall(r"\((\d+) s, \d+ s of CPU time\)$", log, re.M))
 
 
-def page(proved, edits, last, real, cpu):
-    share = cpu / max(1, sum(s for _, s in proved) + sum(e[3] for e in edits))  # several checks run at a time: each has its share of the CPU time by its wall time
-    spent = lambda s: max(1, round(s * share))
-    wall = "%d:%02d" % divmod(int(real), 60)
+def page(proved, edits, wall):
+    of_edits = sum(s for _, s in edits.values())
     out = [
         "# Check times",
         "",
         "**The gate's budget is %d minutes of CPU time.** The gate says at its start what the tree as it stands takes by the times below (`tools/check_times.py estimate`), and warns where that is beyond." % BUDGET,
         "",
-        "Made by `tools/check_times.py` from the log of a whole run of the gate, alone on two cores: `%s` after %s minutes, %d minutes of CPU time; %d minutes of them are proofs, %d must-fail edits." % (
-            last, wall, round(cpu / 60), round(sum(s for _, s in proved) * share / 60), round(sum(e[3] for e in edits) * share / 60)),
-        "Seconds are of CPU time: several checks run at a time, and each has its share of the whole by its wall time. Lines: code with contracts, definitions and statements, proofs and laws.",
+        "Made by `tools/check_times.py`: %d crates proved from nothing and %d must-fail edits tried, one after the other, took %d:%02d minutes, %d minutes of CPU time; %d minutes of them are proofs, %d must-fail edits." % (
+            len(proved), sum(n for n, _ in edits.values()), *divmod(wall, 60), round((sum(proved.values()) + of_edits) / 60), round(sum(proved.values()) / 60), round(of_edits / 60)),
+        "Seconds are of CPU time. Lines: code with contracts, definitions and statements, proofs and laws.",
         "",
-        "| whole runs of the gate | passed | minutes | CPU minutes |",
+        "| whole runs of the gate, with an older kit | passed | minutes | CPU minutes |",
         "|---|---|---|---|",
     ]
     out += ["| %s | %d | %s | %s |" % (what, passed, then, cpu_then or "") for what, passed, then, cpu_then in EARLIER]
-    out += ["| this one | %s | %s | %d |" % (last.split()[0], wall, round(cpu / 60)), ""]
+    out += [""]
     if FIRST_ANSWER:
         out += [FIRST_ANSWER, ""]
-    dear = sorted(proved, key=lambda c: -c[1])[:10]
-    out += ["The ten dearest crates: " + ", ".join("`%s` %d" % (c, spent(s)) for c, s in dear) + ".", ""]
-    dear = sorted(edits, key=lambda e: -e[3])[:10]
-    out += ["The ten dearest edits: " + ", ".join("`%s/%s` %d" % (c, n, spent(s)) for c, n, _, s in dear) + ".", ""]
+    dear = sorted(proved.items(), key=lambda c: -c[1])[:10]
+    out += ["The ten dearest crates: " + ", ".join("`%s` %d" % c for c in dear) + ".", ""]
+    dear = sorted(edits.items(), key=lambda e: -e[1][1] / e[1][0])[:10]
+    out += ["The ten crates with the dearest edits, each edit: " + ", ".join("`%s` %d" % (c, round(s / n)) for c, (n, s) in dear) + ".", ""]
     out += ["| crate | seconds | code | definitions | proofs | edits |", "|---|---|---|---|---|---|"]
-    for crate, s in proved:
-        count = sum(1 for e in edits if e[0] == crate)
-        out.append("| %s | %d | %d | %d | %d | %d |" % (crate, spent(s), lines(crate, "src", ".rt"), lines(crate, "specs", ".antt"), lines(crate, "proofs", ".antt"), count))
-    out += ["", "| must-fail edit | seconds | refused first at |", "|---|---|---|"]
-    out += ["| %s/%s | %d | %s |" % (c, n, spent(s), at) for c, n, at, s in edits]
+    for crate, s in proved.items():
+        out.append("| %s | %d | %d | %d | %d | %d |" % (crate, max(1, s), lines(crate, "src", ".rt"), lines(crate, "specs", ".antt"), lines(crate, "proofs", ".antt"), edits.get(crate, (0, 0))[0]))
+    out += ["", "| must-fail edits of | edits | seconds |", "|---|---|---|"]
+    out += ["| %s | %d | %d |" % (c, n, s) for c, (n, s) in edits.items()]
     return "\n".join(out) + "\n"
 
 
@@ -97,7 +123,7 @@ def estimate():
     proofs = sum(times.get(c, UNKNOWN) for c in crates)
     edits = sum(times.get(c, UNKNOWN) * len(glob.glob(os.path.join(ROOT, "crates", c, "must-fail", "*.edit"))) for c in crates)
     minutes = (proofs + edits) / 60
-    print("check_times: by the last whole run some %d minutes of CPU time, %d of proofs and %d of edits; the budget is %d" % (round(minutes), round(proofs / 60), round(edits / 60), BUDGET))
+    print("check_times: by the last times measured some %d minutes of CPU time, %d of proofs and %d of edits; the budget is %d" % (round(minutes), round(proofs / 60), round(edits / 60), BUDGET))
     if minutes > BUDGET:
         print("check_times: WARNING: beyond the budget: whoever adds pays by taking away (docs/ARCHITECTURE.md)")
 
@@ -107,6 +133,8 @@ def main():
         sys.exit(__doc__)
     if sys.argv[1] == "estimate":
         return estimate()
+    if sys.argv[1] == "measure":
+        return measure()
     with open(sys.argv[1], encoding="utf-8", errors="replace") as f:
         text = page(*read(f.read()))
     with open(PAGE, "w", encoding="utf-8") as f:

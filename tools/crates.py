@@ -8,15 +8,24 @@ import sys
 ROOT = os.path.dirname(os.path.dirname(os.path.abspath(__file__)))
 
 
-def graph(root=ROOT):
-    """Each crate with what it may use, the kit's libraries with them, in the order of crates.txt."""
-    found = {}
+def rows(root):
+    """Each line of crates.txt: a crate, whether it is a static library, and what it may use."""
     with open(os.path.join(root, "crates.txt"), encoding="utf-8") as f:
         for line in f:
             name, colon, rest = line.partition(":")
             if colon and not line.startswith("#"):
-                found[name.strip()] = rest.split()
-    return found
+                crate, *kind = name.split()
+                yield crate, kind == ["staticlib"], rest.split()
+
+
+def graph(root=ROOT):
+    """Each crate with what it may use, the kit's libraries with them, in the order of crates.txt."""
+    return {crate: uses for crate, _, uses in rows(root)}
+
+
+def statics(root=ROOT):
+    """The crates that are static libraries, in the order of crates.txt."""
+    return [crate for crate, is_static, _ in rows(root) if is_static]
 
 
 def under(names, uses):

@@ -15,12 +15,25 @@ from tools.check_times import seconds
 
 MOST_SECONDS = 20
 HEADER = re.compile(r"^[ \t]*(?:pub )?(?:extern \"C\" )?fn (\w+)", re.M)
-ENSURES = re.compile(r"ensures \{ λ (\w+)\. ⌜ (.*) ⌝ \}")
+ENSURES = re.compile(r"\bensures(?: \w+)? \{")
+EQUATION = re.compile(r"(?:result(?:\.now)?|\w+\.new) ≡ |ink \w+\.new |whole |outcome |\(result ≡ .* × \(\w+\.new ≡ ")
 
 
-def is_equation(name, fact):
+def facts(contract):
+    """What its clauses `ensures` say; a clause may stand on several lines."""
+    found = []
+    for head in ENSURES.finditer(contract):
+        end, depth = head.end(), 1
+        while depth:
+            depth += {"{": 1, "}": -1}.get(contract[end], 0)
+            end += 1
+        found.append(" ".join(contract[head.end(): end - 1].split()))
+    return found
+
+
+def is_equation(fact):
     """Whether a clause says what the result is, or what is left of a buffer."""
-    return fact.startswith((name + " ≡ ", f"now {name} ≡ ", "now (", "ink (", "whole ", "outcome ")) or fact.startswith("(" + name + " ≡ ") and " × (now (" in fact
+    return bool(EQUATION.match(fact))
 
 
 class Edit:
@@ -37,7 +50,7 @@ class Edit:
                 self.pairs.append((file, old))
         self.of_code = any(f.startswith("src/") for f, _ in self.pairs)
         self.function, self.contract = self.where() if self.of_code else ("", [])
-        self.beyond = self.of_code and any(not is_equation(n, f) for n, f in self.contract)
+        self.beyond = self.of_code and any(not is_equation(f) for f in self.contract)
 
     def where(self):
         """The function that the first text stands in, and its contract's clauses."""
@@ -51,7 +64,7 @@ class Edit:
             return "", []
         head = heads[-1]
         end = text.find("\n{\n", head.end()) if head.start() == text.rfind("\n", 0, head.start() + 1) + 1 and not head.group(0).startswith(" ") else text.find("\n    {\n", head.end())
-        return head.group(1), ENSURES.findall(text[head.end(): end if end > 0 else len(text)])
+        return head.group(1), facts(text[head.end(): end if end > 0 else len(text)])
 
 
 def edits(crates=None):
@@ -77,7 +90,7 @@ def main(words):
     if words[:1] == ["list"]:
         for e in edits(words[1:]):
             kind = "definition or statement" if not e.of_code else "code, beyond an equation" if e.beyond else "code"
-            print(f"{e.crate}/{e.name}: {kind}" + (f"; {e.function}: " + "; ".join(f for _, f in e.contract) if e.of_code else ""))
+            print(f"{e.crate}/{e.name}: {kind}" + (f"; {e.function}: " + "; ".join(e.contract) if e.of_code else ""))
         return 0
     if words == ["check"]:
         return check()

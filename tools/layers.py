@@ -3,16 +3,17 @@
   python3 -m tools.layers write   writes crates.txt: by room, in each lowest first and the slowest check first; and the table of crates in docs/ARCHITECTURE.md
   python3 -m tools.layers check   says whether both are those that this script makes, and whether each crate uses only what its room may; some 2 seconds
 
-A crate depends on those that it names, and, where it has code, on those of the types within the types that it names: the borrow checker wants them named.
+A crate depends on those that it names, and, where it has code, on those of the types within the types that it names: the borrow checker wants them named. Of a crate with code the check finds most proofs
+itself, in what crates.txt lists: what stands there besides is kept, if its room may use it. Any other crate lists what it names and nothing else.
 """
 import os
 import re
 import sys
 
-from tools.crates import ROOT, depths, graph
+from tools.crates import ROOT, depths, graph, statics
 from tools.check_times import seconds
 
-KIT = ("io", "libc", "os", "check", "bytes")
+KIT = ("io", "check", "bytes")
 
 # Each room: its crates (a prefix with _, or a name), what it holds, and the rooms that it may use beside itself.
 ROOMS = [
@@ -42,9 +43,11 @@ ROOMS = [
 PAGE = os.path.join(ROOT, "docs", "ARCHITECTURE.md")
 START, END = "| crate | what is there |\n", "\n<!-- end of the table -->"
 HEAD = "# Each crate, then what it uses. Made by tools/layers.py from what the crates name; what a room may use stands there.\n"
-PATH = re.compile(r"Rattle·([A-Za-z0-9_]+?)(?:·specs|·proofs)?\.(?:specs|proofs)")
+PATH = re.compile(r"Rattle\.([a-z0-9_]+)\.(?:specs|proofs)")
 NAMED = re.compile(r"(?<![\w:.])([a-z_0-9]+)::")
-USED_TYPE = re.compile(r"(?m)^\s*use ([a-z_0-9]+)(?:::[a-z_0-9]+)*::([A-Z]\w*);")
+USED = re.compile(r"(?m)^\s*use ([a-z_0-9]+)(?:::[a-z_0-9]+)*::(\{[^}]*\}|[A-Z]\w*);")
+OF_STD = re.compile(r"(?m)^\s*use std::(\w+);")
+EXPORT = "#[unsafe(no_mangle)]"  # a crate that exports to C is a static library
 TYPE = re.compile(r"pub (?:struct|enum) \w+(?:<[^>]*>)?\s*(\{.*?\n\}|\(.*?\);)", re.S)
 FUNCTION = re.compile(r'(?m)^\s*(?:pub )?(?:extern "C" )?fn ')
 
@@ -71,9 +74,7 @@ def names(crate, crates):
     for name, text in texts(crate, "src", "specs", "proofs"):
         found |= set(PATH.findall(text))
         if name.endswith(".rt"):
-            found |= set(NAMED.findall(text))
-    if "io" in found:
-        found.add("libc")  # the kit's io rests on it
+            found |= set(NAMED.findall(text)) - set(OF_STD.findall(text))  # after `use std::io;` io:: is a module of std
     return {d for d in found - {crate} if d in crates or d in KIT}
 
 
@@ -81,11 +82,15 @@ def in_types(crate, crates):
     """The crates whose types stand within its types."""
     found = set()
     for _, text in texts(crate, "src"):
-        uses = {b: a for a, b in USED_TYPE.findall(text)}
+        uses = {word: used for used, listed in USED.findall(text) for word in re.findall(r"\b[A-Z]\w*", listed)}
         for body in TYPE.findall(text):
             found |= {uses[w] for w in re.findall(r"\b[A-Z]\w*", body) if w in uses}
             found |= set(NAMED.findall(body))
     return {d for d in found if d in crates and d != crate}
+
+
+def is_static(crate):
+    return any(EXPORT in text for _, text in texts(crate, "src"))
 
 
 def within(crate, types):
@@ -100,6 +105,7 @@ def within(crate, types):
 
 def made():
     """Each crate with what it uses."""
+    listed = graph()
     crates = sorted(d for d in os.listdir(os.path.join(ROOT, "crates")) if os.path.isdir(os.path.join(ROOT, "crates", d)))
     types = {c: in_types(c, crates) for c in crates}
     uses = {}
@@ -108,6 +114,7 @@ def made():
         if any(FUNCTION.search(text) for _, text in texts(c, "src")):
             for d in [d for d in uses[c] if d in types]:
                 uses[c] |= within(d, types) - {c}
+            uses[c] |= {d for d in listed.get(c, ()) if d in types}
     return uses
 
 
@@ -126,7 +133,7 @@ def text_of(uses):
             room = room_of(c)
             out.append("# %s: %s\n" % (room[0].rstrip("_"), room[1]))
         own = sorted((d for d in uses[c] if d in uses), key=order.get)
-        out.append(" ".join([c + ":"] + own + [d for d in KIT if d in uses[c]]) + "\n")
+        out.append(" ".join([c + (" staticlib:" if is_static(c) else ":")] + own + [d for d in KIT if d in uses[c]]) + "\n")
     return "".join(out)
 
 
@@ -182,7 +189,8 @@ def main():
             with open(p, "w", encoding="utf-8") as f:
                 f.write(t)
         return
-    if {c: sorted(u) for c, u in graph().items()} != {c: sorted(u) for c, u in uses.items()}:
+    listed = {c: sorted(u) for c, u in graph().items()}
+    if listed != {c: sorted(u) for c, u in uses.items()} or statics() != [c for c in listed if is_static(c)]:
         sys.exit("layers: crates.txt does not list what the crates use (python3 -m tools.layers write)")
     if page_now != page:
         sys.exit("layers: docs/ARCHITECTURE.md has not the table of crates (python3 -m tools.layers write)")

@@ -24,7 +24,7 @@ def shown(state):
 
 def holds(text, names):
     """The value of a test of the tables: names of states and of sync stand for values."""
-    text = re.sub(r"\bis(\w+) (\w+)", r"is_(\2, '\1')", text)
+    text = re.sub(r"\bis_(\w+) (\w+)", lambda m: "is_(%s, '%s')" % (m.group(2), m.group(1).title().replace("_", "")), text)
     text = re.sub(r"\bstays (\w+) (\w+)", r"stays(\1, \2)", text)
     text = text.replace("||", " or ").replace("&&", " and ").replace("true", "True").replace("false", "False")
     tests = {

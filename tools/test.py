@@ -7,7 +7,7 @@ import sys
 import tempfile
 
 from tools.check_times import seconds
-from tools.crates import above, depths, graph, made_of, under
+from tools.crates import above, depths, graph, made_of, statics, under
 
 CRATES = """# a comment: with a colon
 a:
@@ -15,7 +15,7 @@ b: a io
 
 # another layer
 c: a b
-d: a
+d staticlib: a
 """
 
 
@@ -29,6 +29,7 @@ def main():
         with open(os.path.join(folder, "crates.txt"), "w", encoding="utf-8") as f:
             f.write(CRATES)
         uses = graph(folder)
+        same(statics(folder), ["d"], "the static libraries of crates.txt")
     same(list(uses.items()), [("a", []), ("b", ["a", "io"]), ("c", ["a", "b"]), ("d", ["a"])], "crates.txt")
     same(under(["b", "d"], uses), {"a", "b", "d", "io"}, "what b and d rest on")
     same(above(["b"], uses), {"b", "c"}, "what rests on b")

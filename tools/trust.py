@@ -23,8 +23,11 @@ LAWS = ("laws_", "model_")  # crates of laws: what they say is proved of the oth
 STATED = ("rules_", "theorem_", "status_proof", "audit_proof", "compare_", "audit_list", "map_versions", "map_summary", "event_words", "library_")  # crates with statements in specs/
 
 HEAD = re.compile(r"^(?:(?:abbrev|unfoldable) )?(?:pub )?(?:(?:record|data) ([^\s(){}:;]+)|([^\s(){}:;]+)(?: \{[^}]*\})? :)")
-USE = re.compile(r"^(?:ghost )?use Rattle·(\w+?)(?:·specs\.specs|\.specs)\.([\w.]+?)(?:\.\{([^}]*)\}| as (\w[\w-]*));?$")
+USE = re.compile(r"^(?:ghost )?use Rattle\.(\w+)\.specs\.([\w.]+?)(?:\.\{([^}]*)\}| as (\w[\w-]*));?$")
 TOKEN = re.compile(r"[^\s(){}\[\],;]+")
+
+
+LISTED = re.compile(r"(?m)^(?:ghost )?use [^;{}]*\{[^}]*\}")
 
 
 def text_of(path):
@@ -32,10 +35,15 @@ def text_of(path):
         return f.read()
 
 
+def on_one_line(text):
+    """Each list of names that lines `use` bring in, on one line."""
+    return LISTED.sub(lambda m: re.sub(r"\s*\n\s*", " ", m.group(0)), text)
+
+
 def imports(text):
     """The names that the lines `use` bring in: name -> (crate, module, name), and the short names of whole modules."""
     names, modules = {}, {}
-    for line in text.split("\n"):
+    for line in on_one_line(text).split("\n"):
         m = USE.match(line)
         if not m:
             continue
@@ -45,8 +53,8 @@ def imports(text):
         if alias:
             modules[alias] = (crate, module)
         else:
-            for name in listed.split(","):
-                names[name.strip()] = (crate, module, name.strip())
+            for name in filter(None, map(str.strip, listed.split(","))):
+                names[name] = (crate, module, name)
     return names, modules
 
 
@@ -82,7 +90,7 @@ def cited(files):
     roots = set()
     for path in glob.glob(os.path.join(ROOT, "crates", "*", "src", "**", "*.rt"), recursive=True):
         text = text_of(path)
-        names, modules = imports("\n".join(l for l in text.split("\n") if l.startswith("ghost use ")))
+        names, modules = imports("\n".join(l for l in on_one_line(text).split("\n") if l.startswith("ghost use ")))
         roots |= set(names.values())
         for crate, module in modules.values():
             roots |= {(crate, module, n) for n in files[crate, module][0]}

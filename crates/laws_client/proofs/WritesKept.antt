@@ -95,7 +95,7 @@ module _ (reached : ℕ) (ro : Roster) (i : ℕ) (q : Roster) (h : i < 16) (m : 
         spares = λ j e. failed-other q i Cause.Io j (λ p. clash miss (rw p at e)) ∙ m.spares j e;
         ahead = λ j l. failed-other q i Cause.Io j (λ p. absurd (let z : ⊥ = omega arith in z)) ∙ m.ahead j (omega arith);
         fails = λ j l e. elim (ℕ_discrete j i) [
-          | yes p ↦ rw p here
+          | yes p ↦ subst (λ (k : ℕ). session_at (failed q i Cause.Io) k ≡ marked (moved (session_at ro k) (State.Failed Cause.Io)) (eqb (failed q i Cause.Io).count 0 && eqb (count_to (above ro k) (suc i)) 0)) (sym p) here
           | no p ↦ there j (omega (arith, p)) p e
         ];
       }

@@ -127,9 +127,9 @@ fresh-free sync chunks id =
     (λ e. ap (λ (s : Session). is_failed s.state) (get_or-replicate 16 id free free (below (λ s. is_failed s.state) (fresh_pool sync chunks).roster id refl refl e)))
     (λ e. e)
 
-cause-of : (c : Pool) (id : ℕ) (cause : Cause) → Got id cause c → state_of c id ≡ State.Failed cause
-cause-of _ id cause (Got.brought c e a b) = cause-set c e a id cause b
-cause-of _ id cause (Got.kept c e r g f) = old-cause c e (next e c) id cause (cause-of c id cause g) f (event-fate e c id (reached-valid c r))
+cause-of : (id : ℕ) (cause : Cause) (c : Pool) → Got id cause c → state_of c id ≡ State.Failed cause
+cause-of id cause _ (Got.brought c e a b) = cause-set c e a id cause b
+cause-of id cause _ (Got.kept c e r g f) = old-cause c e (next e c) id cause (cause-of id cause c g) f (event-fate e c id (reached-valid c r))
 
 pub cause-only : CauseOnly
 cause-only c r e id cause is =
@@ -154,7 +154,7 @@ got_of _ (Reached.start sync chunks a b) id cause is = clash (ap is_failed is) (
 got_of _ (Reached.then c e r) id cause is = step-got c e id cause r (λ was. got_of c r id cause was) is (cause-only c r e id cause is)
 
 pub cause-tells : CauseTells
-cause-tells c r id cause = (got_of c r id cause, cause-of c id cause)
+cause-tells c r id cause = (got_of c r id cause, cause-of id cause c)
 
 -- ---- rejoin
 

@@ -289,12 +289,12 @@ legal-some sync from State.Free e = clash e (none from)
     none State.Normal = refl
     none (State.Failed cause) = refl
     none State.Reconnecting = refl
-    none (State.Removing m owed) = refl
+    none (State.Removing m _) = refl
 legal-some sync from State.Created e = refl
 legal-some sync from State.Normal e = refl
 legal-some sync from (State.Failed cause) e = refl
 legal-some sync from State.Reconnecting e = refl
-legal-some sync from (State.Removing m owed) e = refl
+legal-some sync from (State.Removing m _) e = refl
 
 -- a session that is left in a state that is one
 lives : (c' : Pool) (id : ℕ) (s : Session) → record_of c' id ≡ s → is_free s.state ≡ false → is_free (state_of c' id) ≡ false

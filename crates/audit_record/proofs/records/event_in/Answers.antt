@@ -21,4 +21,4 @@ returns-then-k-eq15 c = simp (eq-eqb _ _ c.if-k-eq15.true, ne_eqb _ _ c.if-k-eq1
 
 pub returns : goal.returns
 unfolding event_in
-returns c = simp (c.session-in.ensures, c.reply-in.ensures, ne_eqb _ _ c.if-k-eq15.false, ne_eqb _ _ c.if-k-eq10.false, ne_eqb _ _ c.if-k-eq9.false, ne_eqb _ _ c.if-k-eq2.false)
+returns c = simp (c.session_in.ensures, c.reply_in.ensures, ne_eqb _ _ c.if-k-eq15.false, ne_eqb _ _ c.if-k-eq10.false, ne_eqb _ _ c.if-k-eq9.false, ne_eqb _ _ c.if-k-eq2.false)

@@ -1,0 +1,7 @@
+use Rattle.rules_client.specs.Joins.{assembled}
+use borrow.Author.Rules.{rules}
+use Rattle.client_join.proofs.joins.assemble.Goals as goal
+
+pub returns : goal.returns
+unfolding assembled
+returns c = simp (c.go.ensures, c.enroll-with_session.ensures, c.take_over-taken.ensures)

@@ -1,0 +1,7 @@
+use Rattle.rules_client.specs.Writes.{sync_done}
+use borrow.Author.Rules.{rules}
+use Rattle.client_link.proofs.writes.sync_done.Goals as goal
+
+pub returns : goal.returns
+unfolding sync_done
+returns c = rw (c.accept.ensures, c.ids-normals.ensures)

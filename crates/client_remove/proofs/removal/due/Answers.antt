@@ -1,0 +1,7 @@
+use Rattle.rules_client.specs.Removal.{due}
+use borrow.Author.Rules.{rules}
+use Rattle.client_remove.proofs.removal.due.Goals as goal
+
+pub returns : goal.returns
+unfolding due
+returns c = simp (c.choose.ensures, c.lowest-low.ensures, c.tellable-ids.ensures)

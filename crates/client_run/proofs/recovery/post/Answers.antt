@@ -1,0 +1,7 @@
+use Rattle.rules_pool.specs.Recovery.{posted}
+use Rattle.std.proofs.Common.{rules}
+use Rattle.client_run.proofs.recovery.post.Goals as goal
+
+pub returns : goal.returns
+unfolding posted
+returns c = simp c.next_number-number.ensures

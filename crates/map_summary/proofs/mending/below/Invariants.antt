@@ -1,0 +1,15 @@
+use Prim.Native.Nat.{◌-◌, ◌*◌, ◌≤◌}
+use Rattle.rules_base.proofs.Some.{some-start, some_more}
+use Rattle.rules_base.specs.Summary.{some, lit}
+use native.Mathlib.Omega.{arith}
+use mathlib.Core.Path.{◌≡◌, refl, sym, ap, ◌∙◌}
+use borrow.Author.Rules.{rules}
+use Rattle.map_summary.proofs.mending.below.Reads as reads
+use Rattle.map_summary.proofs.summaries.lit.Reads as lit-reads
+use Rattle.map_summary.proofs.mending.below.Given as goal
+
+abbrev pub invariant-loop-k : goal.invariant-loop-k
+invariant-loop-k l = (l.k ≤ 16) × (l.got ≡ some (lit l.words l.map l.m (l.level - 1)) (16 * l.i) l.k)
+
+abbrev pub decreases-loop-k : goal.decreases-loop-k
+decreases-loop-k l = 16 - l.k

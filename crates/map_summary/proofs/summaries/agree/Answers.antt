@@ -1,0 +1,22 @@
+use borrow.Author.Rules.{rules}
+use mathlib.Core.Path.{◌≡◌, refl, sym, ap, ◌∙◌}
+use native.Mathlib.Omega.{arith}
+use lib.ListN.{length, get_or}
+use lib.Dec.{eqb}
+use borrow.Author.Tests.{eq-eqb}
+use Prim.Native.Nat.{◌-◌, ◌≤◌}
+use Rattle.rules_base.proofs.Words.{every-start, every_more, summaries-at}
+use Rattle.rules_base.specs.Summary.{word_at, every, agree}
+use Rattle.map_summary.proofs.summaries.agree.Reads as reads
+use Rattle.map_summary.proofs.summaries.of_map.Reads as of-map-reads
+use Rattle.map_summary.proofs.summaries.agree.Goals as goal
+
+pub loop-j-init : goal.loop-j-init
+loop-j-init c = (search rules, sym (every-start _))
+
+pub loop-j-preserved : goal.loop-j-preserved
+loop-j-preserved c = let o = c.of_map-own in let k = c.loop-j in let w : get_or o.result k.j 0 ≡ word_at c.args.map.now k.j = rw o.ensures (summaries-at _ k.j (search rules)) in (search rules, rw (every_more, ← k.invariant.1, w))
+
+pub returns : goal.returns
+unfolding agree
+returns c = search rules

@@ -1,0 +1,14 @@
+use borrow.Author.Rules.{rules}
+use Rattle.rules_base.proofs.Over.{over_none, over-step, over_done}
+use Rattle.rules_base.specs.Map.{replaced, copied}
+use lib.ListN.{length, get_or, length-set}
+use Prim.Native.Nat.{◌-◌, ◌≤◌}
+use native.Mathlib.Omega.{arith}
+use mathlib.Core.Path.{◌≡◌, refl, sym, ◌∙◌}
+use Rattle.map_whole.proofs.maps.copy.Given as goal
+
+abbrev pub invariant-loop-i : goal.invariant-loop-i
+invariant-loop-i l = (l.i ≤ l.end) × (l.map ≡ replaced 0 l.i (λ k x. get_or l.other k 0) l.initial.map) × (length l.map ≡ length l.initial.map)
+
+abbrev pub decreases-loop-i : goal.decreases-loop-i
+decreases-loop-i l = l.end - l.i

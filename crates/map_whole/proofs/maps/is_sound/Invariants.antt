@@ -1,0 +1,14 @@
+use borrow.Author.Rules.{rules}
+use Rattle.rules_base.proofs.Scanned.{rows_start, rows_more, scanned}
+use Rattle.rules_base.proofs.Maps.{sound-short}
+use Rattle.rules_base.specs.Scan.{rows_spare}
+use Prim.Native.Nat.{◌-◌, ◌≤◌}
+use native.Mathlib.Omega.{arith}
+use mathlib.Core.Path.{◌≡◌, sym}
+use Rattle.map_whole.proofs.maps.is_sound.Given as goal
+
+abbrev pub invariant-loop-m : goal.invariant-loop-m
+invariant-loop-m l = (l.m ≤ 16) × (l.got ≡ rows_spare l.map l.n l.m)
+
+abbrev pub decreases-loop-m : goal.decreases-loop-m
+decreases-loop-m l = 16 - l.m

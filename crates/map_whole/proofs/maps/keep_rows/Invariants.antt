@@ -1,0 +1,18 @@
+use borrow.Author.Rules.{rules}
+use Rattle.rules_base.proofs.Chunk.{each_in, each-out, each_none, each-done, each-length}
+use Rattle.rules_base.proofs.Maps.{length-zero_row}
+use Rattle.rules_base.specs.Chunk.{each}
+use Rattle.rules_base.specs.Map.{zero_row, rows_kept}
+use Rattle.rules_base.specs.Sets.{has}
+use Prim.Native.Nat.{◌-◌, ◌≤◌}
+use mathlib.Core.Bool.{not}
+use mathlib.Core.Logic.{⊎_elim}
+use native.Mathlib.Omega.{arith}
+use mathlib.Core.Path.{◌≡◌, sym, ap, ◌∙◌}
+use Rattle.map_whole.proofs.maps.keep_rows.Given as goal
+
+abbrev pub invariant-loop-m : goal.invariant-loop-m
+invariant-loop-m l = (l.m ≤ 16) × (l.map ≡ each (λ k. not (has l.set k)) zero_row l.m l.initial.map)
+
+abbrev pub decreases-loop-m : goal.decreases-loop-m
+decreases-loop-m l = 16 - l.m
