@@ -1,9 +1,11 @@
 // A log from standard input, a record a line; the verdict on standard output.
 #![tactic(auto)]
 
-fn main() {
+use std::io;
+
+fn main(rt: HostRuntime) -> io::Result<()> {
     let mut buf = [0u8; 4096];
     let mut line = [0u8; 256];
     let mut out = [0u8; 32];
-    audit_tool::run(&mut buf, &mut line, &mut out);
+    audit_tool::run(&rt, &mut rt.stdin(), &mut buf, &mut line, &mut out)
 }

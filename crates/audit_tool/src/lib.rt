@@ -3,6 +3,8 @@
 #![tactic(auto)]
 
 use audit_list::batches::Batch;
+use std::io;
+use std::io::{Print, Read};
 use text_words::fetching::{Cur, Got};
 
 // Where a run stands: the records so far, the reading, and whether to go on.
@@ -14,15 +16,21 @@ pub struct Stand {
 }
 
 // The turns are counted so that the loop ends whatever is read; no run uses them up.
-pub fn run(buf: &mut [u8], line: &mut [u8], out: &mut [u8]) {
+pub fn run(
+    rt: &impl Print,
+    input: &mut impl Read,
+    buf: &mut [u8],
+    line: &mut [u8],
+    out: &mut [u8],
+) -> io::Result<()> {
     let mut s = begin();
     let mut turns = u64::MAX;
     while turns > 0 && s.go {
-        s = turn(s, buf, line);
+        s = turn(input, s, buf, line)?;
         turns -= 1;
     }
     let b = s.batch;
-    answer(b, out);
+    answer(rt, b, out)
 }
 
 fn begin() -> Stand {
@@ -34,11 +42,11 @@ fn begin() -> Stand {
 }
 
 // One line, or the part of one up to the end of what was read.
-fn turn(s: Stand, buf: &mut [u8], line: &mut [u8]) -> Stand {
+fn turn(input: &mut impl Read, s: Stand, buf: &mut [u8], line: &mut [u8]) -> io::Result<Stand> {
     let b = s.batch;
     let cur = s.cur;
-    let c = text_words::fetching::fetch(cur, buf, line);
-    step(b, c, line)
+    let c = text_words::fetching::fetch(input, cur, buf, line)?;
+    Ok(step(b, c, line))
 }
 
 fn step(b: Batch, c: Cur, line: &[u8]) -> Stand {
@@ -75,12 +83,13 @@ fn take_last(b: Batch, n: usize, line: &[u8]) -> Batch {
     take(b, n, line)
 }
 
-fn answer(b: Batch, out: &mut [u8]) {
+fn answer(rt: &impl Print, b: Batch, out: &mut [u8]) -> io::Result<()> {
     let w = audit_list::batches::close(b);
     let v = audit_replay::auditing::verdict_of(w);
     let at = audit_line::put_verdict(out, 0, v);
     if at <= out.len() {
         let z = 0;
-        io::write_all(1, &out[z..at]);
+        rt.write_all(&out[z..at])?;
     }
+    Ok(())
 }

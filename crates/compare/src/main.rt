@@ -1,9 +1,11 @@
 // Two dumps compared: first.map and second.map in, their differences out.
 #![tactic(auto)]
 
-fn main() {
+use std::io;
+
+fn main(rt: HostRuntime) -> io::Result<()> {
     let mut first = [0u8; 8193];
     let mut second = [0u8; 8193];
     let mut out = [0u8; 40960];
-    compare_tool::run(&mut first, &mut second, &mut out);
+    compare_tool::run(&rt, &rt.stderr(), &mut first, &mut second, &mut out)
 }

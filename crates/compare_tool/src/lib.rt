@@ -2,6 +2,11 @@
 // nothing is written on standard output.
 #![tactic(auto)]
 
+use std::io::{Print, Read};
+use std::rt::Files;
+use std::{fs, io};
+use text_bytes::failing;
+
 // How many bytes were read, or that the file can't be read.
 #[derive(Clone, Copy)]
 pub enum Taken {
@@ -10,76 +15,86 @@ pub enum Taken {
 }
 
 // The file's bytes, as far as buf goes: a buffer that is longer than a dump tells a longer file.
-fn read_all(fd: i32, buf: &mut [u8]) -> Taken {
+fn read_all(file: &mut impl Read, buf: &mut [u8]) -> io::Result<usize> {
     let mut n: usize = 0;
     while n < buf.len() {
-        let got = libc::read(fd, &mut buf[n..]);
-        if got < 0 {
-            return Taken::Unread;
-        }
-        let k = io::count(got, &buf[n..]);
+        let k = file.read(&mut buf[n..])?;
         if k == 0 {
-            return Taken::Bytes(n);
+            return Ok(n);
         }
         n += k;
     }
-    Taken::Bytes(n)
+    Ok(n)
 }
 
-fn load(name: &[u8], buf: &mut [u8]) -> Taken {
-    let fd = os::open_read(name);
-    if fd < 0 {
-        os::fail(name);
-        return Taken::Unread;
+fn read_file(rt: &impl Files, name: &str, buf: &mut [u8]) -> io::Result<usize> {
+    let mut file = fs::open(rt, name)?;
+    read_all(&mut file, buf)
+}
+
+fn load(rt: &impl Files, errors: &impl Print, name: &str, buf: &mut [u8]) -> Taken {
+    match read_file(rt, name, buf) {
+        Ok(n) => Taken::Bytes(n),
+        Err(e) => {
+            failing::say(errors, name.as_bytes(), e);
+            Taken::Unread
+        }
     }
-    let Taken::Bytes(n) = read_all(fd, buf) else {
-        os::fail(name);
-        libc::close(fd);
-        return Taken::Unread;
-    };
-    libc::close(fd);
-    Taken::Bytes(n)
 }
 
 // Writes what stands in out up to at.
-fn flush(at: usize, out: &[u8]) {
+fn flush(rt: &impl Print, at: usize, out: &[u8]) -> io::Result<()> {
     if at <= out.len() {
         let z = 0;
-        io::write_all(1, &out[z..at]);
+        rt.write_all(&out[z..at])?;
     }
+    Ok(())
 }
 
-fn say_member(first: &[u8], second: &[u8], m: u64, out: &mut [u8]) {
+fn say_member(
+    rt: &impl Print,
+    first: &[u8],
+    second: &[u8],
+    m: u64,
+    out: &mut [u8],
+) -> io::Result<()> {
     let at = compare_say::put_member(out, 0, first, second, m);
-    flush(at, out);
+    flush(rt, at, out)
 }
 
 // The head, then the lines of each member: together the whole answer (`printed`). Each fits a buffer of 40,960 bytes (`fits`).
-fn say_all(first: &[u8], second: &[u8], out: &mut [u8]) {
+fn say_all(rt: &impl Print, first: &[u8], second: &[u8], out: &mut [u8]) -> io::Result<()> {
     let at = compare_say::put_head(out, 0, first, second);
-    flush(at, out);
+    flush(rt, at, out)?;
     let mut m: u64 = 0;
     while m < 16 {
-        say_member(first, second, m, out);
+        say_member(rt, first, second, m, out)?;
         m += 1;
     }
+    Ok(())
 }
 
 // A buffer of 8,193 bytes for each dump, and one of 40,960 for what is written.
-pub fn run(first: &mut [u8], second: &mut [u8], out: &mut [u8]) {
-    let Taken::Bytes(n) = load(b"first.map", first) else {
-        return;
+pub fn run(
+    rt: &(impl Files + Print),
+    errors: &impl Print,
+    first: &mut [u8],
+    second: &mut [u8],
+    out: &mut [u8],
+) -> io::Result<()> {
+    let Taken::Bytes(n) = load(rt, errors, "first.map", first) else {
+        return Ok(());
     };
-    let Taken::Bytes(k) = load(b"second.map", second) else {
-        return;
+    let Taken::Bytes(k) = load(rt, errors, "second.map", second) else {
+        return Ok(());
     };
     // never more than the buffer, which is asked here so that no contract has to say it
     if first.len() < n {
-        return;
+        return Ok(());
     }
     if second.len() < k {
-        return;
+        return Ok(());
     }
     let z = 0;
-    say_all(&first[z..n], &second[z..k], out);
+    say_all(rt, &first[z..n], &second[z..k], out)
 }

@@ -10,6 +10,8 @@ use lab_say_line::Said;
 use lab_state::Lab;
 use rules_client::Check;
 use rules_pool::Pool;
+use std::io;
+use std::io::{Print, Read};
 use text_words::fetching::{Cur, Got};
 
 // Where a run stands: the lab and its log, the reading, how many bytes of the output are not written yet, and whether to go on.
@@ -22,7 +24,7 @@ pub struct Stand {
     pub go: bool,
 }
 
-fn main() {
+fn main(rt: HostRuntime) -> io::Result<()> {
     let mut own = [0u8; 8192];
     let mut states = [[0u64; 32]; 16];
     let mut sums = [[0u64; 96]; 16];
@@ -33,6 +35,8 @@ fn main() {
     let mut out = [0u8; 32768];
     lab_places::arrange_states(Command::Pool(false, 4096), &mut states);
     run_all(
+        &rt,
+        &mut rt.stdin(),
         &mut own,
         &mut states,
         &mut sums,
@@ -41,11 +45,13 @@ fn main() {
         &mut buf,
         &mut line,
         &mut out,
-    );
+    )
 }
 
 // From the first line of standard input to its end. The turns are counted so that the loop ends whatever is read; no run uses them up.
 pub fn run_all(
+    rt: &impl Print,
+    input: &mut impl Read,
     own: &mut [u8],
     states: &mut [[u64; 32]],
     sums: &mut [[u64; 96]],
@@ -54,13 +60,16 @@ pub fn run_all(
     buf: &mut [u8],
     line: &mut [u8],
     out: &mut [u8],
-) {
+) -> io::Result<()> {
     let mut s = begin();
     let mut turns = u64::MAX;
     while turns > 0 && s.go {
-        s = turn(s, own, states, sums, maps, stagings, buf, line, out);
+        s = turn(
+            rt, input, s, own, states, sums, maps, stagings, buf, line, out,
+        )?;
         turns -= 1;
     }
+    Ok(())
 }
 
 fn begin() -> Stand {
@@ -77,6 +86,8 @@ fn begin() -> Stand {
 
 // One line, or the part of one up to the end of what was read.
 fn turn(
+    rt: &impl Print,
+    input: &mut impl Read,
     s: Stand,
     own: &mut [u8],
     states: &mut [[u64; 32]],
@@ -86,14 +97,15 @@ fn turn(
     buf: &mut [u8],
     line: &mut [u8],
     out: &mut [u8],
-) -> Stand {
-    let t = take(s, buf, line, out);
+) -> io::Result<Stand> {
+    let t = take(rt, input, s, buf, line, out)?;
     let c = command_of(t, line);
-    obeyed(t, c, own, states, sums, maps, stagings, out)
+    obeyed(rt, t, c, own, states, sums, maps, stagings, out)
 }
 
 // A line that is passed over ends here.
 fn obeyed(
+    rt: &impl Print,
     s: Stand,
     c: Command,
     own: &mut [u8],
@@ -102,28 +114,35 @@ fn obeyed(
     maps: &mut [u8],
     stagings: &mut [u8],
     out: &mut [u8],
-) -> Stand {
+) -> io::Result<Stand> {
     let none = is_passed(c);
     if none {
-        return onward(s, out);
+        return onward(rt, s, out);
     }
-    step(s, c, own, states, sums, maps, stagings, out)
+    step(rt, s, c, own, states, sums, maps, stagings, out)
 }
 
 // More of the line is taken. What is answered so far is written before more is read: whoever waits for it may send the next line only then.
-fn take(mut s: Stand, buf: &mut [u8], line: &mut [u8], out: &mut [u8]) -> Stand {
+fn take(
+    rt: &impl Print,
+    input: &mut impl Read,
+    mut s: Stand,
+    buf: &mut [u8],
+    line: &mut [u8],
+    out: &mut [u8],
+) -> io::Result<Stand> {
     let cur = s.cur;
     let at = s.at;
-    s.at = settled(cur, at, out);
-    s.cur = text_words::fetching::fetch(cur, buf, line);
-    s
+    s.at = settled(rt, cur, at, out)?;
+    s.cur = text_words::fetching::fetch(input, cur, buf, line)?;
+    Ok(s)
 }
 
-fn settled(c: Cur, at: usize, out: &mut [u8]) -> usize {
+fn settled(rt: &impl Print, c: Cur, at: usize, out: &mut [u8]) -> io::Result<usize> {
     if c.pos < c.end {
-        return at;
+        return Ok(at);
     }
-    flush(at, out)
+    flush(rt, at, out)
 }
 
 fn is_passed(c: Command) -> bool {
@@ -135,6 +154,7 @@ fn is_passed(c: Command) -> bool {
 
 // The command obeyed, and what is said of it written.
 fn step(
+    rt: &impl Print,
     s: Stand,
     m: Command,
     own: &mut [u8],
@@ -143,14 +163,15 @@ fn step(
     maps: &mut [u8],
     stagings: &mut [u8],
     out: &mut [u8],
-) -> Stand {
+) -> io::Result<Stand> {
     let l = s.lab;
     let j = s.log;
     let d = obeying::obey(l, j, m, own, states, sums, maps, stagings);
-    answer(s, d, own, states, maps, stagings, out)
+    answer(rt, s, d, own, states, maps, stagings, out)
 }
 
 fn answer(
+    rt: &impl Print,
     s: Stand,
     d: Obeyed,
     own: &[u8],
@@ -158,9 +179,9 @@ fn answer(
     maps: &[u8],
     stagings: &[u8],
     out: &mut [u8],
-) -> Stand {
-    let at = write_line(d, s.at, own, states, maps, stagings, out);
-    onward(after(s, d, at), out)
+) -> io::Result<Stand> {
+    let at = write_line(rt, d, s.at, own, states, maps, stagings, out)?;
+    onward(rt, after(s, d, at), out)
 }
 
 fn after(mut s: Stand, d: Obeyed, at: usize) -> Stand {
@@ -173,6 +194,7 @@ fn after(mut s: Stand, d: Obeyed, at: usize) -> Stand {
 }
 
 fn write_line(
+    rt: &impl Print,
     d: Obeyed,
     at: usize,
     own: &[u8],
@@ -180,13 +202,13 @@ fn write_line(
     maps: &[u8],
     stagings: &[u8],
     out: &mut [u8],
-) -> usize {
+) -> io::Result<usize> {
     let l = d.lab;
     let s = d.said;
     let n = lab_places::state_in(number_of(s), states);
-    let to = room(at, out);
+    let to = room(rt, at, out)?;
     let to = lab_say_line::put_line(out, to, s, pool_of(l), check_of(l), n);
-    row_line(to, s, own, maps, stagings, out)
+    Ok(row_line(to, s, own, maps, stagings, out))
 }
 
 // Where it is a row that is looked at, its line.
@@ -229,7 +251,7 @@ fn command_of(s: Stand, line: &[u8]) -> Command {
 }
 
 // The line goes on, the next one begins, or all that is left is written.
-fn onward(mut s: Stand, out: &mut [u8]) -> Stand {
+fn onward(rt: &impl Print, mut s: Stand, out: &mut [u8]) -> io::Result<Stand> {
     let c = s.cur;
     let k = c.kind;
     match k {
@@ -238,27 +260,27 @@ fn onward(mut s: Stand, out: &mut [u8]) -> Stand {
             s.cur = text_words::fetching::fresh(c);
         }
         Got::End => {
-            s.at = flush(s.at, out);
+            s.at = flush(rt, s.at, out)?;
             s.go = false;
         }
     }
-    s
+    Ok(s)
 }
 
 // Writes what stands in out up to at.
-fn flush(at: usize, out: &mut [u8]) -> usize {
+fn flush(rt: &impl Print, at: usize, out: &mut [u8]) -> io::Result<usize> {
     if at <= out.len() {
         let z = 0;
-        io::write_all(1, &out[z..at]);
+        rt.write_all(&out[z..at])?;
     }
-    0
+    Ok(0)
 }
 
 // No line has more than 20,490 bytes, a row's the most (the laws of sayrow, sayclient, saynode and saylab); of 32,768 so much and a newline is free before each
 // command, so no answer is cut.
-fn room(at: usize, out: &mut [u8]) -> usize {
+fn room(rt: &impl Print, at: usize, out: &mut [u8]) -> io::Result<usize> {
     if 12277 < at {
-        return flush(at, out);
+        return flush(rt, at, out);
     }
-    at
+    Ok(at)
 }

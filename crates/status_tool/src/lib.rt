@@ -2,128 +2,197 @@
 // speak of what is read and written.
 #![tactic(auto)]
 
-ghost use Rattle.std.specs.Prelude.{◌≡◌};
+ghost use Rattle.std.specs.Prelude.{◌≡◌, ◌≤◌, length};
 ghost use Rattle.text_bytes.specs.Ink.{ink, emits_all};
 ghost use Rattle.status_tool.specs.Lines.{refused_line};
 
-use libc::{STDERR_FILENO, STDIN_FILENO, STDOUT_FILENO};
 use status_row::writer::Wrote;
-use text_bytes::Num;
+use std::env::FillError;
+use std::io::{ErrorKind, Print, Read};
+use std::rt::{Env, Files};
+use std::{fs, io, str};
+use text_bytes::{Num, failing};
 
 // MAP MEMBER CHUNKS CHUNK_SIZE writes descriptors; read CHUNKS CHUNK_SIZE reads them. The program lends the buffers: `map` has a byte more than a map and `bytes` a
 // descriptor more than a volume can have, so that what is too long is refused for it.
-pub fn run(map: &mut [u8], bytes: &mut [u8], row: &mut [u8]) {
-    let words = os::arg_count();
+pub fn run(
+    rt: &(impl Env + Files + Print),
+    input: &mut impl Read,
+    errors: &impl Print,
+    map: &mut [u8],
+    bytes: &mut [u8],
+    row: &mut [u8],
+) {
+    let words = word_count(rt);
     if words == 5 {
-        write_status(map, bytes);
+        write_status(rt, errors, map, bytes);
         return;
     }
     if words == 4 {
-        read_status(bytes, row);
+        read_status(rt, input, errors, bytes, row);
         return;
     }
-    say_usage();
+    say_usage(errors);
 }
 
-fn write_status(map: &mut [u8], out: &mut [u8]) {
-    let Num::Is(m) = number_at(2) else {
-        say_usage();
+fn write_status(
+    rt: &(impl Env + Files + Print),
+    errors: &impl Print,
+    map: &mut [u8],
+    out: &mut [u8],
+) {
+    let Num::Is(m) = number_at(rt, 2) else {
+        say_usage(errors);
         return;
     };
-    let Num::Is(n) = number_at(3) else {
-        say_usage();
+    let Num::Is(n) = number_at(rt, 3) else {
+        say_usage(errors);
         return;
     };
-    let Num::Is(s) = number_at(4) else {
-        say_usage();
+    let Num::Is(s) = number_at(rt, 4) else {
+        say_usage(errors);
         return;
     };
-    let fd = open_map();
-    if fd < 0 {
+    let Some(mut file) = open_map(rt, errors) else {
         return;
-    }
-    let got = io::read_full(fd, map);
-    libc::close(fd);
+    };
+    let got = read_full(&mut file, map);
     let z = 0;
     let w = status_row::writer::write_member(&map[z..got], m, n, s, out);
     match w {
-        Wrote::Refused(r) => say_refused(r),
-        Wrote::Bytes(k) => give(k, out),
+        Wrote::Refused(r) => say_refused(errors, r),
+        Wrote::Bytes(k) => give(rt, errors, k, out),
     }
 }
 
-fn read_status(bytes: &mut [u8], row: &mut [u8]) {
-    if !is_read() {
-        say_usage();
+fn read_status(
+    rt: &(impl Env + Print),
+    input: &mut impl Read,
+    errors: &impl Print,
+    bytes: &mut [u8],
+    row: &mut [u8],
+) {
+    if !is_read(rt) {
+        say_usage(errors);
         return;
     }
-    let Num::Is(n) = number_at(2) else {
-        say_usage();
+    let Num::Is(n) = number_at(rt, 2) else {
+        say_usage(errors);
         return;
     };
-    let Num::Is(s) = number_at(3) else {
-        say_usage();
+    let Num::Is(s) = number_at(rt, 3) else {
+        say_usage(errors);
         return;
     };
-    let got = io::read_full(STDIN_FILENO, bytes);
+    let got = read_full(input, bytes);
     let z = 0;
     let r = status_row::reader::read(&bytes[z..got], n, s, row);
     if r != 0 {
-        say_refused(r);
+        say_refused(errors, r);
         return;
     }
-    give(row.len(), row);
+    give(rt, errors, row.len(), row);
 }
 
 // Whether word 1 is `read`.
-fn is_read() -> bool {
+fn is_read(rt: &impl Env) -> bool {
     let mut word = [0u8; 4];
-    let n = os::arg(1, &mut word);
+    let n = word_at(rt, 1, &mut word);
     let z = 0;
     text_bytes::same(&word[z..n], b"read")
 }
 
 // Word i as a number.
-fn number_at(i: usize) -> Num {
+fn number_at(rt: &impl Env, i: usize) -> Num {
     let mut word = [0u8; 32];
-    let n = os::arg(i, &mut word);
+    let n = word_at(rt, i, &mut word);
     let z = 0;
     text_bytes::number(&word[z..n])
 }
 
-// The file that word 1 names, opened, or a number below 0 where that can't be done, and then it was said why.
-fn open_map() -> i32 {
-    let mut path = io::buffer();
-    let n = os::arg(1, &mut path);
-    let z = 0;
-    let fd = os::open_read(&path[z..n]);
-    if fd < 0 {
-        os::fail(&path[z..n]);
+// How many words there are, the program's own name among them; 6 where there are more.
+fn word_count(rt: &impl Env) -> usize {
+    let mut n = 0;
+    while n < 6 {
+        if !is_word(rt, n) {
+            return n;
+        }
+        n += 1;
     }
-    fd
+    n
+}
+
+fn is_word(rt: &impl Env, i: usize) -> bool {
+    let mut word = [0u8; 1];
+    !matches!(rt.arg(i, &mut word), Err(FillError::NotPresent))
+}
+
+// Puts word i at the start of buf, and says how long it is: 0 where it is missing or longer than buf.
+fn word_at(rt: &impl Env, i: usize, buf: &mut [u8]) -> usize
+    ensures { result ≤ length buf.new }
+{
+    match rt.arg(i, buf) {
+        Ok(n) => n,
+        Err(_) => 0,
+    }
+}
+
+// The file that word 1 names, opened; none where that can't be done, and then it was said why.
+fn open_map<R: Env + Files>(rt: &R, errors: &impl Print) -> Option<R::File> {
+    let mut path = [0u8; 4096];
+    let n = word_at(rt, 1, &mut path);
+    let z = 0;
+    match open(rt, &path[z..n]) {
+        Ok(file) => Some(file),
+        Err(e) => {
+            failing::say(errors, &path[z..n], e);
+            None
+        }
+    }
+}
+
+// A file's name is UTF-8; other bytes name none.
+fn open<R: Files>(rt: &R, path: &[u8]) -> io::Result<R::File> {
+    match str::from_utf8(path) {
+        Ok(name) => fs::open(rt, name),
+        Err(_) => Err(io::Error::from(ErrorKind::InvalidFilename)),
+    }
+}
+
+// Reads until buf is full, the input ends or a read fails, and says how many bytes it put at the start of buf.
+fn read_full(input: &mut impl Read, buf: &mut [u8]) -> usize
+    ensures { result ≤ length buf.new }
+{
+    let mut done = 0;
+    while done < buf.len() {
+        match input.read(&mut buf[done..]) {
+            Ok(n) if n > 0 => done += n,
+            _ => break,
+        }
+    }
+    done
 }
 
 // Writes the first k bytes to standard output; k is never more than there are.
-fn give(k: usize, bytes: &[u8]) {
+fn give(rt: &impl Print, errors: &impl Print, k: usize, bytes: &[u8]) {
     if bytes.len() < k {
         return;
     }
     let z = 0;
-    let done = io::write_all(STDOUT_FILENO, &bytes[z..k]);
-    if !done {
-        os::fail(b"standard output");
+    if let Err(e) = rt.write_all(&bytes[z..k]) {
+        failing::say(errors, b"standard output", e);
     }
 }
 
 // Writes a refusal's line, which is never longer than 29 bytes, to standard error.
-fn say_refused(number: u64) {
+fn say_refused(errors: &impl Print, number: u64) {
     let mut line = [0u8; 32];
     let n = refused_line(number, &mut line);
     if 32 < n {
         return;
     }
     let z = 0;
-    io::write_all(STDERR_FILENO, &line[z..n]);
+    let _ = errors.write_all(&line[z..n]);
 }
 
 // Puts a refusal's line at the start of out, and says how long it is.
@@ -135,9 +204,8 @@ fn refused_line(number: u64, out: &mut [u8]) -> usize
     text_bytes::put_bytes(out, b, b"\n")
 }
 
-fn say_usage() {
-    io::write_all(
-        STDERR_FILENO,
+fn say_usage(errors: &impl Print) {
+    let _ = errors.write_all(
         b"usage: status MAP MEMBER CHUNKS CHUNK_SIZE, or status read CHUNKS CHUNK_SIZE\n",
     );
 }
