@@ -1,9 +1,8 @@
 use borrow.Author.Rules.{rules}
 use Rattle.rules_client.specs.Client.{clean_to}
 use native.Mathlib.Numerals.{add-one}
-use Prim.Native.Nat.{◌-◌, ◌≤◌}
-use native.Mathlib.Omega.{arith}
-use mathlib.Core.Path.{◌≡◌, refl}
+use Prim.Native.Nat.{◌-◌}
+use mathlib.Core.Path.{refl}
 use Rattle.client.proofs.clean_ids.Goals as goal
 
 pub loop-m-init : goal.loop-m-init

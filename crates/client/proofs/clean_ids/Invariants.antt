@@ -1,9 +1,6 @@
-use borrow.Author.Rules.{rules}
 use Rattle.rules_client.specs.Client.{clean_to}
-use native.Mathlib.Numerals.{add-one}
 use Prim.Native.Nat.{◌-◌, ◌≤◌}
-use native.Mathlib.Omega.{arith}
-use mathlib.Core.Path.{◌≡◌, refl}
+use mathlib.Core.Path.{◌≡◌}
 use Rattle.client.proofs.clean_ids.Given as goal
 
 abbrev pub invariant-loop-m : goal.invariant-loop-m

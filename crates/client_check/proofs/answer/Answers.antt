@@ -1,4 +1,4 @@
-use Rattle.std.proofs.Common.{rules, eq-eqb, ne_eqb}
+use Rattle.std.proofs.Common.{eq-eqb, ne_eqb}
 use Rattle.rules_client.specs.MapCheck.{answer}
 use Rattle.client_check.proofs.answer.Goals as goal
 

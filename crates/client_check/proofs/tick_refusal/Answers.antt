@@ -1,5 +1,4 @@
 use Rattle.rules_client.specs.MapCheck.{tick_refusal}
-use Rattle.std.proofs.Common.{rules}
 use Rattle.client_check.proofs.tick_refusal.Goals as goal
 
 pub returns : goal.returns

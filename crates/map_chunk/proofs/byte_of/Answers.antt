@@ -1,6 +1,5 @@
 use Rattle.rules_base.specs.Chunk.{byte_of}
 use mathlib.Core.Path.{refl}
-use borrow.Author.Rules.{rules}
 use Rattle.map_chunk.proofs.byte_of.Goals as goal
 
 pub returns : goal.returns

@@ -1,8 +1,8 @@
 use borrow.Author.Rules.{rules}
 use Rattle.rules_base.proofs.ChunkCounts.{count-byte, count-nobody}
 use Rattle.rules_base.proofs.Chunk.{count_none, count-le}
-use Rattle.rules_base.specs.Chunk.{count, count_to}
-use Prim.Native.Nat.{◌+◌, ◌*◌, ◌-◌, ◌≤◌, ◌<◌}
+use Rattle.rules_base.specs.Chunk.{count}
+use Prim.Native.Nat.{◌+◌, ◌*◌, ◌-◌}
 use native.Mathlib.Omega.{arith}
 use mathlib.Core.Path.{◌≡◌, sym}
 use lib.Count.{ones, ones-le}

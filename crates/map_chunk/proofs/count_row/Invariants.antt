@@ -1,12 +1,6 @@
-use borrow.Author.Rules.{rules}
-use Rattle.rules_base.proofs.ChunkCounts.{count-byte, count-nobody}
-use Rattle.rules_base.proofs.Chunk.{count_none, count-le}
-use Rattle.rules_base.specs.Chunk.{count, count_to}
-use Prim.Native.Nat.{◌+◌, ◌*◌, ◌-◌, ◌≤◌, ◌<◌}
-use native.Mathlib.Omega.{arith}
-use mathlib.Core.Path.{◌≡◌, sym}
-use lib.Count.{ones, ones-le}
-use lib.ListN.{get_or}
+use Rattle.rules_base.specs.Chunk.{count_to}
+use Prim.Native.Nat.{◌*◌, ◌-◌, ◌≤◌}
+use mathlib.Core.Path.{◌≡◌}
 use Rattle.map_chunk.proofs.count_row.Given as goal
 
 abbrev pub invariant-loop-i : goal.invariant-loop-i

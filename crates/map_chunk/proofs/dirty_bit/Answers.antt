@@ -2,7 +2,6 @@ use Rattle.rules_base.proofs.Chunk.{there-yes, there-no-member, there-no-chunk}
 use Rattle.rules_base.specs.Chunk.{dirty}
 use Rattle.laws_words.specs.Words.{bit}
 use native.Mathlib.Omega.{arith}
-use borrow.Author.Rules.{rules}
 use Rattle.map_chunk.proofs.dirty_bit.Goals as goal
 
 pub returns-then-m-gt15 : goal.returns-then-m-gt15

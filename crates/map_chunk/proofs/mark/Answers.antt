@@ -1,7 +1,6 @@
 use Rattle.rules_base.proofs.Chunk.{there-yes, there-no-member, there-no-chunk}
 use Rattle.rules_base.specs.Chunk.{chunk_marked}
 use native.Mathlib.Omega.{arith}
-use borrow.Author.Rules.{rules}
 use Rattle.map_chunk.proofs.mark.Goals as goal
 
 pub returns-then-m-gt15 : goal.returns-then-m-gt15

@@ -1,10 +1,9 @@
 use borrow.Author.Rules.{rules}
-use Rattle.rules_base.proofs.Chunk.{each_in, each-out, each_none, each-done, each-length, length_marked}
-use Rattle.rules_base.specs.Chunk.{each, chunk_marked, marked_for}
-use Rattle.rules_base.specs.Sets.{has}
-use Prim.Native.Nat.{◌-◌, ◌≤◌}
+use Rattle.rules_base.proofs.Chunk.{each_in, each-out, each_none, each-done}
+use Rattle.rules_base.specs.Chunk.{marked_for}
+use Prim.Native.Nat.{◌-◌}
 use native.Mathlib.Omega.{arith}
-use mathlib.Core.Path.{◌≡◌, sym, ◌∙◌}
+use mathlib.Core.Path.{sym, ◌∙◌}
 use Rattle.map_chunk.proofs.mark_for.Goals as goal
 use Rattle.map_chunk.proofs.mark_for.Goals.{then-has, else-has}
 

@@ -1,11 +1,7 @@
-use mathlib.Core.Logic.{⊎_elim}
-use borrow.Author.Rules.{rules}
-use Rattle.rules_base.proofs.Chunk.{each_in, each-out, each_none, each-done, each-length, length_marked}
-use Rattle.rules_base.specs.Chunk.{each, chunk_marked, marked_for}
+use Rattle.rules_base.specs.Chunk.{each, chunk_marked}
 use Rattle.rules_base.specs.Sets.{has}
 use Prim.Native.Nat.{◌-◌, ◌≤◌}
-use native.Mathlib.Omega.{arith}
-use mathlib.Core.Path.{◌≡◌, sym, ◌∙◌}
+use mathlib.Core.Path.{◌≡◌}
 use Rattle.map_chunk.proofs.mark_for.Given as goal
 
 abbrev pub invariant-loop-m : goal.invariant-loop-m

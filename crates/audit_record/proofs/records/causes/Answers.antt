@@ -1,7 +1,7 @@
 use borrow.Author.Rules.{rules}
 use native.Mathlib.Omega.{arith}
 use Rattle.laws_words.specs.Loops.{unmapped}
-use Rattle.audit_record.proofs.Failures.{Sums, sums-start, sums-more, sums-low, sums-done}
+use Rattle.audit_record.proofs.Failures.{sums-start, sums-more, sums-low}
 use Rattle.audit_record.proofs.records.causes.Goals as goal
 
 pub loop-i-init : goal.loop-i-init

@@ -1,6 +1,5 @@
 use Rattle.audit_record.specs.Records.{event_in}
 use borrow.Author.Tests.{eq-eqb, ne_eqb}
-use borrow.Author.Rules.{rules}
 use Rattle.audit_record.proofs.records.event_in.Goals as goal
 
 pub returns-then-k-eq2 : goal.returns-then-k-eq2

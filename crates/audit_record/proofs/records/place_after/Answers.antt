@@ -1,6 +1,5 @@
 use Rattle.audit_record.specs.Records.{place_after}
 use borrow.Author.Tests.{lt-ltb, le-ltb}
-use borrow.Author.Rules.{rules}
 use Rattle.audit_record.proofs.records.place_after.Goals as goal
 
 pub returns-then-n-lt18446744073709551615 : goal.returns-then-n-lt18446744073709551615

@@ -1,5 +1,4 @@
 use Rattle.audit_record.specs.Records.{record_of}
-use borrow.Author.Rules.{rules}
 use Rattle.audit_record.proofs.records.record_of.Goals as goal
 
 pub returns : goal.returns

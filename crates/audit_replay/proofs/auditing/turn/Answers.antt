@@ -1,5 +1,4 @@
 use Rattle.audit_replay.specs.Audit.{turned}
-use borrow.Author.Rules.{rules}
 use Rattle.audit_replay.proofs.auditing.turn.Goals as goal
 
 pub returns-then-w : goal.returns-then-w

@@ -1,5 +1,4 @@
 use Rattle.rules_client.specs.Client.{synced_turn}
-use borrow.Author.Rules.{rules}
 use Rattle.client.proofs.Client.synced.Goals as goal
 
 pub returns : goal.returns

@@ -1,5 +1,4 @@
 use Rattle.rules_client.specs.Client.{tick_turn}
-use borrow.Author.Rules.{rules}
 use Rattle.client.proofs.Client.tick.Goals as goal
 
 pub returns : goal.returns

@@ -1,5 +1,4 @@
 use Rattle.rules_client.specs.Enables.{enable_done}
-use borrow.Author.Rules.{rules}
 use Rattle.client_join.proofs.enables.enable_done.Goals as goal
 
 pub returns-then-is_created : goal.returns-then-is_created

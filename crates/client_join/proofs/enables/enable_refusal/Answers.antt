@@ -1,5 +1,4 @@
 use Rattle.rules_client.specs.Enables.{enable_refusal}
-use borrow.Author.Rules.{rules}
 use Rattle.client_join.proofs.enables.enable_refusal.Goals as goal
 
 pub returns : goal.returns

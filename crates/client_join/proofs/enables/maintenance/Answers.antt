@@ -1,6 +1,5 @@
 use borrow.Author.Tests.{eq-eqb, ne_eqb}
 use Rattle.rules_client.specs.Enables.{maintenance}
-use borrow.Author.Rules.{rules}
 use Rattle.client_join.proofs.enables.maintenance.Goals as goal
 
 pub returns-then-why-ne0 : goal.returns-then-why-ne0

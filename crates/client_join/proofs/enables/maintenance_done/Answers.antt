@@ -1,5 +1,4 @@
 use Rattle.rules_client.specs.Enables.{maintenance_done}
-use borrow.Author.Rules.{rules}
 use Rattle.client_join.proofs.enables.maintenance_done.Goals as goal
 
 pub returns : goal.returns

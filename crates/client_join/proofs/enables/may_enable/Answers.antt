@@ -1,5 +1,4 @@
 use Rattle.rules_client.specs.Enables.{enables}
-use borrow.Author.Rules.{rules}
 use Rattle.client_join.proofs.enables.may_enable.Goals as goal
 
 pub returns : goal.returns

@@ -1,5 +1,4 @@
 use Rattle.rules_client.specs.Extend.{extended}
-use borrow.Author.Rules.{rules}
 use Rattle.client_join.proofs.extending.add.Goals as goal
 
 pub returns : goal.returns

@@ -1,5 +1,4 @@
 use Rattle.rules_client.specs.Extend.{extend_done}
-use borrow.Author.Rules.{rules}
 use Rattle.client_join.proofs.extending.extend_done.Goals as goal
 
 pub returns : goal.returns

@@ -1,5 +1,4 @@
 use Rattle.rules_client.specs.Extend.{picked}
-use borrow.Author.Rules.{rules}
 use Rattle.client_join.proofs.extending.pick_id.Goals as goal
 
 pub returns : goal.returns

@@ -1,5 +1,4 @@
 use Rattle.rules_client.specs.Joins.{assemble_refusal}
-use borrow.Author.Rules.{rules}
 use Rattle.client_join.proofs.joins.assemble_refusal.Goals as goal
 
 pub returns : goal.returns

@@ -1,5 +1,4 @@
 use Rattle.rules_client.specs.Joins.{created}
-use borrow.Author.Rules.{rules}
 use Rattle.client_join.proofs.joins.create.Goals as goal
 
 pub returns-then-ro : goal.returns-then-ro

@@ -1,5 +1,4 @@
 use Rattle.rules_client.specs.Joins.{create_done}
-use borrow.Author.Rules.{rules}
 use Rattle.client_join.proofs.joins.create_done.Goals as goal
 
 pub returns : goal.returns

@@ -1,5 +1,4 @@
 use Rattle.rules_client.specs.Joins.{join_told}
-use borrow.Author.Rules.{rules}
 use Rattle.client_join.proofs.joins.join_told.Goals as goal
 
 pub returns-then-ro : goal.returns-then-ro

@@ -1,5 +1,4 @@
 use Rattle.rules_client.specs.Joins.{set_bars}
-use borrow.Author.Rules.{rules}
 use Rattle.client_join.proofs.joins.set_bars.Goals as goal
 
 pub returns : goal.returns

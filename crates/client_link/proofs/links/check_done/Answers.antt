@@ -1,5 +1,4 @@
 use Rattle.rules_client.specs.Links.{check_done}
-use borrow.Author.Rules.{rules}
 use Rattle.client_link.proofs.links.check_done.Goals as goal
 
 pub returns-then-ro : goal.returns-then-ro

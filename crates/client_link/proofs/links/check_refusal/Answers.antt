@@ -1,5 +1,4 @@
 use Rattle.rules_client.specs.Links.{back_refusal, check_refusal}
-use borrow.Author.Rules.{rules}
 use Rattle.client_link.proofs.links.check_refusal.Goals as goal
 
 pub returns : goal.returns

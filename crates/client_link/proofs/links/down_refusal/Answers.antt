@@ -1,5 +1,4 @@
 use Rattle.rules_client.specs.Links.{down_refusal}
-use borrow.Author.Rules.{rules}
 use Rattle.client_link.proofs.links.down_refusal.Goals as goal
 
 pub returns : goal.returns

@@ -1,5 +1,4 @@
 use Rattle.rules_client.specs.Links.{dropped}
-use borrow.Author.Rules.{rules}
 use Rattle.client_link.proofs.links.drop_link.Goals as goal
 
 pub returns-then-is_removing : goal.returns-then-is_removing

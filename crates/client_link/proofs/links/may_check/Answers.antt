@@ -1,5 +1,4 @@
 use Rattle.rules_client.specs.Links.{checks}
-use borrow.Author.Rules.{rules}
 use Rattle.client_link.proofs.links.may_check.Goals as goal
 
 pub returns : goal.returns

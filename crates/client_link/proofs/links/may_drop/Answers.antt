@@ -1,5 +1,4 @@
 use Rattle.rules_client.specs.Links.{drops}
-use borrow.Author.Rules.{rules}
 use Rattle.client_link.proofs.links.may_drop.Goals as goal
 
 pub returns : goal.returns

@@ -1,6 +1,5 @@
 use borrow.Author.Tests.{eq-eqb, ne_eqb}
 use Rattle.rules_client.specs.Links.{try_run}
-use borrow.Author.Rules.{rules}
 use Rattle.client_link.proofs.links.try_run.Goals as goal
 
 pub returns-then-why-ne0 : goal.returns-then-why-ne0

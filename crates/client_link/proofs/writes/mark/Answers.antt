@@ -1,6 +1,5 @@
 use Rattle.rules_client.specs.Writes.{marks}
 use borrow.Author.Tests.{eq-eqb, ne_eqb}
-use borrow.Author.Rules.{rules}
 use Rattle.client_link.proofs.writes.mark.Goals as goal
 
 pub returns-then-reached-eq0 : goal.returns-then-reached-eq0

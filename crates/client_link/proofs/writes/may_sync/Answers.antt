@@ -1,5 +1,4 @@
 use Rattle.rules_client.specs.Writes.{syncs}
-use borrow.Author.Rules.{rules}
 use Rattle.client_link.proofs.writes.may_sync.Goals as goal
 
 pub returns : goal.returns

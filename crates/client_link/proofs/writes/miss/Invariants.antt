@@ -1,7 +1,6 @@
-use borrow.Author.Rules.{rules}
 use Prim.Native.Nat.{◌-◌}
-use Rattle.laws_words.specs.Loops.{Runs, runs-start, runs-more, runs_done}
-use Rattle.rules_client.specs.Writes.{miss_step, missed}
+use Rattle.laws_words.specs.Loops.{Runs}
+use Rattle.rules_client.specs.Writes.{miss_step}
 use Rattle.client_link.proofs.writes.miss.Given as goal
 
 abbrev pub invariant-loop-i : goal.invariant-loop-i

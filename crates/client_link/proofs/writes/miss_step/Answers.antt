@@ -1,5 +1,4 @@
 use Rattle.rules_client.specs.Writes.{miss_step}
-use borrow.Author.Rules.{rules}
 use Rattle.client_link.proofs.writes.miss_step.Goals as goal
 
 pub returns-then-is_normal-has : goal.returns-then-is_normal-has

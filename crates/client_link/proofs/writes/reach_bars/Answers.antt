@@ -1,5 +1,4 @@
 use Rattle.rules_client.specs.Writes.{reach_bars}
-use borrow.Author.Rules.{rules}
 use Rattle.client_link.proofs.writes.reach_bars.Goals as goal
 
 pub returns : goal.returns

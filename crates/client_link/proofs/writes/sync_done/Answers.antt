@@ -1,5 +1,4 @@
 use Rattle.rules_client.specs.Writes.{sync_done}
-use borrow.Author.Rules.{rules}
 use Rattle.client_link.proofs.writes.sync_done.Goals as goal
 
 pub returns : goal.returns

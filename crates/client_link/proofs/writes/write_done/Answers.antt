@@ -1,5 +1,4 @@
 use Rattle.rules_client.specs.Writes.{write_done}
-use borrow.Author.Rules.{rules}
 use Rattle.client_link.proofs.writes.write_done.Goals as goal
 
 pub returns : goal.returns

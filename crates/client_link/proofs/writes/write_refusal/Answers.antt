@@ -1,5 +1,4 @@
 use Rattle.rules_client.specs.Writes.{write_refusal}
-use borrow.Author.Rules.{rules}
 use Rattle.client_link.proofs.writes.write_refusal.Goals as goal
 
 pub returns : goal.returns

@@ -1,6 +1,5 @@
 use Rattle.rules_client.specs.Answers.{answer}
 use borrow.Author.Tests.{eq-eqb, ne_eqb}
-use borrow.Author.Rules.{rules}
 use Rattle.client_remove.proofs.answers.answer.Goals as goal
 
 pub returns-then-why-ne0 : goal.returns-then-why-ne0

@@ -1,5 +1,4 @@
 use Rattle.rules_client.specs.Answers.{answer_refusal}
-use borrow.Author.Rules.{rules}
 use Rattle.client_remove.proofs.answers.answer_refusal.Goals as goal
 
 pub returns : goal.returns

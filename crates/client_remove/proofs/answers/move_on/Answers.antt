@@ -1,5 +1,4 @@
 use Rattle.rules_client.specs.Answers.{moved_on}
-use borrow.Author.Rules.{rules}
 use Rattle.client_remove.proofs.answers.move_on.Goals as goal
 
 pub returns : goal.returns

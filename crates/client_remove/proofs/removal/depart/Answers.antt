@@ -1,5 +1,4 @@
 use Rattle.rules_client.specs.Removal.{departed}
-use borrow.Author.Rules.{rules}
 use Rattle.client_remove.proofs.removal.depart.Goals as goal
 
 pub returns-then-deletes : goal.returns-then-deletes

@@ -1,5 +1,4 @@
 use Rattle.rules_client.specs.Removal.{due}
-use borrow.Author.Rules.{rules}
 use Rattle.client_remove.proofs.removal.due.Goals as goal
 
 pub returns : goal.returns

@@ -1,5 +1,4 @@
 use Rattle.rules_client.specs.Removal.{freed_from}
-use borrow.Author.Rules.{rules}
 use Rattle.client_remove.proofs.removal.free.Goals as goal
 
 pub returns : goal.returns

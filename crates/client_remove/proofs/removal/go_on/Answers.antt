@@ -1,6 +1,5 @@
 use Rattle.rules_client.specs.Removal.{onward}
 use borrow.Author.Tests.{lt-ltb, le-ltb}
-use borrow.Author.Rules.{rules}
 use Rattle.client_remove.proofs.removal.go_on.Goals as goal
 
 pub returns-then-peer-lt16 : goal.returns-then-peer-lt16

@@ -1,5 +1,4 @@
 use Rattle.rules_pool.specs.Breaking.{breaks}
-use borrow.Author.Rules.{rules}
 use Rattle.client_rules.proofs.breaking.breaks.Reads as reads
 use Rattle.client_rules.proofs.breaking.acknowledges.Reads as acknowledges-reads
 use Rattle.client_rules.proofs.breaking.has_run.Reads as has-run-reads

@@ -1,9 +1,8 @@
 use borrow.Author.Rules.{rules}
 use Rattle.rules_pool.specs.Breaking.{changed_to}
 use native.Mathlib.Numerals.{add-one}
-use Prim.Native.Nat.{◌-◌, ◌≤◌}
-use native.Mathlib.Omega.{arith}
-use mathlib.Core.Path.{◌≡◌, refl}
+use Prim.Native.Nat.{◌-◌}
+use mathlib.Core.Path.{refl}
 use Rattle.client_rules.proofs.breaking.is_changed.Goals as goal
 
 pub loop-i-init : goal.loop-i-init

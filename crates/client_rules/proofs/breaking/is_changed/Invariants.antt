@@ -1,9 +1,6 @@
-use borrow.Author.Rules.{rules}
 use Rattle.rules_pool.specs.Breaking.{changed_to}
-use native.Mathlib.Numerals.{add-one}
 use Prim.Native.Nat.{◌-◌, ◌≤◌}
-use native.Mathlib.Omega.{arith}
-use mathlib.Core.Path.{◌≡◌, refl}
+use mathlib.Core.Path.{◌≡◌}
 use Rattle.client_rules.proofs.breaking.is_changed.Given as goal
 
 abbrev pub invariant-loop-i : goal.invariant-loop-i

@@ -1,5 +1,4 @@
 use Rattle.rules_pool.specs.StateRules.{all_asked}
-use borrow.Author.Rules.{rules}
 use Rattle.client_rules.proofs.rules.all_asked.Goals as goal
 
 pub returns : goal.returns

@@ -1,5 +1,4 @@
 use Rattle.rules_pool.specs.StateRules.{valid_pool}
-use borrow.Author.Rules.{rules}
 use Rattle.client_rules.proofs.rules.valid.Goals as goal
 
 pub returns : goal.returns

@@ -1,5 +1,4 @@
 use Rattle.rules_pool.specs.Recovery.{posted}
-use Rattle.std.proofs.Common.{rules}
 use Rattle.client_run.proofs.recovery.post.Goals as goal
 
 pub returns : goal.returns

@@ -1,5 +1,4 @@
 use Rattle.rules_pool.specs.Recovery.{tried}
-use Rattle.std.proofs.Common.{rules}
 use Rattle.client_run.proofs.recovery.try_recovery.Goals as goal
 
 pub returns : goal.returns

@@ -1,5 +1,4 @@
 use Rattle.rules_pool.specs.Changes.{entered}
-use borrow.Author.Rules.{rules}
 use Rattle.client_state.proofs.changes.enter.Goals as goal
 
 pub returns-then-ro : goal.returns-then-ro

@@ -1,5 +1,4 @@
 use Rattle.rules_pool.specs.Changes.{failed}
-use borrow.Author.Rules.{rules}
 use Rattle.client_state.proofs.changes.fail.Goals as goal
 
 pub returns-then-is_normal : goal.returns-then-is_normal

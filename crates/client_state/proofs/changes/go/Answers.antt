@@ -1,5 +1,4 @@
 use Rattle.rules_pool.specs.Changes.{went}
-use borrow.Author.Rules.{rules}
 use Rattle.client_state.proofs.changes.go.Goals as goal
 
 pub returns : goal.returns

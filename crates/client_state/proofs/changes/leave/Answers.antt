@@ -1,5 +1,4 @@
 use Rattle.rules_pool.specs.Changes.{left}
-use borrow.Author.Rules.{rules}
 use Rattle.client_state.proofs.changes.leave.Goals as goal
 
 pub returns-then-ro : goal.returns-then-ro

@@ -1,7 +1,6 @@
 use borrow.Author.Rules.{rules}
 use Prim.Native.Nat.{◌-◌}
-use Rattle.laws_words.specs.Loops.{Maps, maps-start, maps-more, maps-done}
-use Rattle.rules_pool.specs.Changes.{unmarked}
+use Rattle.laws_words.specs.Loops.{maps-more}
 use Rattle.client_state.proofs.changes.unmark.Goals as goal
 
 pub loop-i-preserved : goal.loop-i-preserved

@@ -1,6 +1,5 @@
-use borrow.Author.Rules.{rules}
 use Prim.Native.Nat.{◌-◌}
-use Rattle.laws_words.specs.Loops.{Maps, maps-start, maps-more, maps-done}
+use Rattle.laws_words.specs.Loops.{Maps}
 use Rattle.rules_pool.specs.Changes.{unmarked}
 use Rattle.client_state.proofs.changes.unmark.Given as goal
 

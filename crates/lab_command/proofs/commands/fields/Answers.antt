@@ -1,6 +1,5 @@
 use Rattle.lab_command.specs.Commands.{fields}
 use mathlib.Core.Path.{refl}
-use borrow.Author.Rules.{rules}
 use Rattle.lab_command.proofs.commands.fields.Goals as goal
 
 pub returns : goal.returns

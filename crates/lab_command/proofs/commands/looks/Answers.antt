@@ -1,6 +1,5 @@
 use Rattle.lab_command.specs.Commands.{looks}
 use mathlib.Core.Path.{refl}
-use borrow.Author.Rules.{rules}
 use Rattle.lab_command.proofs.commands.looks.Goals as goal
 
 pub returns : goal.returns

@@ -1,7 +1,5 @@
 use Rattle.lab_command.specs.Commands.{meaning}
-use native.Mathlib.Omega.{arith}
-use mathlib.Core.Path.{◌≡◌, refl, sym, ap, ◌∙◌}
-use borrow.Author.Rules.{rules}
+use mathlib.Core.Path.{refl}
 use Rattle.lab_command.proofs.commands.parse.Reads as reads
 use Rattle.lab_command.proofs.commands.checks.Reads as checks-reads
 use Rattle.lab_command.proofs.commands.fields.Reads as fields-reads

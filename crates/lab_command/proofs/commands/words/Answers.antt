@@ -1,7 +1,5 @@
 use Rattle.lab_command.specs.Commands.{words}
-use native.Mathlib.Omega.{arith}
-use mathlib.Core.Path.{◌≡◌, refl, sym, ap, ◌∙◌}
-use borrow.Author.Rules.{rules}
+use mathlib.Core.Path.{refl}
 use Rattle.lab_command.proofs.commands.words.Reads as reads
 use Rattle.lab_form.proofs.first.Reads as first_reads
 use Rattle.lab_form.proofs.plain.Reads as plain-reads

@@ -1,6 +1,5 @@
 use Rattle.lab_command.specs.Events.{client_events}
 use mathlib.Core.Path.{refl}
-use borrow.Author.Rules.{rules}
 use Rattle.lab_command.proofs.events.client_events.Goals as goal
 
 pub returns : goal.returns

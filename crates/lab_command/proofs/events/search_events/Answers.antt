@@ -1,7 +1,5 @@
 use Rattle.lab_command.specs.Events.{search_events}
-use native.Mathlib.Omega.{arith}
-use mathlib.Core.Path.{◌≡◌, refl, sym, ap, ◌∙◌}
-use borrow.Author.Rules.{rules}
+use mathlib.Core.Path.{refl}
 use Rattle.lab_command.proofs.events.search_events.Reads as reads
 use Rattle.lab_form.proofs.first.Reads as first_reads
 use Rattle.lab_form.proofs.node.Reads as node-reads

@@ -1,5 +1,4 @@
 use Rattle.lab_command.specs.Events.{whole_events}
-use mathlib.Core.Path.{refl}
 use borrow.Author.Rules.{rules}
 use Rattle.lab_command.proofs.events.whole_events.Goals as goal
 

@@ -1,7 +1,6 @@
 use native.Mathlib.Nat.{sub-zero}
 use borrow.Author.Tests.{lt-ltb, le-ltb}
 use Rattle.lab_command.specs.Reading.{command_in}
-use borrow.Author.Rules.{rules}
 use Rattle.lab_command.proofs.reading.to_command.Goals as goal
 
 pub returns-then-line-n : goal.returns-then-line-n

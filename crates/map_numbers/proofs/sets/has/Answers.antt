@@ -2,7 +2,6 @@ use Rattle.rules_base.specs.Sets.{has}
 use Rattle.laws_words.specs.Words.{bit}
 use borrow.Author.Tests.{lt-ltb, le-ltb}
 use native.Mathlib.Omega.{arith}
-use borrow.Author.Rules.{rules}
 use Rattle.map_numbers.proofs.sets.has.Goals as goal
 
 pub returns-then-id-gt15 : goal.returns-then-id-gt15

@@ -1,9 +1,7 @@
-use borrow.Author.Rules.{rules}
-use Rattle.rules_base.specs.Sets.{has, lowest_to, lowest}
-use native.Mathlib.Numerals.{add-one}
-use Prim.Native.Nat.{◌-◌, ◌≤◌}
+use Rattle.rules_base.specs.Sets.{lowest}
+use Prim.Native.Nat.{◌-◌}
 use native.Mathlib.Omega.{arith}
-use mathlib.Core.Path.{◌≡◌, refl}
+use mathlib.Core.Path.{◌≡◌}
 use Rattle.map_numbers.proofs.sets.lowest.Goals as goal
 
 pub returns : goal.returns

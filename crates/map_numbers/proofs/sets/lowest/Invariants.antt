@@ -1,9 +1,6 @@
-use borrow.Author.Rules.{rules}
-use Rattle.rules_base.specs.Sets.{has, lowest_to, lowest}
-use native.Mathlib.Numerals.{add-one}
+use Rattle.rules_base.specs.Sets.{has, lowest_to}
 use Prim.Native.Nat.{◌-◌, ◌≤◌}
-use native.Mathlib.Omega.{arith}
-use mathlib.Core.Path.{◌≡◌, refl}
+use mathlib.Core.Path.{◌≡◌}
 use Rattle.map_numbers.proofs.sets.lowest.Given as goal
 
 abbrev pub invariant-loop-i : goal.invariant-loop-i

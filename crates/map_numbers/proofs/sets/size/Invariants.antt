@@ -1,11 +1,6 @@
-use Rattle.laws_words.specs.Tests.{one-le}
-use borrow.Author.Rules.{rules}
-use Rattle.rules_base.proofs.Sets.{count_to-le}
-use Rattle.rules_base.specs.Sets.{has, count_to, size}
-use native.Mathlib.Numerals.{add-one}
+use Rattle.rules_base.specs.Sets.{has, count_to}
 use Prim.Native.Nat.{◌-◌, ◌≤◌}
-use native.Mathlib.Omega.{arith}
-use mathlib.Core.Path.{◌≡◌, refl}
+use mathlib.Core.Path.{◌≡◌}
 use Rattle.map_numbers.proofs.sets.size.Given as goal
 
 abbrev pub invariant-loop-i : goal.invariant-loop-i

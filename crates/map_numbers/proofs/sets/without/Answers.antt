@@ -1,7 +1,6 @@
 use Rattle.rules_base.specs.Sets.{without}
 use borrow.Author.Tests.{lt-ltb, le-ltb}
 use native.Mathlib.Omega.{arith}
-use borrow.Author.Rules.{rules}
 use Rattle.map_numbers.proofs.sets.without.Goals as goal
 
 pub returns-then-id-gt15 : goal.returns-then-id-gt15

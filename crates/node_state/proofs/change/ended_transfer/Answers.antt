@@ -1,5 +1,4 @@
 use Rattle.rules_node.specs.Change.{ended_transfer}
-use borrow.Author.Rules.{rules}
 use Rattle.node_state.proofs.change.ended_transfer.Goals as goal
 
 pub returns : goal.returns

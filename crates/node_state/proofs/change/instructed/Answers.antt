@@ -1,5 +1,4 @@
 use Rattle.rules_node.specs.Change.{instructed}
-use borrow.Author.Rules.{rules}
 use Rattle.node_state.proofs.change.instructed.Goals as goal
 
 pub returns : goal.returns

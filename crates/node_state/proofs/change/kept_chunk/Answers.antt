@@ -1,5 +1,4 @@
 use Rattle.rules_node.specs.Change.{kept_chunk}
-use borrow.Author.Rules.{rules}
 use Rattle.node_state.proofs.change.kept_chunk.Goals as goal
 
 pub returns : goal.returns

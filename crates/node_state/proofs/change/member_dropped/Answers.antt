@@ -1,5 +1,4 @@
 use Rattle.rules_node.specs.Change.{member_dropped}
-use borrow.Author.Rules.{rules}
 use Rattle.node_state.proofs.change.member_dropped.Goals as goal
 
 pub returns : goal.returns

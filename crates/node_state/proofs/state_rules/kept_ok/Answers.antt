@@ -1,5 +1,4 @@
 use Rattle.rules_node.specs.StateRules.{kept_ok}
-use borrow.Author.Rules.{rules}
 use Rattle.node_state.proofs.state_rules.kept_ok.Goals as goal
 
 pub returns : goal.returns

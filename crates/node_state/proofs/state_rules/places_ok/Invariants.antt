@@ -1,10 +1,7 @@
-use borrow.Author.Rules.{rules}
 use Rattle.rules_node.specs.StateRules.{place_ok}
 use Rattle.laws_words.specs.Bits.{upto}
 use Prim.Native.Nat.{◌-◌, ◌≤◌}
-use native.Mathlib.Numerals.{add-one}
-use native.Mathlib.Omega.{arith}
-use mathlib.Core.Path.{◌≡◌, refl, ap, ◌∙◌}
+use mathlib.Core.Path.{◌≡◌}
 use Rattle.node_state.proofs.state_rules.places_ok.Given as goal
 
 abbrev pub invariant-loop-i : goal.invariant-loop-i

@@ -1,5 +1,4 @@
 use Rattle.rules_node.specs.StateRules.{valid}
-use borrow.Author.Rules.{rules}
 use Rattle.node_state.proofs.state_rules.valid.Goals as goal
 
 pub returns : goal.returns

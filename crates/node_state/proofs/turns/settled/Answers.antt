@@ -1,4 +1,3 @@
-use borrow.Author.Rules.{rules}
 use borrow.Author.Tests.{eq-eqb, ne_eqb}
 use Rattle.rules_node.specs.Turns.{settled}
 use Rattle.node_state.proofs.turns.settled.Goals as goal

@@ -1,6 +1,5 @@
 use Rattle.rules_client.specs.Remove.{remove}
 use borrow.Author.Tests.{eq-eqb, ne_eqb}
-use borrow.Author.Rules.{rules}
 use Rattle.client_remove.proofs.removal.remove.remove.Goals as goal
 
 pub returns-then-why-ne0 : goal.returns-then-why-ne0

@@ -1,5 +1,4 @@
 use Rattle.rules_client.specs.Remove.{remove_refusal}
-use borrow.Author.Rules.{rules}
 use Rattle.client_remove.proofs.removal.remove.remove_refusal.Goals as goal
 
 pub returns : goal.returns

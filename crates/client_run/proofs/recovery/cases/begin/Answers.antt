@@ -1,5 +1,5 @@
 use Rattle.rules_pool.specs.Cases.{begun}
-use Rattle.std.proofs.Common.{rules, le-ltb, lt-ltb}
+use Rattle.std.proofs.Common.{le-ltb, lt-ltb}
 use Rattle.client_run.proofs.recovery.cases.begin.Goals as goal
 
 pub returns-then-ro-gt-VERSION_LIMIT : goal.returns-then-ro-gt-VERSION_LIMIT

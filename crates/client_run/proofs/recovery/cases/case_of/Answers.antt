@@ -1,5 +1,5 @@
 use Rattle.rules_pool.specs.Cases.{case_of}
-use Rattle.std.proofs.Common.{rules, eq-eqb, ne_eqb}
+use Rattle.std.proofs.Common.{eq-eqb, ne_eqb}
 use Rattle.client_run.proofs.recovery.cases.case_of.Goals as goal
 
 pub returns-then-normals-ne0 : goal.returns-then-normals-ne0
