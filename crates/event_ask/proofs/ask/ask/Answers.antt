@@ -1,5 +1,4 @@
 use Rattle.event_ask.proofs.Lent.{lent-finds}
-use borrow.Author.Rules.{rules}
 use Rattle.event_ask.proofs.ask.ask.Goals as goal
 
 pub returns : goal.returns

@@ -1,5 +1,4 @@
 use Rattle.event_words.specs.NodeWords.{known}
-use borrow.Author.Rules.{rules}
 use Rattle.event_words.proofs.node_words.read.Goals as goal
 
 pub returns : goal.returns

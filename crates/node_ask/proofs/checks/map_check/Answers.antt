@@ -1,5 +1,4 @@
 use borrow.Author.Tests.{eq-eqb, ne_eqb}
-use borrow.Author.Rules.{rules}
 use Rattle.rules_node.specs.Check.{map_check}
 use Rattle.node_ask.proofs.checks.map_check.Goals as goal
 

@@ -1,10 +1,6 @@
 use borrow.Author.Tests.{eq-eqb, ne_eqb}
 use Rattle.rules_node.specs.Next.{next_dirty, next_refusal}
-use native.Mathlib.Omega.{arith}
-use mathlib.Core.Path.{◌≡◌, refl, sym, ap, ◌∙◌}
-use borrow.Author.Rules.{rules}
-use Rattle.node_ask.proofs.next.next_dirty.Reads as reads
-use Rattle.node_ask.proofs.next.next_refusal.Reads as next-refusal-reads
+use mathlib.Core.Path.{◌≡◌}
 use Rattle.node_ask.proofs.next.next_dirty.Goals as goal
 
 pub returns-then-why-ne0 : goal.returns-then-why-ne0

@@ -1,9 +1,5 @@
-use borrow.Author.Rules.{rules}
-use Rattle.rules_node.specs.Carry.{last_io_at, last_ios}
-use Rattle.laws_words.specs.Loops.{Runs, runs-start, runs-more, runs_done}
-use Prim.Native.Nat.{◌-◌}
-use lib.ListN.{length}
-use mathlib.Core.Path.{◌≡◌, refl}
+use Rattle.rules_node.specs.Carry.{last_ios}
+use Rattle.laws_words.specs.Loops.{runs_done}
 use Rattle.node_bytes.proofs.maps.last_ios.Goals as goal
 
 pub returns : goal.returns

@@ -1,9 +1,8 @@
-use borrow.Author.Rules.{rules}
-use Rattle.rules_node.specs.Carry.{last_io_at, last_ios}
-use Rattle.laws_words.specs.Loops.{Runs, runs-start, runs-more, runs_done}
+use Rattle.rules_node.specs.Carry.{last_io_at}
+use Rattle.laws_words.specs.Loops.{Runs}
 use Prim.Native.Nat.{◌-◌}
 use lib.ListN.{length}
-use mathlib.Core.Path.{◌≡◌, refl}
+use mathlib.Core.Path.{◌≡◌}
 use Rattle.node_bytes.proofs.maps.last_ios.Given as goal
 
 abbrev pub invariant-loop-i : goal.invariant-loop-i

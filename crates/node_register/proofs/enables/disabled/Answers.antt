@@ -1,4 +1,3 @@
-use borrow.Author.Rules.{rules}
 use Rattle.rules_node.specs.Enable.{disabled}
 use Rattle.node_register.proofs.enables.disabled.Goals as goal
 

@@ -1,4 +1,3 @@
-use borrow.Author.Rules.{rules}
 use Rattle.rules_node.specs.Enable.{enable0}
 use Rattle.node_register.proofs.enables.enable0.Goals as goal
 

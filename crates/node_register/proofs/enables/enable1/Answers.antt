@@ -1,4 +1,3 @@
-use borrow.Author.Rules.{rules}
 use Rattle.rules_node.specs.Enable.{enable1}
 use Rattle.node_register.proofs.enables.enable1.Goals as goal
 

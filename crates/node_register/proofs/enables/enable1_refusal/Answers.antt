@@ -1,4 +1,3 @@
-use borrow.Author.Rules.{rules}
 use Rattle.rules_node.specs.Enable.{enable1_refusal}
 use Rattle.node_register.proofs.enables.enable1_refusal.Goals as goal
 

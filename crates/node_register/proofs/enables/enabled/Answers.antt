@@ -1,4 +1,3 @@
-use borrow.Author.Rules.{rules}
 use Rattle.rules_node.specs.Enable.{enabled}
 use Rattle.node_register.proofs.enables.enabled.Goals as goal
 

@@ -1,4 +1,3 @@
-use borrow.Author.Rules.{rules}
 use Rattle.rules_node.specs.Enable.{fault}
 use Rattle.node_register.proofs.enables.fault.Goals as goal
 

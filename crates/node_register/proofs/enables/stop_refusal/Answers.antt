@@ -1,4 +1,3 @@
-use borrow.Author.Rules.{rules}
 use Rattle.rules_node.specs.Enable.{stop_refusal}
 use Rattle.node_register.proofs.enables.stop_refusal.Goals as goal
 

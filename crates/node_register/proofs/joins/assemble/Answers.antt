@@ -1,5 +1,4 @@
 use Rattle.rules_node.specs.Join.{assemble}
-use borrow.Author.Rules.{rules}
 use Rattle.node_register.proofs.joins.assemble.Goals as goal
 
 pub returns : goal.returns

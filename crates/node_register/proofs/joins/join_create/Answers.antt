@@ -1,5 +1,4 @@
 use Rattle.rules_node.specs.Join.{join_create}
-use borrow.Author.Rules.{rules}
 use Rattle.node_register.proofs.joins.join_create.Goals as goal
 
 pub returns : goal.returns

@@ -1,5 +1,4 @@
 use Rattle.rules_node.specs.Join.{left}
-use borrow.Author.Rules.{rules}
 use Rattle.node_register.proofs.joins.left.Goals as goal
 
 pub returns : goal.returns

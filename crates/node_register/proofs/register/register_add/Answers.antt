@@ -1,5 +1,4 @@
 use Rattle.rules_node.specs.Register.{register_add}
-use borrow.Author.Rules.{rules}
 use Rattle.node_register.proofs.register.register_add.Goals as goal
 
 pub returns : goal.returns

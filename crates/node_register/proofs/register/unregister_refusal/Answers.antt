@@ -1,5 +1,4 @@
 use Rattle.rules_node.specs.Register.{unregister_refusal}
-use borrow.Author.Rules.{rules}
 use Rattle.node_register.proofs.register.unregister_refusal.Goals as goal
 
 pub returns : goal.returns

@@ -1,5 +1,4 @@
 use Rattle.rules_node.specs.Register.{unregistered}
-use borrow.Author.Rules.{rules}
 use Rattle.node_register.proofs.register.unregistered.Goals as goal
 
 pub returns : goal.returns

@@ -1,5 +1,4 @@
 use Rattle.rules_node.specs.Register.{wiped}
-use borrow.Author.Rules.{rules}
 use Rattle.node_register.proofs.register.wiped.Goals as goal
 
 pub returns-then-delete : goal.returns-then-delete

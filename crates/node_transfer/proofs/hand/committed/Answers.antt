@@ -1,4 +1,3 @@
-use borrow.Author.Rules.{rules}
 use Rattle.rules_node.specs.Hand.{committed}
 use Rattle.node_transfer.proofs.hand.committed.Goals as goal
 

@@ -1,4 +1,3 @@
-use borrow.Author.Rules.{rules}
 use Rattle.rules_node.specs.Hand.{hand_refusal}
 use Rattle.node_transfer.proofs.hand.hand_refusal.Goals as goal
 

@@ -1,4 +1,3 @@
-use borrow.Author.Rules.{rules}
 use Rattle.rules_node.specs.Hand.{map_done_refusal}
 use Rattle.node_transfer.proofs.hand.map_done_refusal.Goals as goal
 

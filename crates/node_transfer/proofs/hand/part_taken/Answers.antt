@@ -1,4 +1,3 @@
-use borrow.Author.Rules.{rules}
 use Rattle.rules_node.specs.Hand.{part_taken}
 use Rattle.node_transfer.proofs.hand.part_taken.Goals as goal
 

@@ -3,7 +3,6 @@ use Rattle.rules_node.specs.Hand.{take_part}
 use Rattle.rules_node.specs.Turns.{settled}
 use borrow.Author.Tests.{eq-eqb, ne_eqb}
 use mathlib.Core.Path.{sym, ◌∙◌}
-use borrow.Author.Rules.{rules}
 use Rattle.node_transfer.proofs.hand.take_part.Goals as goal
 
 pub returns-then-why-ne0 : goal.returns-then-why-ne0

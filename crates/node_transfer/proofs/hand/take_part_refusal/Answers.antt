@@ -1,4 +1,3 @@
-use borrow.Author.Rules.{rules}
 use Rattle.rules_node.specs.Hand.{take_part_refusal}
 use Rattle.node_transfer.proofs.hand.take_part_refusal.Goals as goal
 

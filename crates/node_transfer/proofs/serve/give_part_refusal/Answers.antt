@@ -1,4 +1,3 @@
-use borrow.Author.Rules.{rules}
 use Rattle.rules_node.specs.Serve.{give_part_refusal}
 use Rattle.node_transfer.proofs.serve.give_part_refusal.Goals as goal
 

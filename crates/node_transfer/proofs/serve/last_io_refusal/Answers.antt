@@ -1,4 +1,3 @@
-use borrow.Author.Rules.{rules}
 use Rattle.rules_node.specs.Serve.{last_io_refusal}
 use Rattle.node_transfer.proofs.serve.last_io_refusal.Goals as goal
 

@@ -1,4 +1,3 @@
-use borrow.Author.Rules.{rules}
 use Rattle.rules_node.specs.Serve.{last_io_to_map}
 use Rattle.node_transfer.proofs.serve.last_io_to_map.Goals as goal
 

@@ -1,4 +1,3 @@
-use borrow.Author.Rules.{rules}
 use Rattle.rules_node.specs.Serve.{map_get_ver}
 use Rattle.node_transfer.proofs.serve.map_get_ver.Goals as goal
 

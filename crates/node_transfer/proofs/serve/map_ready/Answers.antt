@@ -1,4 +1,3 @@
-use borrow.Author.Rules.{rules}
 use Rattle.rules_node.specs.Serve.{map_ready}
 use Rattle.node_transfer.proofs.serve.map_ready.Goals as goal
 

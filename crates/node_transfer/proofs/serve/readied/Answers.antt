@@ -1,4 +1,3 @@
-use borrow.Author.Rules.{rules}
 use Rattle.rules_node.specs.Serve.{readied}
 use Rattle.node_transfer.proofs.serve.readied.Goals as goal
 

@@ -1,4 +1,3 @@
-use borrow.Author.Rules.{rules}
 use Rattle.rules_node.specs.Serve.{serve_refusal}
 use Rattle.node_transfer.proofs.serve.serve_refusal.Goals as goal
 

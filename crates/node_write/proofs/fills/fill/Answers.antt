@@ -1,4 +1,3 @@
-use borrow.Author.Rules.{rules}
 use Rattle.rules_node.specs.Fill.{fill}
 use Rattle.node_write.proofs.fills.fill.Goals as goal
 

@@ -1,4 +1,3 @@
-use borrow.Author.Rules.{rules}
 use Rattle.rules_node.specs.Fill.{fill_refusal}
 use Rattle.node_write.proofs.fills.fill_refusal.Goals as goal
 

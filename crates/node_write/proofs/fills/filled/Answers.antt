@@ -1,4 +1,3 @@
-use borrow.Author.Rules.{rules}
 use Rattle.rules_node.specs.Fill.{filled}
 use Rattle.node_write.proofs.fills.filled.Goals as goal
 

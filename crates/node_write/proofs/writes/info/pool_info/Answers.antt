@@ -1,4 +1,3 @@
-use borrow.Author.Rules.{rules}
 use Rattle.rules_node.specs.Info.{pool_info}
 use Rattle.node_write.proofs.writes.info.pool_info.Goals as goal
 

@@ -1,4 +1,3 @@
-use borrow.Author.Rules.{rules}
 use Rattle.rules_node.specs.Info.{pool_info_refusal}
 use Rattle.node_write.proofs.writes.info.pool_info_refusal.Goals as goal
 

@@ -1,4 +1,3 @@
-use borrow.Author.Rules.{rules}
 use Rattle.rules_node.specs.Write.{synced}
 use Rattle.node_write.proofs.writes.write.synced.Goals as goal
 

@@ -1,4 +1,3 @@
-use borrow.Author.Rules.{rules}
 use Rattle.rules_node.specs.Write.{synced_refusal}
 use Rattle.node_write.proofs.writes.write.synced_refusal.Goals as goal
 

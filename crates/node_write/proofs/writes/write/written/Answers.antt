@@ -1,4 +1,3 @@
-use borrow.Author.Rules.{rules}
 use Rattle.rules_node.specs.Write.{written}
 use Rattle.node_write.proofs.writes.write.written.Goals as goal
 
