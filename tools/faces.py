@@ -14,15 +14,24 @@ import tempfile
 from tools.crates import ROOT
 
 FUNCTION = re.compile(r'(?m)^[ \t]*(?:pub(?:\(crate\))? )?(?:extern "C" )?fn (\w+)[\s\S]*?\n[ \t]*\{\n')
-CLAUSE = re.compile(r"(requires|ensures) \{ (.*) \}")
+CLAUSE = re.compile(r"\b(requires|ensures)(?: \w+)? \{")
 NAME = re.compile(r"(?m)^\s*(?:(?:abbrev|unfoldable) )?(?:pub )?(?:(?:record|data) )?([^\s(){}:;]+)")
 
 
 def plain(text):
     """Without the names of crates and modules, and without how it is laid out."""
-    text = re.sub(r"\b\w+·(?=\w)", "", text)
-    text = re.sub(r"(?<![\w.)′])[A-Za-z_]\w*\.(?=[A-Za-z])", "", text)
+    text = re.sub(r"(?<![\w.)'])(?:[A-Z]\w*\.(?=[A-Za-z])|[a-z_]\w*\.(?=[A-Z]))", "", text)
     return " ".join(text.split())
+
+
+def clauses(text):
+    """The clauses of a contract, each with its kind; one may stand on several lines."""
+    for head in CLAUSE.finditer(text):
+        end, depth = head.end(), 1
+        while depth:
+            depth += {"{": 1, "}": -1}.get(text[end], 0)
+            end += 1
+        yield head.group(1), text[head.end() : end - 1]
 
 
 def faces(root):
@@ -31,13 +40,13 @@ def faces(root):
         for file in sorted(files):
             path = os.path.join(folder, file)
             part = os.path.relpath(path, os.path.join(root, "crates")).split(os.sep)
-            if not file.endswith((".rt", ".antt")) or file in ("Lib.antt", "Proof.antt"):
+            if not file.endswith((".rt", ".antt")) or file in ("Lib.antt", "Proof.antt", "Invariants.antt", "Answers.antt"):
                 continue
             with open(path, encoding="utf-8") as f:
                 text = re.sub(r"(?m)^\s*(--|//).*$", "", f.read())
             if file.endswith(".rt"):
                 for head in FUNCTION.finditer(text):
-                    yield "contract", head.group(1), "; ".join("%s %s" % (k, plain(c)) for k, c in CLAUSE.findall(head.group(0)))
+                    yield "contract", head.group(1), "; ".join("%s %s" % (k, plain(c)) for k, c in clauses(head.group(0)))
                 continue
             for block in re.split(r"\n\n+", re.sub(r"(?m)^(?:pub |ghost )?use .*$", "", text)):
                 found = NAME.search(block)

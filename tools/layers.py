@@ -46,7 +46,7 @@ HEAD = "# Each crate, then what it uses. Made by tools/layers.py from what the c
 PATH = re.compile(r"Rattle\.([a-z0-9_]+)\.(?:specs|proofs)")
 NAMED = re.compile(r"(?<![\w:.])([a-z_0-9]+)::")
 USED = re.compile(r"(?m)^\s*use ([a-z_0-9]+)(?:::[a-z_0-9]+)*::(\{[^}]*\}|[A-Z]\w*);")
-OF_STD = re.compile(r"(?m)^\s*use std::(\w+);")
+OF_STD = re.compile(r"(?m)^\s*use std::(\{[^}]*\}|\w+);")
 EXPORT = "#[unsafe(no_mangle)]"  # a crate that exports to C is a static library
 TYPE = re.compile(r"pub (?:struct|enum) \w+(?:<[^>]*>)?\s*(\{.*?\n\}|\(.*?\);)", re.S)
 FUNCTION = re.compile(r'(?m)^\s*(?:pub )?(?:extern "C" )?fn ')
@@ -74,7 +74,7 @@ def names(crate, crates):
     for name, text in texts(crate, "src", "specs", "proofs"):
         found |= set(PATH.findall(text))
         if name.endswith(".rt"):
-            found |= set(NAMED.findall(text)) - set(OF_STD.findall(text))  # after `use std::io;` io:: is a module of std
+            found |= set(NAMED.findall(text)) - set(re.findall(r"\w+", " ".join(OF_STD.findall(text))))  # after `use std::io;` io:: is a module of std
     return {d for d in found - {crate} if d in crates or d in KIT}
 
 

@@ -9,7 +9,7 @@ make the laws below fit the wrong rule, so that none of them stands in the theor
   python3 -m tools.wrong_rules            tries all, two at a time
   python3 -m tools.wrong_rules NAME ..    tries these
 
-Each is applied to a copy of the tree with what is proved of it (run `rt check` before), and the crates that it touches and those above are checked, lowest first, up to the first that is refused.
+Each is applied to a copy of the tree with what is proved of it (run `rt all check` before), and the crates that it touches and those above are checked, lowest first, up to the first that is refused.
 A wrong rule that nothing refuses is a failure. This is no part of the gate.
 """
 import glob
@@ -73,31 +73,24 @@ def apply(tree, edits):
             f.write(text.replace(old, new))
 
 
-ERROR = re.compile(r"crates/([\w/.]+):\d+:\d+: error: `([^`]+)`")
+ERROR = re.compile(r"([\w/.]+):\d+:\d+: error: `([^`]+)`")
 
 
 def refused_at(output):
     """The first law, theorem or function that the check refuses."""
     first = ERROR.search(output)
     if first:
-        return "%s (%s)" % (first.group(2), first.group(1))
+        return "%s (%s)" % (first.group(2), os.path.normpath(first.group(1)))
     fn = re.search(r"^fn ([\w:]+): (?:not proved|no proof)", output, re.M)
     return "fn " + fn.group(1) if fn else output.strip().split("\n")[-1]
 
 
 def copied(tree, crates):
     """The sources of all crates, and what is proved of these."""
-    for part in ("crates", "crates.txt"):
-        source, to = os.path.join(ROOT, part), os.path.join(tree, part)
-        shutil.copytree(source, to, symlinks=True) if os.path.isdir(source) else shutil.copy(source, to)
-    for crate in crates:
-        for part in (f"target/rlib/{crate}.rlib", f"target/stamp/{crate}"):
-            source, to = os.path.join(ROOT, part), os.path.join(tree, part)
-            os.makedirs(os.path.dirname(to), exist_ok=True)
-            if os.path.isdir(source):
-                shutil.copytree(source, to, symlinks=True)
-            elif os.path.exists(source):
-                shutil.copy(source, to)
+    shutil.copy(os.path.join(ROOT, "crates.txt"), tree)
+    for crate in os.listdir(os.path.join(ROOT, "crates")):
+        source, to = os.path.join(ROOT, "crates", crate), os.path.join(tree, "crates", crate)
+        shutil.copytree(source, to, symlinks=True, ignore=None if crate in crates else shutil.ignore_patterns("out"))
 
 
 def attempt(name, uses):
@@ -110,7 +103,7 @@ def attempt(name, uses):
         copied(tree, under(crates, uses) & set(uses))
         apply(tree, edits)
         for crate in crates:
-            done = subprocess.run(["rt", "check", crate], cwd=tree, capture_output=True, text=True, env=dict(os.environ, RT_CUT="0", RT_JOBS="1"))
+            done = subprocess.run(["rt", "check", "--jobs", "1"], cwd=os.path.join(tree, "crates", crate), capture_output=True, text=True)
             if done.returncode:
                 what = "%s: %s" % (crate, refused_at(done.stdout + done.stderr))
                 said.append("  refused by %s%s" % (what, "" if not falls or falls.split()[0].rstrip(":") in what else "  (before: %s)" % falls))

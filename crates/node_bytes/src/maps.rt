@@ -16,6 +16,7 @@ pub fn carry(e: Effect, n: Node, map: &mut [u8], staging: &mut [u8])
     carry_staging(s, map, staging);
 }
 
+#[tactic(auto, unfolding(rules_node::specs::Carry::map_after))]
 fn carry_map(e: OnMap, n: Node, map: &mut [u8], staging: &[u8])
     ensures { map.new ≡ map_after e n staging.now map.old }
 {
@@ -40,6 +41,7 @@ fn commit(set: u64, map: &mut [u8], staging: &[u8])
     map_whole::maps::keep_rows(map, set);
 }
 
+#[tactic(auto, unfolding(rules_node::specs::Carry::staging_after))]
 fn carry_staging(e: OnStaging, map: &[u8], staging: &mut [u8])
     ensures { staging.new ≡ staging_after e map.now staging.old }
 {
@@ -52,6 +54,7 @@ fn carry_staging(e: OnStaging, map: &[u8], staging: &mut [u8])
 }
 
 // Taking a part: ORed into staging at its offset where the event was accepted.
+#[tactic(auto, unfolding(rules_node::specs::Carry::taken_in))]
 pub fn take_in(e: OnStaging, part: &[u8], staging: &mut [u8])
     ensures { staging.new ≡ taken_in e part.now staging.old }
 {
@@ -74,6 +77,7 @@ fn last_ios(n: Node, chosen: u64, map: &mut [u8])
     }
 }
 
+#[tactic(auto, unfolding(rules_node::specs::Carry::last_io_at))]
 fn last_io_at(n: Node, chosen: u64, i: usize, map: &mut [u8])
     requires { i < 16 }
     ensures { map.new ≡ last_io_at n chosen i map.old }
@@ -87,6 +91,7 @@ fn last_io_at(n: Node, chosen: u64, i: usize, map: &mut [u8])
 }
 
 // A chunk that is dirty for the chosen was missed by it: it has nothing to tell the others.
+#[tactic(auto, unfolding(rules_node::specs::Carry::last_io))]
 fn last_io(members: u64, chosen: u64, chunk: u64, map: &mut [u8])
     ensures { map.new ≡ last_io members chosen chunk map.old }
 {

@@ -21,6 +21,7 @@ fn cleared(mut words: Summaries, map: &[u8], member: u64, chunk: u64) -> Summari
 }
 
 // The summaries after an effect that was carried out on the map.
+#[tactic(auto, unfolding(rules_node::specs::Follow::followed))]
 fn follow(e: OnMap, words: Summaries, map: &[u8]) -> Summaries
     ensures { result ≡ followed e map.now words }
 {
@@ -38,6 +39,7 @@ fn follow(e: OnMap, words: Summaries, map: &[u8]) -> Summaries
 }
 
 // The same, at a node whose lent maps refuse with a number, 0 where they do not.
+#[tactic(auto, unfolding(rules_node::specs::Follow::words_after))]
 pub fn after(lent: u64, e: OnMap, words: Summaries, map: &[u8]) -> Summaries
     ensures { result ≡ words_after lent e map.now words }
 {

@@ -70,7 +70,7 @@ descs-back pre (d ∷ ds) i h (one a b s) =
     let second : word_at (pre ++ ys) (8 * i + 4) ≡ d.flags = rw (← h) (word-append pre ys 4 ∙ word-second d.bytes d.flags (bytes_of ds) b) in
     let shift : pre ++ ys ≡ (pre ++ (u ++ v)) ++ bytes_of ds = rw (append_assoc pre (u ++ v) (bytes_of ds), append_assoc u v (bytes_of ds)) in
     let size : length (pre ++ (u ++ v)) ≡ 8 * suc i = unfold word in rw (length-append pre) (omega arith) in
-    rw (first, second) (ap (λ (r : List Desc). d ∷ r) (rw shift (descs-back (pre ++ (u ++ v)) ds (suc i) size s)))
+    rw (first, second) (ap (λ (r : List Desc). d ∷ r) (ap (λ (xs : List ℕ). descs_from xs (suc i) (length ds)) shift ∙ descs-back (pre ++ (u ++ v)) ds (suc i) size s))
 
 descs-of-bytes : (ds : List Desc) → Small ds → descs_of (bytes_of ds) ≡ ds
 unfolding descs_of

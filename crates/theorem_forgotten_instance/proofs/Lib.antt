@@ -1,3 +1,4 @@
+pub mod Computed
 pub mod Follow
 pub mod Instance
 pub mod Sound

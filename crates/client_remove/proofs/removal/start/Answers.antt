@@ -4,7 +4,7 @@ use Rattle.client_remove.proofs.removal.start.Goals as goal
 
 pub returns-then-owed : goal.returns-then-owed
 unfolding started
-returns-then-owed c = simp (c.ask-posted.ensures, c.Mode-of.ensures, simp (c.is_owed-owed.ensures, c.state_of-was.ensures) at c.if-owed.true, c.is_owed-owed.ensures, c.state_of-was.ensures)
+returns-then-owed c = search rules
 
 pub returns : goal.returns
 unfolding started

@@ -1,11 +1,6 @@
 use Prim.Native.Nat.{◌-◌, ◌*◌, ◌≤◌}
-use Rattle.rules_base.proofs.Some.{some-start, some_more}
 use Rattle.rules_base.specs.Summary.{some, lit}
-use native.Mathlib.Omega.{arith}
-use mathlib.Core.Path.{◌≡◌, refl, sym, ap, ◌∙◌}
-use borrow.Author.Rules.{rules}
-use Rattle.map_summary.proofs.mending.below.Reads as reads
-use Rattle.map_summary.proofs.summaries.lit.Reads as lit-reads
+use mathlib.Core.Path.{◌≡◌}
 use Rattle.map_summary.proofs.mending.below.Given as goal
 
 abbrev pub invariant-loop-k : goal.invariant-loop-k

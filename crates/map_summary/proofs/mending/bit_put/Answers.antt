@@ -1,10 +1,5 @@
-use Rattle.laws_words.specs.Words.{pick}
 use Rattle.rules_base.proofs.Bits.{shl_one}
 use Rattle.rules_base.specs.Mend.{bit_put}
-use native.Mathlib.Omega.{arith}
-use mathlib.Core.Path.{◌≡◌, refl, sym, ap, ◌∙◌}
-use borrow.Author.Rules.{rules}
-use Rattle.map_summary.proofs.mending.bit_put.Reads as reads
 use Rattle.map_summary.proofs.mending.bit_put.Goals as goal
 
 pub returns-then-on : goal.returns-then-on

@@ -3,10 +3,8 @@ use Rattle.rules_base.proofs.Chunk.{there-yes, there-no-member, there-no-chunk}
 use Rattle.rules_base.specs.Summary.{size}
 use Rattle.rules_base.specs.Mend.{mended, renewed}
 use native.Mathlib.Omega.{arith}
-use mathlib.Core.Path.{◌≡◌, refl, sym, ap, ◌∙◌}
+use mathlib.Core.Path.{ap, ◌∙◌}
 use borrow.Author.Rules.{rules}
-use Rattle.map_summary.proofs.mending.mend.Reads as reads
-use Rattle.map_summary.proofs.mending.renew.Reads as renew-reads
 use Rattle.map_summary.proofs.mending.mend.Goals as goal
 
 pub returns-then-m-gt15 : goal.returns-then-m-gt15

@@ -1,22 +1,22 @@
-use Prim.Native.Nat.{◌-◌, ◌≤◌}
-use Rattle.rules_base.specs.Sets.{has}
 use Rattle.rules_base.proofs.Chunk.{each_in, each-out, each_none, each-done}
-use Rattle.rules_base.specs.Chunk.{each}
-use Rattle.rules_base.specs.Mend.{mended, mended_for}
-use mathlib.Core.Logic.{⊎_elim}
+use Rattle.rules_base.specs.Mend.{mended_for}
 use native.Mathlib.Omega.{arith}
-use mathlib.Core.Path.{◌≡◌, refl, sym, ap, ◌∙◌}
+use mathlib.Core.Path.{sym, ◌∙◌}
 use borrow.Author.Rules.{rules}
-use Rattle.map_summary.proofs.mending.mend_for.Reads as reads
-use Rattle.map_summary.proofs.mending.mend.Reads as mend-reads
-use Rattle.map_numbers.proofs.sets.has.Reads as has-reads
 use Rattle.map_summary.proofs.mending.mend_for.Goals as goal
+use Rattle.map_summary.proofs.mending.mend_for.Goals.{then-has, else-has}
 
 pub loop-m-init : goal.loop-m-init
 loop-m-init c = (search rules, each_none _ _ _)
 
 pub loop-m-preserved : goal.loop-m-preserved
-loop-m-preserved c = search rules
+loop-m-preserved c = (
+  search rules,
+  elim c.if-has.branch [
+    | then-has w ↦ w.words-is ∙ each_in _ _ _ _ _ _ (sym c.has.ensures ∙ w.if-has.true) c.loop-m.invariant.1 w.mend.ensures
+    | else-has w ↦ w.words-is ∙ each-out _ _ _ _ _ (sym c.has.ensures ∙ w.if-has.false) c.loop-m.invariant.1
+  ],
+)
 
 pub returns : goal.returns
 unfolding mended_for

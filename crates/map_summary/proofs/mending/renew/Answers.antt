@@ -2,12 +2,7 @@ use Rattle.rules_base.proofs.Places.{size-most, base-low}
 use Rattle.rules_base.specs.Summary.{bit_of}
 use Rattle.rules_base.specs.Mend.{renewed}
 use native.Mathlib.Omega.{arith}
-use mathlib.Core.Path.{◌≡◌, refl, sym, ap, ◌∙◌}
 use borrow.Author.Rules.{rules}
-use Rattle.map_summary.proofs.mending.renew.Reads as reads
-use Rattle.map_summary.proofs.mending.below.Reads as below-reads
-use Rattle.map_summary.proofs.mending.put.Reads as put_reads
-use Rattle.map_summary.proofs.summaries.base.Reads as base-reads
 use Rattle.map_summary.proofs.mending.renew.Goals as goal
 
 pub below-on-requires : goal.below-on-requires

@@ -1,14 +1,10 @@
 use borrow.Author.Rules.{rules}
-use mathlib.Core.Path.{◌≡◌, refl, sym, ap, ◌∙◌}
+use mathlib.Core.Path.{◌≡◌, sym}
 use native.Mathlib.Omega.{arith}
 use lib.ListN.{length, get_or}
-use lib.Dec.{eqb}
 use borrow.Author.Tests.{eq-eqb}
-use Prim.Native.Nat.{◌-◌, ◌≤◌}
 use Rattle.rules_base.proofs.Words.{every-start, every_more, summaries-at}
-use Rattle.rules_base.specs.Summary.{word_at, every, agree}
-use Rattle.map_summary.proofs.summaries.agree.Reads as reads
-use Rattle.map_summary.proofs.summaries.of_map.Reads as of-map-reads
+use Rattle.rules_base.specs.Summary.{word_at, agree}
 use Rattle.map_summary.proofs.summaries.agree.Goals as goal
 
 pub loop-j-init : goal.loop-j-init
@@ -19,4 +15,4 @@ loop-j-preserved c = let o = c.of_map-own in let k = c.loop-j in let w : get_or 
 
 pub returns : goal.returns
 unfolding agree
-returns c = search rules
+returns c = let h : length c.args.words ≡ 96 = search rules in let q : c.loop-j.j ≡ 96 = omega arith in rw (eq-eqb _ _ h) (rw q at c.loop-j.invariant.1)

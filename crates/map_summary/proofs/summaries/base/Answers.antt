@@ -1,9 +1,4 @@
 use Rattle.rules_base.specs.Summary.{base}
-use native.Mathlib.Omega.{arith}
-use mathlib.Core.Path.{◌≡◌, refl, sym, ap, ◌∙◌}
-use borrow.Author.Rules.{rules}
-use Rattle.map_summary.proofs.summaries.base.Reads as reads
-use Rattle.map_summary.proofs.summaries.entry.Reads as entry-reads
 use Rattle.map_summary.proofs.summaries.base.Goals as goal
 
 pub returns : goal.returns

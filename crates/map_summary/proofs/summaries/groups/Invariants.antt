@@ -1,17 +1,6 @@
-use borrow.Author.Rules.{rules}
-use mathlib.Core.Path.{◌≡◌, refl, sym, ap, ◌∙◌}
-use native.Mathlib.Omega.{arith}
-use Rattle.rules_base.specs.Summary.{under, bits, word}
-use Rattle.rules_base.proofs.Bits.{digit-next, bits-start, bits_in, bits_out}
-use Rattle.rules_base.proofs.Some.{group-dirty}
-use borrow.Author.Tests.{leb-true, eq-eqb, ne_eqb}
-use lib.Dec.{eqb}
-use lib.ListN.{length}
-use mathlib.Core.Logic.{⊎_elim}
-use mathlib.Core.Bool.{Bool, not}
-use Prim.Native.Nat.{ℕ, ◌+◌, ◌*◌, ◌-◌, ◌^◌, ◌≤◌, ◌<◌}
-use Rattle.map_summary.proofs.summaries.groups.Reads as reads
-use Rattle.map_summary.proofs.summaries.pair.Reads as Pair-reads
+use mathlib.Core.Path.{◌≡◌}
+use Rattle.rules_base.specs.Summary.{under, bits}
+use Prim.Native.Nat.{◌+◌, ◌*◌, ◌-◌, ◌^◌, ◌≤◌, ◌<◌}
 use Rattle.map_summary.proofs.summaries.groups.Given as goal
 
 abbrev pub invariant-loop-i : goal.invariant-loop-i

@@ -1,9 +1,6 @@
 use Rattle.laws_words.specs.Words.{bit}
 use Rattle.rules_base.specs.Summary.{is_set}
-use native.Mathlib.Omega.{arith}
-use mathlib.Core.Path.{◌≡◌, refl, sym, ap, ◌∙◌}
-use borrow.Author.Rules.{rules}
-use Rattle.map_summary.proofs.summaries.is_set.Reads as reads
+use mathlib.Core.Path.{refl}
 use Rattle.map_summary.proofs.summaries.is_set.Goals as goal
 
 pub returns : goal.returns

@@ -1,14 +1,6 @@
-use borrow.Author.Rules.{rules}
-use mathlib.Core.Path.{◌≡◌, refl, sym, ap, ◌∙◌}
-use native.Mathlib.Omega.{arith}
+use mathlib.Core.Path.{◌≡◌}
 use Rattle.rules_base.specs.Summary.{some, bits, is_set}
-use Rattle.rules_base.proofs.Places.{sixteen-set}
-use Rattle.rules_base.proofs.Bits.{shl_one, bits-start, bits_in, bits_out}
-use borrow.Author.Tests.{eq-eqb, ne_eqb}
-use mathlib.Core.Logic.{⊎_elim}
-use mathlib.Core.Bool.{Bool, not}
-use Prim.Native.Nat.{ℕ, ◌+◌, ◌*◌, ◌-◌, ◌≤◌}
-use Rattle.map_summary.proofs.summaries.over.Reads as reads
+use Prim.Native.Nat.{◌+◌, ◌*◌, ◌-◌, ◌≤◌}
 use Rattle.map_summary.proofs.summaries.over.Given as goal
 
 abbrev pub invariant-loop-i : goal.invariant-loop-i

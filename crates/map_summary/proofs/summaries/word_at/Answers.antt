@@ -1,11 +1,7 @@
-use mathlib.Core.Path.{◌≡◌, refl, sym, ap, ◌∙◌}
+use mathlib.Core.Path.{sym, ◌∙◌}
 use native.Mathlib.Omega.{arith}
 use Rattle.rules_base.proofs.Words.{at-groups}
 use Rattle.rules_base.proofs.Meaning.{over-is, root-clear, root-set}
-use borrow.Author.Rules.{rules}
-use Rattle.map_summary.proofs.summaries.word_at.Reads as reads
-use Rattle.map_summary.proofs.summaries.groups.Reads as groups-reads
-use Rattle.map_summary.proofs.summaries.over.Reads as over_reads
 use Rattle.map_summary.proofs.summaries.word_at.Goals as goal
 
 pub returns-then-k-lt4 : goal.returns-then-k-lt4

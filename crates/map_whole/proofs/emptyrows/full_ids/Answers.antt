@@ -1,9 +1,7 @@
 use borrow.Author.Rules.{rules}
 use Rattle.rules_base.specs.Empty.{full_to}
 use native.Mathlib.Numerals.{add-one}
-use Prim.Native.Nat.{◌-◌, ◌≤◌}
-use native.Mathlib.Omega.{arith}
-use mathlib.Core.Path.{◌≡◌, refl}
+use mathlib.Core.Path.{refl}
 use Rattle.map_whole.proofs.emptyrows.full_ids.Goals as goal
 
 pub loop-m-init : goal.loop-m-init

@@ -1,9 +1,6 @@
-use borrow.Author.Rules.{rules}
 use Rattle.rules_base.specs.Empty.{full_to}
-use native.Mathlib.Numerals.{add-one}
 use Prim.Native.Nat.{◌-◌, ◌≤◌}
-use native.Mathlib.Omega.{arith}
-use mathlib.Core.Path.{◌≡◌, refl}
+use mathlib.Core.Path.{◌≡◌}
 use Rattle.map_whole.proofs.emptyrows.full_ids.Given as goal
 
 abbrev pub invariant-loop-m : goal.invariant-loop-m

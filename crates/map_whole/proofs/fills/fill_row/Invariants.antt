@@ -1,10 +1,6 @@
-use borrow.Author.Rules.{rules}
-use Rattle.rules_base.proofs.Fills.{filled_none, filled_more, filled-done, length-filled}
 use Rattle.rules_base.specs.Fill.{row_filled}
 use Prim.Native.Nat.{◌-◌, ◌≤◌}
-use lib.ListN.{length}
-use native.Mathlib.Omega.{arith}
-use mathlib.Core.Path.{◌≡◌, ap, ◌∙◌}
+use mathlib.Core.Path.{◌≡◌}
 use Rattle.map_whole.proofs.fills.fill_row.Given as goal
 
 abbrev pub invariant-loop-c : goal.invariant-loop-c

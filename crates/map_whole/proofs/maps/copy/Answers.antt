@@ -1,8 +1,7 @@
 use borrow.Author.Rules.{rules}
 use Rattle.rules_base.proofs.Over.{over_none, over-step, over_done}
-use Rattle.rules_base.specs.Map.{replaced, copied}
-use lib.ListN.{length, get_or, length-set}
-use Prim.Native.Nat.{◌-◌, ◌≤◌}
+use Rattle.rules_base.specs.Map.{copied}
+use lib.ListN.{length-set}
 use native.Mathlib.Omega.{arith}
 use mathlib.Core.Path.{◌≡◌, refl, sym, ◌∙◌}
 use Rattle.map_whole.proofs.maps.copy.Goals as goal

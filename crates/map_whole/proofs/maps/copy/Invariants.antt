@@ -1,10 +1,7 @@
-use borrow.Author.Rules.{rules}
-use Rattle.rules_base.proofs.Over.{over_none, over-step, over_done}
-use Rattle.rules_base.specs.Map.{replaced, copied}
-use lib.ListN.{length, get_or, length-set}
+use Rattle.rules_base.specs.Map.{replaced}
+use lib.ListN.{length, get_or}
 use Prim.Native.Nat.{◌-◌, ◌≤◌}
-use native.Mathlib.Omega.{arith}
-use mathlib.Core.Path.{◌≡◌, refl, sym, ◌∙◌}
+use mathlib.Core.Path.{◌≡◌}
 use Rattle.map_whole.proofs.maps.copy.Given as goal
 
 abbrev pub invariant-loop-i : goal.invariant-loop-i

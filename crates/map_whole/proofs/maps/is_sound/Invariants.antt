@@ -1,10 +1,6 @@
-use borrow.Author.Rules.{rules}
-use Rattle.rules_base.proofs.Scanned.{rows_start, rows_more, scanned}
-use Rattle.rules_base.proofs.Maps.{sound-short}
 use Rattle.rules_base.specs.Scan.{rows_spare}
 use Prim.Native.Nat.{◌-◌, ◌≤◌}
-use native.Mathlib.Omega.{arith}
-use mathlib.Core.Path.{◌≡◌, sym}
+use mathlib.Core.Path.{◌≡◌}
 use Rattle.map_whole.proofs.maps.is_sound.Given as goal
 
 abbrev pub invariant-loop-m : goal.invariant-loop-m

@@ -1,14 +1,9 @@
-use borrow.Author.Rules.{rules}
-use Rattle.rules_base.proofs.Chunk.{each_in, each-out, each_none, each-done, each-length}
-use Rattle.rules_base.proofs.Maps.{length-zero_row}
 use Rattle.rules_base.specs.Chunk.{each}
-use Rattle.rules_base.specs.Map.{zero_row, rows_kept}
+use Rattle.rules_base.specs.Map.{zero_row}
 use Rattle.rules_base.specs.Sets.{has}
 use Prim.Native.Nat.{◌-◌, ◌≤◌}
 use mathlib.Core.Bool.{not}
-use mathlib.Core.Logic.{⊎_elim}
-use native.Mathlib.Omega.{arith}
-use mathlib.Core.Path.{◌≡◌, sym, ap, ◌∙◌}
+use mathlib.Core.Path.{◌≡◌}
 use Rattle.map_whole.proofs.maps.keep_rows.Given as goal
 
 abbrev pub invariant-loop-m : goal.invariant-loop-m

@@ -1,9 +1,5 @@
 use Rattle.rules_base.proofs.Scanned.{or-start, or-more}
 use borrow.Author.Rules.{rules}
-use Rattle.rules_base.specs.Scan.{or_to}
-use Prim.Native.Nat.{◌-◌, ◌≤◌}
-use native.Mathlib.Omega.{arith}
-use mathlib.Core.Path.{◌≡◌}
 use Rattle.map_whole.proofs.maps.or_of.Goals as goal
 
 pub loop-i-init : goal.loop-i-init

@@ -6,7 +6,6 @@ use borrow.Author.Tests.{eq-eqb, ne_eqb, lt-ltb, le-ltb}
 use Prim.Native.Nat.{◌+◌, ◌*◌, ◌-◌}
 use native.Mathlib.Omega.{arith}
 use mathlib.Core.Path.{◌≡◌}
-use borrow.Author.Rules.{rules}
 use Rattle.map_whole.proofs.maps.row.Goals as goal
 
 pub returns-then-map-ne-MAP_BYTES : goal.returns-then-map-ne-MAP_BYTES

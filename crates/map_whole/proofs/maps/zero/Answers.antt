@@ -1,5 +1,4 @@
 use Rattle.rules_base.specs.Map.{zeroed}
-use borrow.Author.Rules.{rules}
 use Rattle.map_whole.proofs.maps.zero.Goals as goal
 
 pub returns : goal.returns

@@ -1,10 +1,9 @@
 use borrow.Author.Rules.{rules}
 use Rattle.rules_base.proofs.Over.{over_none, over-step, over-end}
-use Rattle.rules_base.specs.Map.{replaced, zero_from}
-use lib.ListN.{length, length-set}
-use Prim.Native.Nat.{◌-◌, ◌≤◌, max}
+use Rattle.rules_base.specs.Map.{zero_from}
+use lib.ListN.{length-set}
 use native.Mathlib.Omega.{arith}
-use mathlib.Core.Path.{◌≡◌, refl, sym}
+use mathlib.Core.Path.{refl, sym}
 use Rattle.map_whole.proofs.maps.zero_from.Goals as goal
 
 pub loop-i-init : goal.loop-i-init

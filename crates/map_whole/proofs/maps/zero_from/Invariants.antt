@@ -1,10 +1,7 @@
-use borrow.Author.Rules.{rules}
-use Rattle.rules_base.proofs.Over.{over_none, over-step, over-end}
-use Rattle.rules_base.specs.Map.{replaced, zero_from}
-use lib.ListN.{length, length-set}
+use Rattle.rules_base.specs.Map.{replaced}
+use lib.ListN.{length}
 use Prim.Native.Nat.{◌-◌, ◌≤◌, max}
-use native.Mathlib.Omega.{arith}
-use mathlib.Core.Path.{◌≡◌, refl, sym}
+use mathlib.Core.Path.{◌≡◌}
 use Rattle.map_whole.proofs.maps.zero_from.Given as goal
 
 abbrev pub invariant-loop-i : goal.invariant-loop-i

@@ -1,7 +1,6 @@
 use Rattle.rules_base.specs.Map.{zero_row}
 use borrow.Author.Tests.{lt-ltb, le-ltb}
 use native.Mathlib.Omega.{arith}
-use borrow.Author.Rules.{rules}
 use Rattle.map_whole.proofs.maps.zero_row.Goals as goal
 
 pub returns-then-m-gt15 : goal.returns-then-m-gt15

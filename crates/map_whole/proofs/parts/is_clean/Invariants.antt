@@ -1,11 +1,7 @@
-use Rattle.rules_base.proofs.PartsClean.{clean-more, clean-none}
 use Rattle.rules_base.specs.Map.{clean_from}
 use lib.ListN.{length, drop}
-use Prim.Native.Nat.{suc, ◌+◌, ◌-◌, ◌≤◌}
-use native.Mathlib.Nat.{add-zero}
-use native.Mathlib.Omega.{arith}
-use mathlib.Core.Path.{◌≡◌, refl, sym, ◌∙◌}
-use borrow.Author.Rules.{rules}
+use Prim.Native.Nat.{◌+◌, ◌≤◌}
+use mathlib.Core.Path.{◌≡◌}
 use Rattle.map_whole.proofs.parts.is_clean.Given as goal
 
 abbrev pub invariant-loop-i : goal.invariant-loop-i

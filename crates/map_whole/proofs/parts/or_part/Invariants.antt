@@ -1,12 +1,8 @@
-use Rattle.rules_base.proofs.Over.{over_none, over-step, over-end}
 use Rattle.rules_base.specs.Map.{replaced}
-use Rattle.rules_base.specs.Parts.{or_part}
-use lib.ListN.{length, get_or, length-set}
+use lib.ListN.{length, get_or}
 use lib.Bits.{bit_or}
-use Prim.Native.Nat.{ℕ, ◌+◌, ◌-◌, ◌≤◌}
-use native.Mathlib.Omega.{arith}
-use mathlib.Core.Path.{◌≡◌, refl, sym}
-use borrow.Author.Rules.{rules}
+use Prim.Native.Nat.{◌-◌, ◌≤◌}
+use mathlib.Core.Path.{◌≡◌}
 use Rattle.map_whole.proofs.parts.or_part.Given as goal
 
 abbrev pub invariant-loop-i : goal.invariant-loop-i

@@ -1,6 +1,5 @@
 use Rattle.rules_base.specs.Map.{room}
 use native.Mathlib.Omega.{arith}
-use borrow.Author.Rules.{rules}
 use Rattle.map_whole.proofs.parts.room.Goals as goal
 
 pub returns-then-n-low : goal.returns-then-n-low

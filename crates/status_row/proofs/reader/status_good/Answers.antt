@@ -1,0 +1,25 @@
+use Rattle.std.proofs.Common.{rules, arith, sym, ◌∙◌}
+use native.Mathlib.Nat.{div-le_self}
+use Rattle.status_row.proofs.ReaderLaws.{good-odd, checking-start, checking-bad, checking-over, checking-more, checking-done}
+use Rattle.status_row.proofs.reader.status_good.Goals as goal
+
+pub returns-then-bytes-ne0 : goal.returns-then-bytes-ne0
+returns-then-bytes-ne0 c = good-odd _ _ _ c.if-bytes-ne0.true
+
+pub loop-i-init : goal.loop-i-init
+loop-i-init c = checking-start _ _ _ (search rules) c.if-bytes-ne0.false
+
+pub returns-then-not-desc_good : goal.returns-then-not-desc_good
+returns-then-not-desc_good c = checking-bad _ _ _ _ _ _ _ c.loop-i.invariant c.loop-i-test.true c.get32-b.ensures.0 c.get32-f.ensures.0 (sym c.desc_good.ensures ∙ c.if-not-desc_good.true)
+
+pub overflow_add-next : goal.overflow_add-next
+overflow_add-next c = omega (arith, c.get32-b.ensures.1, c.loop-i.invariant.low, div-le_self c.get32-b.result c.args.s)
+
+pub returns-then-n-next : goal.returns-then-n-next
+returns-then-n-next c = checking-over _ _ _ _ _ _ _ c.loop-i.invariant c.loop-i-test.true c.get32-b.ensures.0 c.get32-f.ensures.0 (omega arith)
+
+pub loop-i-preserved : goal.loop-i-preserved
+loop-i-preserved c = checking-more _ _ _ _ _ _ _ c.loop-i.invariant c.loop-i-test.true c.get32-b.ensures.0 c.get32-f.ensures.0 (sym c.desc_good.ensures ∙ c.if-not-desc_good.false) (omega arith)
+
+pub returns : goal.returns
+returns c = checking-done _ _ _ _ _ c.loop-i.invariant c.loop-i-test.false
