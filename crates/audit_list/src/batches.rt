@@ -1,4 +1,4 @@
-// Records gathered into batches of sixteen, and each batch lent to the auditor, so that a log of any length is audited in a fixed room. `lend` is proved by hand; whoever calls the others needs no such proof.
+// Records gathered into batches of sixteen, and each batch lent to the auditor, so that a log of any length is audited in a fixed room.
 ghost use Rattle.std.specs.Prelude.{◌≡◌, ◌≤◌, take};
 ghost use Rattle.audit_replay.specs.Audit.{walked};
 ghost use Rattle.audit_list.specs.Batches.{begun, added, audited};
