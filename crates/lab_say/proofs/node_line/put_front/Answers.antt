@@ -1,0 +1,9 @@
+use Rattle.lab_say.specs.NodeLine.{front_text}
+use Rattle.lab_say.specs.Say.{paired}
+use Rattle.text_bytes.proofs.Laws.{emits-parts, emits_then}
+use mathlib.Core.Path.{ap, refl}
+use Rattle.lab_say.proofs.node_line.put_front.Goals as goal
+
+pub returns : goal.returns
+unfolding front_text
+returns c = emits-parts _ _ (emits_then (emits_then (emits_then (emits_then refl refl c.put_pair-to.ensures) refl c.put_state-to.ensures) (ap (paired _) c.one.ensures) c.put_pair-to-2.ensures) (ap (paired _) c.one-2.ensures) c.put_pair.ensures)

@@ -1,0 +1,9 @@
+use Rattle.lab_say.specs.Say.{paired}
+use Rattle.lab_say_client.specs.Client.{causes_text}
+use Rattle.text_bytes.proofs.Laws.{emits-parts, emits_then}
+use mathlib.Core.Path.{ap, refl}
+use Rattle.lab_say_client.proofs.put_causes.Goals as goal
+
+pub returns : goal.returns
+unfolding causes_text
+returns c = emits-parts _ _ (emits_then (emits_then refl (ap (paired _) c.ids-link.ensures) c.put_pair-to.ensures) (ap (paired _) c.ids-io.ensures) c.put_pair.ensures)

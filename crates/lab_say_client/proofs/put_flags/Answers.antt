@@ -1,0 +1,9 @@
+use Rattle.lab_say.specs.Say.{paired}
+use Rattle.lab_say_client.specs.Client.{flags_text}
+use Rattle.text_bytes.proofs.Laws.{emits-parts, emits_then}
+use mathlib.Core.Path.{ap, refl}
+use Rattle.lab_say_client.proofs.put_flags.Goals as goal
+
+pub returns : goal.returns
+unfolding flags_text
+returns c = emits-parts _ _ (emits_then (emits_then (emits_then (emits_then refl (ap (paired _) c.ids-maint.ensures) c.put_pair-to.ensures) (ap (paired _) c.ids-marked.ensures) c.put_pair-to-2.ensures) (ap (paired _) c.ids-delete.ensures) c.put_pair-to-3.ensures) (ap (paired _) c.ids-owed.ensures) c.put_pair.ensures)

@@ -1,0 +1,6 @@
+use Rattle.text_bytes.proofs.Laws.{emits-end}
+use mathlib.Core.Path.{sym}
+use Rattle.lab_say_client.proofs.put_outcome.Goals as goal
+
+pub returns-in-Plain : goal.returns-in-Plain
+returns-in-Plain c = rw c.in-Plain.is (sym (emits-end _))

@@ -1,0 +1,9 @@
+use Rattle.lab_say.specs.Say.{paired}
+use Rattle.lab_say_client.specs.Client.{past_text}
+use Rattle.text_bytes.proofs.Laws.{emits-parts, emits_then}
+use mathlib.Core.Path.{ap, refl}
+use Rattle.lab_say_client.proofs.put_past.Goals as goal
+
+pub returns : goal.returns
+unfolding past_text
+returns c = emits-parts _ _ (emits_then (emits_then refl (ap (paired _) c.one-written.ensures) c.put_pair-to.ensures) (ap (paired _) c.one-assembled.ensures) c.put_pair.ensures)

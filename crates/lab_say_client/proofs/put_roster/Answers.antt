@@ -1,0 +1,7 @@
+use Rattle.lab_say_client.specs.Client.{roster_text}
+use Rattle.text_bytes.proofs.Laws.{emits-parts}
+use Rattle.lab_say_client.proofs.put_roster.Goals as goal
+
+pub returns : goal.returns
+unfolding roster_text
+returns c = emits-parts _ _ cc

@@ -1,0 +1,9 @@
+use Rattle.lab_say.specs.Say.{paired}
+use Rattle.lab_say_line.specs.Lines.{asked_text}
+use Rattle.text_bytes.proofs.Laws.{emits-parts, emits_then}
+use mathlib.Core.Path.{ap, refl}
+use Rattle.lab_say_line.proofs.put_asked.Goals as goal
+
+pub returns : goal.returns
+unfolding asked_text
+returns c = emits-parts _ _ (emits_then (emits_then refl refl c.put_node-to.ensures) (ap (paired _) c.one.ensures) c.put_pair.ensures)

@@ -1,0 +1,8 @@
+use Rattle.lab_say_line.specs.Lines.{next_text}
+use Rattle.text_bytes.proofs.Laws.{emits-parts, emits_then}
+use mathlib.Core.Path.{refl}
+use Rattle.lab_say_line.proofs.put_next.Goals as goal
+
+pub returns : goal.returns
+unfolding next_text
+returns c = emits-parts _ _ (emits_then (emits_then refl refl c.put_node-to.ensures) refl c.put_found.ensures)
