@@ -16,7 +16,7 @@ use Rattle.event.specs.OfClient.{event_of, own_left}
 use Rattle.library_client_words.specs.declared.client_words.Reading.{Reading}
 use Rattle.library_client_words.specs.ClientWords.{packed, unpacked, known}
 use Rattle.library_answer.specs.Words.{answer_words}
-use Rattle.library_client.specs.Library.{numbered, event_known, result, state_left, map_left, out_left}
+use Rattle.library_client.specs.Library.{numbered, event_known, returned, state_left, map_left, out_left}
 
 -- what reading the words gives
 abbrev pub Reads : List ℕ → Reading → Type 0
@@ -25,14 +25,14 @@ Reads ws r = r ≡ record { known = known ws; client = unpacked ws }
 module _ (ws xs zs os : List ℕ) (k a b c : ℕ) where
   abbrev pub Ended : ℕ → List ℕ → List ℕ → List ℕ → Type 0
   Ended r ws' xs' os' =
-      (r ≡ result ws k c)
+      (r ≡ returned ws k c)
       × ((ws' ≡ state_left ws xs zs k a b c) × ((xs' ≡ map_left ws xs k a b c) × ((os' ≡ out_left ws xs zs k a b c os) × (known ws' ≡ known ws))))
 
   pub stopped : (r : Reading) (v : Bool) (e : ℕ) → Reads ws r → v ≡ event_known k c → e ≡ error_of r.known v → e ≢ 0 → Ended e ws xs os
   unfolding state_left map_left out_left
   stopped r v e er ev ee ne =
-      let q : e ≡ result ws k c = ee ∙ rw (er, ev) refl in
-      let z = ne_eqb (result ws k c) 0 (λ h. ne (q ∙ h)) in
+      let q : e ≡ returned ws k c = ee ∙ rw (er, ev) refl in
+      let z = ne_eqb (returned ws k c) 0 (λ h. ne (q ∙ h)) in
       (q, (rw z, (rw z, (rw z, refl))))
 
   pub went : (r : Reading) (v : Bool) (e : ℕ) (ev : Event) (o : Out) (left : Lent) (ws' xs' os' : List ℕ)
@@ -42,8 +42,8 @@ module _ (ws xs zs os : List ℕ) (k a b c : ℕ) where
       → Ended 0 ws' xs' os'
   unfolding state_left map_left out_left
   went r v e ev o left ws' xs' os' er evn ee ze ek m ex es ew =
-      let q : e ≡ result ws k c = ee ∙ rw (er, evn) refl in
-      let z = eq-eqb (result ws k c) 0 (sym q ∙ ze) in
+      let q : e ≡ returned ws k c = ee ∙ rw (er, evn) refl in
+      let z = eq-eqb (returned ws k c) 0 (sym q ∙ ze) in
       let n : known ws ≡ true = made-known (known ws) (event_known k c) (sym q ∙ ze) in
       let g : Meets (event_of (numbered k a b c) xs zs) (held (unpacked ws)) (came o) left = rw (er, ek) at m in
       let h = ap given g.answer in

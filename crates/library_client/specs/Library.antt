@@ -40,21 +40,21 @@ abbrev pub event_known : ℕ → ℕ → Bool
 event_known k c = (ltb 0 k && ltb k 19) && (not (eqb k 18) || ltb c 2)
 
 -- ---- What is returned, and what the lent words and bytes are then. ws: the state. xs: the client's map. zs: the map that synced reads. os: the out buffer.
-abbrev pub result : List ℕ → ℕ → ℕ → ℕ
-result ws k c = error_of (known ws) (event_known k c)
+abbrev pub returned : List ℕ → ℕ → ℕ → ℕ
+returned ws k c = error_of (known ws) (event_known k c)
 
 -- what the event hands back
 abbrev pub given : List ℕ → List ℕ → List ℕ → ℕ → ℕ → ℕ → ℕ → Out
 given ws xs zs k a b c = Face.given (out_of (event_of (numbered k a b c) xs zs) (Face.held (unpacked ws)))
 
 unfoldable pub state_left : List ℕ → List ℕ → List ℕ → ℕ → ℕ → ℕ → ℕ → List ℕ
-state_left ws xs zs k a b c = pick (eqb (result ws k c) 0) (packed (given ws xs zs k a b c).client) ws
+state_left ws xs zs k a b c = pick (eqb (returned ws k c) 0) (packed (given ws xs zs k a b c).client) ws
 
 unfoldable pub map_left : List ℕ → List ℕ → ℕ → ℕ → ℕ → ℕ → List ℕ
-map_left ws xs k a b c = pick (eqb (result ws k c) 0) (own_left (numbered k a b c) (Face.held (unpacked ws)) xs) xs
+map_left ws xs k a b c = pick (eqb (returned ws k c) 0) (own_left (numbered k a b c) (Face.held (unpacked ws)) xs) xs
 
 unfoldable pub out_left : List ℕ → List ℕ → List ℕ → ℕ → ℕ → ℕ → ℕ → List ℕ → List ℕ
-out_left ws xs zs k a b c os = pick (eqb (result ws k c) 0) (answer_words (given ws xs zs k a b c).answer) os
+out_left ws xs zs k a b c os = pick (eqb (returned ws k c) 0) (answer_words (given ws xs zs k a b c).answer) os
 
 unfoldable pub fresh_left : List ℕ → ℕ → ℕ → List ℕ
 fresh_left ws sync chunks = pick (ltb 1 sync) ws (packed (Face.fresh (eqb sync 1) chunks))

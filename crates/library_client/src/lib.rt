@@ -4,15 +4,16 @@
 ghost use Rattle.std.specs.Prelude.{◌≡◌, ltb};
 ghost use Rattle.laws_words.specs.Words.{pick};
 ghost use Rattle.library_client_words.specs.ClientWords.{known};
-ghost use Rattle.library_client.specs.Library.{numbered, event_known, result, state_left, map_left, out_left, fresh_left};
+ghost use Rattle.library_client.specs.Library.{numbered, event_known, returned, state_left, map_left, out_left, fresh_left};
 
 use client::Client;
 use event::Event;
 use rules_pool::{Brought, Mode, Reply};
 
 // The event that four numbers stand for. The kinds 1 to 15 are those of a log record.
+#[tactic(auto, unfolding(crate::specs::Library::numbered))]
 fn event_of(kind: u64, a: u64, b: u64, c: u64) -> Event
-    ensures* { λ r. ⌜ r ≡ numbered kind a b c ⌝ }
+    ensures { result ≡ numbered kind a b c }
 {
     match kind {
         1 => Event::JoinCreate(a),
@@ -37,7 +38,7 @@ fn event_of(kind: u64, a: u64, b: u64, c: u64) -> Event
 }
 
 fn event_known(kind: u64, c: u64) -> bool
-    ensures* { λ r. ⌜ r ≡ event_known kind c ⌝ }
+    ensures { result ≡ event_known kind c }
 {
     let range = (0 < kind) & (kind < 19);
     range & (!(kind == 18) | (c < 2))
@@ -46,8 +47,8 @@ fn event_known(kind: u64, c: u64) -> bool
 // The words of a fresh client. 0: done. 2: sync is neither 0 nor 1, nothing is changed. A chunk count outside 1 to 4,096 gives a client that every event refuses.
 #[unsafe(no_mangle)]
 pub extern "C" fn mzk_client_fresh(state: &mut [u64; 32], sync: u64, chunks: u64) -> u64
-    ensures* r_value { λ r. ⌜ r ≡ pick (ltb 1 sync) 2 0 ⌝ }
-    ensures* state_after { λ _. ⌜ state.new ≡ fresh_left state.old sync chunks ⌝ }
+    ensures value { result ≡ pick (ltb 1 sync) 2 0 }
+    ensures state_after { state.new ≡ fresh_left state.old sync chunks }
 {
     if 1 < sync {
         return 2;
@@ -70,11 +71,11 @@ pub extern "C" fn mzk_client_event(
     c: u64,
     out: &mut [u64; 16],
 ) -> u64
-    ensures* r_value { λ r. ⌜ r ≡ result state.old kind c ⌝ }
-    ensures* state_after { λ _. ⌜ state.new ≡ state_left state.old map.old other.now kind a b c ⌝ }
-    ensures* map_after { λ _. ⌜ map.new ≡ map_left state.old map.old kind a b c ⌝ }
-    ensures* out_after { λ _. ⌜ out.new ≡ out_left state.old map.old other.now kind a b c out.old ⌝ }
-    ensures* state_after_2 { λ _. ⌜ known state.new ≡ known state.old ⌝ }
+    ensures value { result ≡ returned state.old kind c }
+    ensures state_after { state.new ≡ state_left state.old map.old other.now kind a b c }
+    ensures map_after { map.new ≡ map_left state.old map.old kind a b c }
+    ensures out_after { out.new ≡ out_left state.old map.old other.now kind a b c out.old }
+    ensures known_after { known state.new ≡ known state.old }
 {
     let ws = *state;
     let r = library_client_words::client_words::read(ws);

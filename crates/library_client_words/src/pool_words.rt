@@ -49,6 +49,7 @@ fn session_word(s: Session) -> u64
     flags(w, s.maintenance, s.mark, disassembled, owed)
 }
 
+#[tactic(auto, unfolding(crate::specs::PoolWords::session_in))]
 fn session_in(w: u64) -> Session
     ensures { result ≡ session_in w }
 {
@@ -176,6 +177,7 @@ pub fn job_words(j: Job) -> Tagged
     }
 }
 
+#[tactic(auto, unfolding(crate::specs::PoolWords::job_of))]
 pub fn job_of(tag: u64, a: u64, b: u64, c: u64, d: u64) -> Job
     ensures { result ≡ job_of tag a b c d }
 {

@@ -18,7 +18,7 @@ use Rattle.event.specs.OfNode.{event_of}
 use Rattle.event_words.specs.declared.node_words.Reading.{Reading}
 use Rattle.event_words.specs.NodeWords.{packed, unpacked, known}
 use Rattle.event_words.proofs.Laws.{packed-known}
-use Rattle.library_node.specs.Library.{numbered, event_known, answer_words, asked, ask_known, finding_words, node_of, result, state_left, summaries_left, map_left, staging_left, out_left, ask_result, ask_left}
+use Rattle.library_node.specs.Library.{numbered, event_known, answer_words, asked, ask_known, finding_words, node_of, returned, state_left, summaries_left, map_left, staging_left, out_left, ask_result, ask_left}
 
 -- what reading the words gives
 abbrev pub Reads : List ℕ → Reading → Type 0
@@ -27,7 +27,7 @@ Reads ws r = r ≡ record { known = known ws; node = unpacked ws }
 module _ (ws ss xs ys zs os : List ℕ) (k a b c : ℕ) where
   abbrev pub Ended : ℕ → List ℕ → List ℕ → List ℕ → List ℕ → List ℕ → Type 0
   Ended r ws' ss' xs' ys' os' =
-      (r ≡ result ws k a)
+      (r ≡ returned ws k a)
       × ((ws' ≡ state_left ws ss xs ys zs k a b c)
       × ((ss' ≡ summaries_left ws ss xs ys zs k a b c)
       × ((xs' ≡ map_left ws ss xs ys zs k a b c)
@@ -37,8 +37,8 @@ module _ (ws ss xs ys zs os : List ℕ) (k a b c : ℕ) where
   pub stopped : (r : Reading) (v : Bool) (e : ℕ) → Reads ws r → v ≡ event_known k a → e ≡ error_of r.known v → e ≢ 0 → Ended e ws ss xs ys os
   unfolding state_left summaries_left map_left staging_left out_left
   stopped r v e er ev ee ne =
-      let q : e ≡ result ws k a = ee ∙ rw (er, ev) refl in
-      let z = ne_eqb (result ws k a) 0 (λ h. ne (q ∙ h)) in
+      let q : e ≡ returned ws k a = ee ∙ rw (er, ev) refl in
+      let z = ne_eqb (returned ws k a) 0 (λ h. ne (q ∙ h)) in
       (q, (rw z, (rw z, (rw z, (rw z, (rw z, refl))))))
 
   pub went : (r : Reading) (v : Bool) (e : ℕ) (ev : NodeEvent) (o : Out) (ws' xs' ys' os' : List ℕ)
@@ -48,8 +48,8 @@ module _ (ws ss xs ys zs os : List ℕ) (k a b c : ℕ) where
       → Ended 0 ws' o.node.summaries xs' ys' os'
   unfolding state_left summaries_left map_left staging_left out_left
   went r v e ev o ws' xs' ys' os' er evn ee ze ek m es ew =
-      let q : e ≡ result ws k a = ee ∙ rw (er, evn) refl in
-      let z = eq-eqb (result ws k a) 0 (sym q ∙ ze) in
+      let q : e ≡ returned ws k a = ee ∙ rw (er, evn) refl in
+      let z = eq-eqb (returned ws k a) 0 (sym q ∙ ze) in
       let n : known ws ≡ true = made-known (known ws) (event_known k a) (sym q ∙ ze) in
       let g : Meets (event_of (numbered k a b c) zs) (held (node_of ws ss)) xs ys (came o) xs' ys' = rw (er, ek) at m in
       let h = ap given g.answer in (

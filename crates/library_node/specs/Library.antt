@@ -69,27 +69,27 @@ abbrev pub node_of : List ℕ → List ℕ → StorageNode
 node_of ws ss = record { node = unpacked ws; summaries = ss }
 
 -- ---- What is returned, and what the lent words and bytes are then. ws: the state. ss: the summaries. xs: the map. ys: staging. zs: the part that is taken. os: the out buffer.
-abbrev pub result : List ℕ → ℕ → ℕ → ℕ
-result ws k a = error_of (known ws) (event_known k a)
+abbrev pub returned : List ℕ → ℕ → ℕ → ℕ
+returned ws k a = error_of (known ws) (event_known k a)
 
 -- what the event answers
 abbrev pub given : List ℕ → List ℕ → List ℕ → List ℕ → List ℕ → ℕ → ℕ → ℕ → ℕ → Out
 given ws ss xs ys zs k a b c = Face.answers (event_of (numbered k a b c) zs) (node_of ws ss) xs ys
 
 unfoldable pub state_left : List ℕ → List ℕ → List ℕ → List ℕ → List ℕ → ℕ → ℕ → ℕ → ℕ → List ℕ
-state_left ws ss xs ys zs k a b c = pick (eqb (result ws k a) 0) (packed (given ws ss xs ys zs k a b c).node.node) ws
+state_left ws ss xs ys zs k a b c = pick (eqb (returned ws k a) 0) (packed (given ws ss xs ys zs k a b c).node.node) ws
 
 unfoldable pub summaries_left : List ℕ → List ℕ → List ℕ → List ℕ → List ℕ → ℕ → ℕ → ℕ → ℕ → List ℕ
-summaries_left ws ss xs ys zs k a b c = pick (eqb (result ws k a) 0) (given ws ss xs ys zs k a b c).node.summaries ss
+summaries_left ws ss xs ys zs k a b c = pick (eqb (returned ws k a) 0) (given ws ss xs ys zs k a b c).node.summaries ss
 
 unfoldable pub map_left : List ℕ → List ℕ → List ℕ → List ℕ → List ℕ → ℕ → ℕ → ℕ → ℕ → List ℕ
-map_left ws ss xs ys zs k a b c = pick (eqb (result ws k a) 0) (Face.map_left (event_of (numbered k a b c) zs) (node_of ws ss) xs ys) xs
+map_left ws ss xs ys zs k a b c = pick (eqb (returned ws k a) 0) (Face.map_left (event_of (numbered k a b c) zs) (node_of ws ss) xs ys) xs
 
 unfoldable pub staging_left : List ℕ → List ℕ → List ℕ → List ℕ → List ℕ → ℕ → ℕ → ℕ → ℕ → List ℕ
-staging_left ws ss xs ys zs k a b c = pick (eqb (result ws k a) 0) (Face.staging_left (event_of (numbered k a b c) zs) (node_of ws ss) xs ys) ys
+staging_left ws ss xs ys zs k a b c = pick (eqb (returned ws k a) 0) (Face.staging_left (event_of (numbered k a b c) zs) (node_of ws ss) xs ys) ys
 
 unfoldable pub out_left : List ℕ → List ℕ → List ℕ → List ℕ → List ℕ → ℕ → ℕ → ℕ → ℕ → List ℕ → List ℕ
-out_left ws ss xs ys zs k a b c os = pick (eqb (result ws k a) 0) (answer_words (given ws ss xs ys zs k a b c).answer) os
+out_left ws ss xs ys zs k a b c os = pick (eqb (returned ws k a) 0) (answer_words (given ws ss xs ys zs k a b c).answer) os
 
 -- ---- A question.
 abbrev pub ask_result : List ℕ → ℕ → ℕ

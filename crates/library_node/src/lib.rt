@@ -3,7 +3,7 @@
 
 ghost use Rattle.std.specs.Prelude.{◌≡◌};
 ghost use Rattle.event_words.specs.NodeWords.{known};
-ghost use Rattle.library_node.specs.Library.{numbered, event_known, answer_words, asked, ask_known, finding_words, result, state_left, summaries_left, map_left, staging_left, out_left, ask_result, ask_left, fresh_words, fresh_summaries};
+ghost use Rattle.library_node.specs.Library.{numbered, event_known, answer_words, asked, ask_known, finding_words, returned, state_left, summaries_left, map_left, staging_left, out_left, ask_result, ask_left, fresh_words, fresh_summaries};
 
 use event::{NodeEvent, Question};
 use event_ask::ask::Finding;
@@ -12,8 +12,9 @@ use rules_base::Found;
 use rules_node::Answer;
 
 // The event that four numbers stand for. The part that TakePart takes is lent beside them.
+#[tactic(auto, unfolding(crate::specs::Library::numbered))]
 fn event_of(kind: u64, a: u64, b: u64, c: u64) -> NodeEvent
-    ensures* { λ r. ⌜ r ≡ numbered kind a b c ⌝ }
+    ensures { result ≡ numbered kind a b c }
 {
     let op = event_number::op_of(a);
     match kind {
@@ -42,7 +43,7 @@ fn event_of(kind: u64, a: u64, b: u64, c: u64) -> NodeEvent
 
 // The kinds whose first number is 0 or 1: unregister, leave, map ready, map done.
 fn event_known(kind: u64, a: u64) -> bool
-    ensures* { λ r. ⌜ r ≡ event_known kind a ⌝ }
+    ensures { result ≡ event_known kind a }
 {
     let flagged = (kind == 3) | ((kind == 6) | ((kind == 14) | (kind == 17)));
     let range = (0 < kind) & (kind < 21);
@@ -50,7 +51,7 @@ fn event_known(kind: u64, a: u64) -> bool
 }
 
 fn answer_words(a: Answer) -> [u64; 4]
-    ensures* { λ r. ⌜ r ≡ answer_words a ⌝ }
+    ensures { result ≡ answer_words a }
 {
     match a {
         Answer::Refused(n) => [0, n, 0, 0],
@@ -60,7 +61,7 @@ fn answer_words(a: Answer) -> [u64; 4]
 }
 
 fn question_of(kind: u64, a: u64, b: u64) -> Question
-    ensures* { λ r. ⌜ r ≡ asked kind a b ⌝ }
+    ensures { result ≡ asked kind a b }
 {
     match kind {
         1 => Question::MapCheck,
@@ -69,13 +70,13 @@ fn question_of(kind: u64, a: u64, b: u64) -> Question
 }
 
 fn ask_known(kind: u64) -> bool
-    ensures* { λ r. ⌜ r ≡ ask_known kind ⌝ }
+    ensures { result ≡ ask_known kind }
 {
     (kind == 1) | (kind == 2)
 }
 
 fn found_words(f: Found) -> [u64; 4]
-    ensures* { λ r. ⌜ r ≡ finding_words (Finding.Next f) ⌝ }
+    ensures { result ≡ finding_words (Finding.Next f) }
 {
     match f {
         Found::At(chunk) => [1, 0, 1, chunk],
@@ -84,7 +85,7 @@ fn found_words(f: Found) -> [u64; 4]
 }
 
 fn finding_words(f: Finding) -> [u64; 4]
-    ensures* { λ r. ⌜ r ≡ finding_words f ⌝ }
+    ensures { result ≡ finding_words f }
 {
     match f {
         Finding::Refused(n) => [0, n, 0, 0],
@@ -101,8 +102,8 @@ pub extern "C" fn mzk_node_fresh(
     id: u64,
     chunks: u64,
 )
-    ensures* state_after { λ _. ⌜ state.new ≡ fresh_words id chunks ⌝ }
-    ensures* summaries_after { λ _. ⌜ summaries.new ≡ fresh_summaries id chunks ⌝ }
+    ensures state_after { state.new ≡ fresh_words id chunks }
+    ensures summaries_after { summaries.new ≡ fresh_summaries id chunks }
 {
     let s = StorageNode::fresh(id, chunks);
     let n = s.node;
@@ -126,13 +127,13 @@ pub extern "C" fn mzk_node_event(
     c: u64,
     out: &mut [u64; 4],
 ) -> u64
-    ensures* r_value { λ r. ⌜ r ≡ result state.old kind a ⌝ }
-    ensures* state_after { λ _. ⌜ state.new ≡ state_left state.old summaries.old map.old staging.old part.now kind a b c ⌝ }
-    ensures* summaries_after { λ _. ⌜ summaries.new ≡ summaries_left state.old summaries.old map.old staging.old part.now kind a b c ⌝ }
-    ensures* map_after { λ _. ⌜ map.new ≡ map_left state.old summaries.old map.old staging.old part.now kind a b c ⌝ }
-    ensures* staging_after { λ _. ⌜ staging.new ≡ staging_left state.old summaries.old map.old staging.old part.now kind a b c ⌝ }
-    ensures* out_after { λ _. ⌜ out.new ≡ out_left state.old summaries.old map.old staging.old part.now kind a b c out.old ⌝ }
-    ensures* state_after_2 { λ _. ⌜ known state.new ≡ known state.old ⌝ }
+    ensures value { result ≡ returned state.old kind a }
+    ensures state_after { state.new ≡ state_left state.old summaries.old map.old staging.old part.now kind a b c }
+    ensures summaries_after { summaries.new ≡ summaries_left state.old summaries.old map.old staging.old part.now kind a b c }
+    ensures map_after { map.new ≡ map_left state.old summaries.old map.old staging.old part.now kind a b c }
+    ensures staging_after { staging.new ≡ staging_left state.old summaries.old map.old staging.old part.now kind a b c }
+    ensures out_after { out.new ≡ out_left state.old summaries.old map.old staging.old part.now kind a b c out.old }
+    ensures known_after { known state.new ≡ known state.old }
 {
     let ws = *state;
     let ss = *summaries;
@@ -171,8 +172,8 @@ pub extern "C" fn mzk_node_ask(
     b: u64,
     out: &mut [u64; 4],
 ) -> u64
-    ensures* r_value { λ r. ⌜ r ≡ ask_result state.now kind ⌝ }
-    ensures* out_after { λ _. ⌜ out.new ≡ ask_left state.now summaries.now map.now staging.now kind a b out.old ⌝ }
+    ensures value { result ≡ ask_result state.now kind }
+    ensures out_after { out.new ≡ ask_left state.now summaries.now map.now staging.now kind a b out.old }
 {
     let ws = *state;
     let ss = *summaries;

@@ -1,0 +1,10 @@
+use Rattle.std.proofs.Common.{◌-◌}
+use Rattle.library_client_words.specs.PoolWords.{session_in}
+use Rattle.event_words.proofs.Fills.{Fills}
+use Rattle.library_client_words.proofs.pool_words.sessions_in.Given as goal
+
+abbrev pub invariant-loop-i : goal.invariant-loop-i
+invariant-loop-i l = Fills 16 session_in l.ws l.initial.ss l.ss l.i
+
+abbrev pub decreases-loop-i : goal.decreases-loop-i
+decreases-loop-i l = 16 - l.i
