@@ -1,0 +1,14 @@
+use native.Mathlib.Nat.{sub-zero}
+use Rattle.lab_lend.proofs.NodeLent.{lent-meets}
+use Rattle.lab_lend.proofs.node_event.node_event.Goals as goal
+
+pub returns : goal.returns
+returns c =
+    let s = c.args in
+    let w =
+    lent-meets s.lent s.e s.maps.now s.stagings.now
+    (rw c.size.ensures at c.find-s.ensures)
+    (rw c.size-2.ensures at c.find-t.ensures)
+    (rw (sub-zero, ← c.taking_of.ensures) c.fetch-size.ensures.1)
+    c.call.ensures
+    in record { value = w.0; maps_after = w.1.0; stagings_after = w.1.1 }
