@@ -7,7 +7,7 @@ use Rattle.rules_pool.specs.declared.Answer.{Answer}
 use Rattle.event.specs.declared.Event.{Event}
 use Rattle.audit_record.specs.Records.{record_of}
 use Rattle.audit_record.specs.declared.journal.Note.{Note}
-use Rattle.audit_proof.proofs.Exact.{place_after}
+use Rattle.audit_proof.proofs.Exact.{place-after}
 use Rattle.audit_proof.specs.Lab.{LabNotes, LabGives}
 
 pub lab-notes : LabNotes
@@ -31,4 +31,4 @@ pub lab-gives : LabGives
 lab-gives j Note.Unlogged a after rest h = refl
 lab-gives j (Note.Logged l) (Answer.Refused k) after rest h = refl
 lab-gives j (Note.Logged l) (Answer.Done s) after rest h =
-    ap (λ (n : ℕ). record_of n l s.outcome after ∷ rest n) (sym (place_after j.count (omega (arith, h))))
+    ap (λ (n : ℕ). record_of n l s.outcome after ∷ rest n) (sym (place-after j.count (omega (arith, h))))
