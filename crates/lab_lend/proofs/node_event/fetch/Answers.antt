@@ -1,6 +1,5 @@
 use native.Mathlib.Omega.{arith}
 use Rattle.event_ask.proofs.Parts.{part-is}
-use borrow.Author.Rules.{rules}
 use Rattle.lab_lend.proofs.node_event.fetch.Goals as goal
 
 pub returns : goal.returns
