@@ -1,5 +1,5 @@
 -- The auditor's text: a line to its record, and the line that is answered.
-use Rattle.std.specs.Prelude.{Bool, ◌&&◌, List, [], ◌∷◌, ℕ, eqb, ltb, length, take, get_or}
+use Rattle.std.specs.Prelude.{Bool, List, [], ◌∷◌, ℕ, eqb, ltb, length, take, get_or}
 use Rattle.laws_words.specs.Words.{pick, all}
 use Rattle.text_bytes.specs.Bytes.{bytes}
 use Rattle.text_bytes.specs.Ink.{decimal}

@@ -1,5 +1,5 @@
 -- Records gathered into batches of sixteen.
-use Rattle.std.specs.Prelude.{ℕ, ◌+◌, ltb, take, set, replicate}
+use Rattle.std.specs.Prelude.{◌+◌, ltb, take, set, replicate}
 use Rattle.laws_words.specs.Words.{pick}
 use Rattle.audit_record.specs.declared.records.Record.{Record}
 use Rattle.audit_record.specs.Records.{no_record}

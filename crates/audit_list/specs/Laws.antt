@@ -1,5 +1,5 @@
 -- What batches come to: nothing of the walk hangs on where they are cut. Each is a type; proofs/Laws.antt has its proof under the same name in small letters.
-use Rattle.std.specs.Prelude.{◌≡◌, List, [], ◌∷◌, length}
+use Rattle.std.specs.Prelude.{◌≡◌, List, [], ◌∷◌}
 use Rattle.audit_record.specs.declared.records.Record.{Record}
 use Rattle.audit_replay.specs.Audit.{walked}
 use Rattle.audit_list.specs.Start.{started}

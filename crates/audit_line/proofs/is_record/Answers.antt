@@ -1,6 +1,5 @@
 use Rattle.audit_line.specs.Text.{is_record}
 use mathlib.Core.Path.{refl}
-use borrow.Author.Rules.{rules}
 use Rattle.audit_line.proofs.is_record.Goals as goal
 
 pub returns : goal.returns

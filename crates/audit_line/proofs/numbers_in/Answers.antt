@@ -1,6 +1,5 @@
 use Rattle.audit_line.specs.Text.{numbers_in}
 use mathlib.Core.Path.{refl}
-use borrow.Author.Rules.{rules}
 use Rattle.audit_line.proofs.numbers_in.Goals as goal
 
 pub returns : goal.returns

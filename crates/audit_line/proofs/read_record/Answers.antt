@@ -1,6 +1,5 @@
 use Rattle.audit_line.specs.Text.{record_line}
 use borrow.Author.Tests.{lt-ltb, le-ltb}
-use borrow.Author.Rules.{rules}
 use Rattle.audit_line.proofs.read_record.Goals as goal
 
 pub returns-then-s-gt255 : goal.returns-then-s-gt255

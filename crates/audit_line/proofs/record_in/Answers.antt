@@ -1,7 +1,6 @@
 use native.Mathlib.Nat.{sub-zero}
 use Rattle.audit_line.specs.Text.{record_in}
 use borrow.Author.Tests.{lt-ltb, le-ltb}
-use borrow.Author.Rules.{rules}
 use Rattle.audit_line.proofs.record_in.Goals as goal
 
 pub returns-then-line-n : goal.returns-then-line-n

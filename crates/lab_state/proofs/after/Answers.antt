@@ -1,5 +1,4 @@
 use Rattle.lab_state.specs.Bench.{after_event}
-use borrow.Author.Rules.{rules}
 use Rattle.lab_state.proofs.after.Goals as goal
 
 pub returns-then-none : goal.returns-then-none

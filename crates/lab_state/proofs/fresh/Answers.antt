@@ -1,6 +1,5 @@
 use mathlib.Core.Path.{refl}
 use Rattle.lab_state.specs.Bench.{fresh_lab}
-use borrow.Author.Rules.{rules}
 use Rattle.lab_state.proofs.fresh.Goals as goal
 
 pub returns : goal.returns

@@ -1,11 +1,7 @@
-use mathlib.Core.Path.{◌≡◌, refl}
-use Prim.Native.Nat.{◌+◌, ◌-◌, ◌*◌}
+use mathlib.Core.Path.{refl}
 use native.Mathlib.Omega.{arith}
-use lib.ListN.{length, get_or, set}
 use borrow.Author.Tests.{lt-ltb, le-ltb}
-use borrow.Author.Rules.{rules}
-use Rattle.laws_words.specs.Loops.{Runs, runs-start, runs-more, runs_done}
-use Rattle.rules_base.specs.Summary.{summaries_of}
+use Rattle.laws_words.specs.Loops.{runs_done}
 use Rattle.lab_set.specs.Truing.{row_trued}
 use Rattle.lab_set.proofs.truing.row_trued.Goals as goal
 

@@ -1,12 +1,8 @@
-use mathlib.Core.Path.{◌≡◌, refl}
+use mathlib.Core.Path.{◌≡◌}
 use Prim.Native.Nat.{◌+◌, ◌-◌, ◌*◌}
-use native.Mathlib.Omega.{arith}
 use lib.ListN.{length, get_or, set}
-use borrow.Author.Tests.{lt-ltb, le-ltb}
-use borrow.Author.Rules.{rules}
-use Rattle.laws_words.specs.Loops.{Runs, runs-start, runs-more, runs_done}
+use Rattle.laws_words.specs.Loops.{Runs}
 use Rattle.rules_base.specs.Summary.{summaries_of}
-use Rattle.lab_set.specs.Truing.{row_trued}
 use Rattle.lab_set.proofs.truing.row_trued.Given as goal
 
 abbrev pub invariant-loop-j : goal.invariant-loop-j

@@ -1,7 +1,6 @@
 use mathlib.Core.Path.{refl}
 use Rattle.event_ask.proofs.Parts.{part-is}
 use Rattle.lab_set.specs.Truing.{trued}
-use borrow.Author.Rules.{rules}
 use Rattle.lab_set.proofs.truing.true_row.Goals as goal
 
 pub returns : goal.returns
