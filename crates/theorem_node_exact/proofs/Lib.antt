@@ -1,0 +1,10 @@
+pub mod Fields
+pub mod Known
+pub mod Maps
+pub mod Numbers
+pub mod Order
+pub mod Questions
+pub mod Reached
+pub mod Rules
+pub mod Ties
+pub mod When
