@@ -1,0 +1,10 @@
+pub mod Accepted
+pub mod AtReached
+pub mod Became
+pub mod Checks
+pub mod Clean
+pub mod Demands
+pub mod Fields
+pub mod Past
+pub mod StateRules
+pub mod Tells

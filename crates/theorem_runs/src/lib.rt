@@ -1,0 +1,2 @@
+// No code: recovery runs, removals and jobs, sentence by sentence.
+#![tactic(auto)]
