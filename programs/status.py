@@ -16,7 +16,7 @@ from programs.refusals import number_of, why
 def work(words):
     if words[:1] != ["read"] and words:
         demand_file(words[0])
-    # A proved program has no exit status of its own: it failed where it said something on standard error.
+    # The program has no exit status of its own: it failed where it said something on standard error.
     sys.stdout.flush()
     done = subprocess.run(command("status", words), stderr=subprocess.PIPE)
     said = done.stderr.decode("utf-8", "surrogateescape")
