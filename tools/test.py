@@ -1,4 +1,4 @@
-"""The gate's test of what the tools share; it says nothing where all is well.
+"""The gate's test of what the tools share, and of how a wrong rule is read; it says nothing where all is well.
 
   python3 -m tools.test
 """
@@ -8,6 +8,7 @@ import tempfile
 
 from tools.check_times import seconds
 from tools.crates import above, depths, graph, made_of, statics, under
+from tools.wrong_rules import cell, parse
 
 CRATES = """# a comment: with a colon
 a:
@@ -16,6 +17,18 @@ b: a io
 # another layer
 c: a b
 d staticlib: a
+"""
+
+WRONG = """rule: one | two
+statement: theorem_node_exact When.AcceptedWhen
+with: node more
+file: crates/rules_node/specs/States.antt
+old: f x =
+|  1
+new:  f x = 2
+refuted:
+|pub no : NotBefore → ⊥
+|no f = f
 """
 
 
@@ -35,6 +48,11 @@ def main():
     same(above(["b"], uses), {"b", "c"}, "what rests on b")
     same(made_of(["c"], uses), ["a", "b", "c"], "the crates of c")
     same(depths(uses), {"a": 1, "b": 2, "c": 3, "d": 2}, "how deep they are")
+    wrong = parse(WRONG)
+    same((wrong.rule, wrong.crate, wrong.words["with"], wrong.falls), ("one | two", "theorem_node_exact", "node more", ""), "a wrong rule's words")
+    same(wrong.edits, [["crates/rules_node/specs/States.antt", "f x =\n  1", " f x = 2"]], "its edits")
+    same(wrong.refuted, "\npub no : NotBefore → ⊥\nno f = f", "its refutation")
+    same((wrong.touched, cell(wrong.rule)), ({"rules_node"}, "one \\| two"), "the crates that it touches, and a cell of the page")
     same(set(seconds()) & set(graph()) != set(), True, "whether docs/CHECK-TIMES.md has times of crates")
 
 
