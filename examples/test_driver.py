@@ -1,8 +1,8 @@
 """The rules beside a driver of your own, in pytest: the same events to both, and what they say compared after each. Made for a copy: put your driver in the place of Driver.
 
     ./library
-    PYTHONPATH=target/library python3 -m pytest examples/test_driver.py       # Debian: python3-pytest, python3-hypothesis
-    PYTHONPATH=target/library python3 examples/test_driver.py                 # the fixed histories alone, with neither
+    PYTHONPATH=c python3 -m pytest examples/test_driver.py       # Debian: python3-pytest, python3-hypothesis
+    PYTHONPATH=c python3 examples/test_driver.py                 # the fixed histories alone, with neither
 
 Hypothesis makes histories of any events, with wrong ids among them, and shrinks one that fails to its shortest form.
 """
