@@ -15,11 +15,13 @@ usage: ./lab [FILE]                      what the rules say to a history: a line
        ./lab --cover FILE..              which pairs of state and event occur, and which never do
        ./lab --generate KIND SEED COUNT  many histories; KIND is system, hostile or wide
        ./lab --page FILE                 a history as one page for a browser
+       ./lab --against DRIVER            looks for the shortest history on which a driver differs from the rules (docs/DRIVERS.md)
+       ./lab --simulate SEED             a pool under faults, with its data: nothing is lost, unless a promise is broken (docs/SIMULATION.md)
        ./lab --prove                     proves the program, which is else only compiled
-Those from --chart to --page say more with --help after them. The commands of a history: docs/HISTORIES.md; the way through: docs/LAB.md.
+Those from --chart to --simulate say more with --help after them. The commands of a history: docs/HISTORIES.md; the way through: docs/LAB.md.
 Exit status: 0; 1 where a check differs; 2 where a file, a line of it or a word can't be read.
 """
-OPTIONS = {"--check": "check", "--cover": "cover", "--generate": "generate", "--page": "make", "--chart": "draw", "--log": "write_log", "--why": "tell"}  # of each module the function that does what was typed
+OPTIONS = {"--check": "check", "--cover": "cover", "--generate": "generate", "--page": "make", "--against": "against", "--simulate": "simulate", "--chart": "draw", "--log": "write_log", "--why": "tell"}  # of each module the function that does what was typed
 
 
 def work():

@@ -1,6 +1,7 @@
 """./library: the library for C (docs/LIBRARY.md).
 
-  ./library   builds target/library/libmunzolkheg_client.a, target/library/libmunzolkheg_node.a and their header, munzolkheg.h, and says where they are
+  ./library           builds target/library/libmunzolkheg_client.a, target/library/libmunzolkheg_node.a and their header, munzolkheg.h, and says where they are
+  ./library --built   builds nothing: says where they are if they are there and as new as their sources, else exit status 1
 
 It is built by proving it: some minutes the first time, and whenever its sources have changed; it says how far it is. Exit status: 0, 1 where it is not proved, 2 where a word is wrong.
 """
@@ -31,12 +32,14 @@ def build(sides):
 
 
 def work(words):
-    if words:
-        raise Wrong("usage: ./library")
+    if words not in ([], ["--built"]):
+        raise Wrong("usage: ./library [--built]")
+    old = [side for side, crate in SIDES.items() if not is_new(path_of(side), sources_changed([crate]))]
+    if words and old:
+        return 1
     os.makedirs(THERE, exist_ok=True)
     for name in HEADERS:
         shutil.copy(os.path.join(ROOT, "c", name), THERE)
-    old = [side for side, crate in SIDES.items() if not is_new(path_of(side), sources_changed([crate]))]
     if old and not build(old):
         return 1
     if os.uname().machine != "x86_64":

@@ -206,22 +206,27 @@ class Walk:
 
 def judge(path):
     """What a history drops, and what is forgotten at its end: node, member, chunk."""
-    lines = spread_out([c.text for c in load(path).commands])
+    return judged(spread_out([c.text for c in load(path).commands]), play)
+
+
+def judged(lines, play, there=range(16)):
+    """The same of lines that stand with auto off; `there`: the nodes that can be in them."""
     # after each line every node is asked for its state: that changes nothing, and is refused where the node does not serve
-    asked = [x for line in lines for x in [line] + ["node %d map_get_ver" % j for j in range(16)]]
-    rows = ["row %d %d" % (j, m) for j in range(16) for m in range(16)]
+    asked = [x for line in lines for x in [line] + ["node %d map_get_ver" % j for j in there]]
+    rows = ["row %d %d" % (j, m) for j in there for m in there]
     answers = play(asked + rows)
-    main, walk, by_hand = answers[: len(asked) : 17], Walk(), None
+    stride = 1 + len(there)
+    main, walk, by_hand = answers[: len(asked) : stride], Walk(), None
     for i, line in enumerate(lines):
         after = (lines[i + 1], main[i + 1]) if i + 1 < len(lines) else ("", "")
         by_hand = walk.step(line, main[i], after, by_hand)
-        for j, said in enumerate(answers[17 * i + 1 : 17 * i + 17]):
+        for j, said in zip(there, answers[stride * i + 1 : stride * i + stride]):
             seen = said if said.startswith("ok") else main[i] if main[i].startswith("ok node=%d " % j) else ""
             if seen:
                 walk.nodes[j] = {k: v for k, v in fields(seen).items() if k in ("version", "create")}
     walk.close()
     found = {r: chunks(a) for r, a in zip(rows, answers[len(asked):])}
-    forgotten = sorted((j, m, c) for j in range(16) if walk.sessions[j] == "N" for m, c in walk.missed if c not in found["row %d %d" % (j, m)])
+    forgotten = sorted((j, m, c) for j in there if walk.sessions[j] == "N" for m, c in walk.missed if c not in found["row %d %d" % (j, m)])
     return walk.dropped, forgotten
 
 
