@@ -1,6 +1,7 @@
 -- Refusals: the first that applies, in one order for every event. 0 stands for none.
-use Rattle.std.specs.Prelude.{Bool, false, ◌||◌, List, [], ◌∷◌, ℕ, eqb}
+use Rattle.std.specs.Prelude.{Bool, false, ◌||◌, List, [], ◌∷◌, ℕ, eqb, Result, Ok, Err}
 use Rattle.laws_words.specs.Words.{pick}
+use Rattle.rules_base.specs.declared.Refusal.{Refusal}
 
 -- The order in which the numbers are tried. 16 to 19, which requests after the base name, have their places.
 abbrev pub places : List ℕ
@@ -31,3 +32,32 @@ first_of (n ∷ ns) ts = pick (applies n ts) n (first_of ns ts)
 -- The refusal of an event that has these tests; a number that it does not name does not apply.
 abbrev pub refusal : List Test → ℕ
 refusal ts = first_of places ts
+
+-- The number of a refusal by its name,
+abbrev pub number : Refusal → ℕ
+number Refusal.BadState = 1
+number Refusal.BadMap = 2
+number Refusal.BadId = 3
+number Refusal.BadChunk = 4
+number Refusal.OtherPool = 5
+number Refusal.JobInHand = 6
+number Refusal.NoSession = 7
+number Refusal.HasSession = 8
+number Refusal.NotAllowed = 9
+number Refusal.BadMembership = 10
+number Refusal.NotNormal = 11
+number Refusal.NotSyncable = 12
+number Refusal.NotAwaited = 13
+number Refusal.HighVersion = 14
+number Refusal.NoTransfer = 15
+number Refusal.BadPart = 16
+number Refusal.TooLate = 17
+number Refusal.BadSummary = 18
+number Refusal.NoFreeId = 19
+number Refusal.BadStatus = 20
+number Refusal.BadRecord = 21
+
+-- and of what comes of its tests: 0 where none refuses.
+abbrev pub number_of : {A : Type 0} → Result A Refusal → ℕ
+number_of (Ok a) = 0
+number_of (Err why) = number why
