@@ -15,9 +15,9 @@ pub const VERSION_LIMIT: u64 = 9223372036854775774;
 
 pub const VERSION_TOP: u64 = 9223372036854775791;
 
-// One link of the chain: the number where its test holds, else what the rest of the chain says.
-pub fn first(test: bool, number: u64, rest: u64) -> u64
-    ensures { result ≡ pick test number rest }
+// One link of the chain: the refusal where its test holds, else what the rest of the chain says.
+pub fn first<T: Copy>(test: bool, refusal: T, rest: T) -> T
+    ensures { result ≡ pick test refusal rest }
 {
-    if test { number } else { rest }
+    crate::numbers::pick(test, refusal, rest)
 }
