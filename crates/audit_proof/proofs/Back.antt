@@ -1,4 +1,5 @@
 -- A record names the event whose record it is, and two records that are the same number by number are equal.
+use Rattle.std.specs.Prelude.{Some, None}
 use mathlib.Core.Path.{◌≡◌, refl}
 use mathlib.Core.Bool.{true}
 use Prim.Native.Nat.{ℕ}
@@ -6,7 +7,6 @@ use lib.Dec.{eqb}
 use borrow.Author.Tests.{eq-eqb, eqb-true}
 use Rattle.laws_words.specs.Tests.{all-at}
 use Rattle.rules_pool.specs.declared.Mode.{Mode}
-use Rattle.rules_pool.specs.declared.Brought.{Brought}
 use Rattle.rules_pool.specs.declared.Reply.{Reply}
 use Rattle.rules_pool.specs.declared.Outcome.{Outcome}
 use Rattle.rules_pool.specs.declared.Roster.{Roster}
@@ -28,8 +28,8 @@ event-back n (Logged.Remove id Mode.Disassemble) o ro = refl
 event-back n (Logged.Write chunk reached) o ro = refl
 event-back n Logged.Try o ro = refl
 event-back n (Logged.Answer Reply.Failed) o ro = refl
-event-back n (Logged.Answer (Reply.Good Brought.Nothing)) o ro = refl
-event-back n (Logged.Answer (Reply.Good (Brought.Version v))) o ro = refl
+event-back n (Logged.Answer (Reply.Good None)) o ro = refl
+event-back n (Logged.Answer (Reply.Good (Some v))) o ro = refl
 event-back n (Logged.Rejoin id) o ro = refl
 event-back n Logged.Extend o ro = refl
 

@@ -1,4 +1,6 @@
 -- What the events do, at two pools that are equal but for the chunk count.
+use Rattle.std.specs.Prelude.{Option, Some, None}
+use Rattle.rules_pool.specs.declared.Run.{Run}
 use mathlib.Core.Path.{◌≡◌, refl, sym, subst}
 use mathlib.Core.Bool.{Bool, true, false, ◌&&◌, not}
 use Prim.Native.Nat.{ℕ}
@@ -21,7 +23,6 @@ use Rattle.rules_pool.specs.Session.{is_created, is_owed, is_deleting}
 use Rattle.rules_pool.specs.Sessions.{session_at}
 use Rattle.rules_pool.specs.Changes.{flagged_at, went, written, member_dropped, removing}
 use Rattle.rules_pool.specs.declared.Move.{Move}
-use Rattle.rules_pool.specs.declared.Next.{Next}
 use Rattle.rules_pool.specs.Run.{takes, receiver}
 use Rattle.rules_pool.specs.Jobs.{is_peer}
 use Rattle.rules_pool.specs.Cases.{begun}
@@ -64,9 +65,9 @@ module _ (n : ℕ) where
   unfolding tried posted
   tried_same b b' q o told ef ef' = at (begun q.roster)
     where
-      at : (x : Next) → Same n (accepted b (beginning x q).pool o told (beginning x q).awaited ef) (accepted b' (beginning x (with_chunks n q)).pool o told (beginning x (with_chunks n q)).awaited ef')
-      at Next.Over = record { answer = refl; pool = refl }
-      at (Next.On r) = record { answer = refl; pool = refl }
+      at : (x : Option Run) → Same n (accepted b (beginning x q).pool o told (beginning x q).awaited ef) (accepted b' (beginning x (with_chunks n q)).pool o told (beginning x (with_chunks n q)).awaited ef')
+      at None = record { answer = refl; pool = refl }
+      at (Some r) = record { answer = refl; pool = refl }
 
   either_same : (b : Bool) (t u t' u' : Turn) → Same n t t' → Same n u u' → Same n (pick b t u) (pick b t' u')
   either_same true t u t' u' x y = x
@@ -175,10 +176,10 @@ module _ (n : ℕ) where
       q : Pool
       q = with_roster p (Answers.entered_by m.normal p.roster)
 
-      at : (x : Next) → Same n (accepted p (gone_on x q).pool (Outcome.Taken m.taken) (disabling m.disable) (gone_on x q).awaited Effect.Keep)
+      at : (x : Option Run) → Same n (accepted p (gone_on x q).pool (Outcome.Taken m.taken) (disabling m.disable) (gone_on x q).awaited Effect.Keep)
           (accepted (with_chunks n p) (gone_on x (with_chunks n q)).pool (Outcome.Taken m.taken) (disabling m.disable) (gone_on x (with_chunks n q)).awaited Effect.Keep)
-      at Next.Over = record { answer = refl; pool = refl }
-      at (Next.On r) = record { answer = refl; pool = refl }
+      at None = record { answer = refl; pool = refl }
+      at (Some r) = record { answer = refl; pool = refl }
 
   well-same : (st : Stage) (p : Pool) (id : ℕ) → SameGone n (Removal.well_answered st p id) (Removal.well_answered st (with_chunks n p) id)
   well-same Stage.Leave p id = departed-same (Removal.paid p id) id

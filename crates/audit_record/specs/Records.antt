@@ -1,12 +1,11 @@
 -- A log record: what an accepted event of the client was, and its pool's version, NORMAL count and causes after it.
-use Rattle.std.specs.Prelude.{Bool, List, [], ◌∷◌, ℕ, ◌+◌, ◌*◌, eqb, ltb}
+use Rattle.std.specs.Prelude.{Bool, List, [], ◌∷◌, ℕ, ◌+◌, ◌*◌, eqb, ltb, Some, None}
 use Rattle.laws_words.specs.Words.{pick, all}
 use Rattle.rules_pool.specs.declared.Mode.{Mode}
 use Rattle.rules_pool.specs.declared.Cause.{Cause}
 use Rattle.rules_pool.specs.declared.State.{State}
 use Rattle.rules_pool.specs.declared.Session.{Session}
 use Rattle.rules_pool.specs.declared.Roster.{Roster}
-use Rattle.rules_pool.specs.declared.Brought.{Brought}
 use Rattle.rules_pool.specs.declared.Reply.{Reply}
 use Rattle.rules_pool.specs.declared.Outcome.{Outcome}
 use Rattle.audit_record.specs.declared.records.Record.{Record}
@@ -47,8 +46,8 @@ remove_kind Mode.Disassemble = 8
 
 -- an answer, always to the awaited message: good, good with version, failed
 abbrev pub reply_entry : Reply → Entry
-reply_entry (Reply.Good Brought.Nothing) = said 11 0 0 0
-reply_entry (Reply.Good (Brought.Version v)) = said 12 0 0 v
+reply_entry (Reply.Good None) = said 11 0 0 0
+reply_entry (Reply.Good (Some v)) = said 12 0 0 v
 reply_entry Reply.Failed = said 13 0 0 0
 
 -- the id that extend picked
@@ -92,8 +91,8 @@ record_of n e o ro =
 -- an answer
 unfoldable pub reply_in : ℕ → ℕ → Named
 reply_in k number =
-    pick (eqb k 11) (Named.Event (Logged.Answer (Reply.Good Brought.Nothing)))
-    (pick (eqb k 12) (Named.Event (Logged.Answer (Reply.Good (Brought.Version number))))
+    pick (eqb k 11) (Named.Event (Logged.Answer (Reply.Good None)))
+    (pick (eqb k 12) (Named.Event (Logged.Answer (Reply.Good (Some number))))
     (pick (eqb k 13) (Named.Event (Logged.Answer Reply.Failed))
     Named.Unknown))
 

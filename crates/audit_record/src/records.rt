@@ -2,7 +2,7 @@
 ghost use Rattle.std.specs.Prelude.{◌≡◌};
 ghost use Rattle.audit_record.specs.Records.{no_record, cause_number, causes_in, said, remove_kind, reply_entry, picked_in, entry_of, record_of, reply_in, session_in, event_in, same_record, place_after};
 
-use rules_pool::{Brought, Cause, Mode, Outcome, Reply, Roster, Session, State};
+use rules_pool::{Cause, Mode, Outcome, Reply, Roster, Session, State};
 
 // sequence is the record's place in its log, from 1. A field that its kind does not use is 0.
 #[derive(Clone, Copy)]
@@ -123,12 +123,12 @@ fn remove_kind(m: Mode) -> u64
     }
 }
 
-fn good_entry(b: Brought) -> Entry
+fn good_entry(b: Option<u64>) -> Entry
     ensures { result ≡ reply_entry (Reply.Good b) }
 {
     match b {
-        Brought::Nothing => said(11, 0, 0, 0),
-        Brought::Version(v) => said(12, 0, 0, v),
+        None => said(11, 0, 0, 0),
+        Some(v) => said(12, 0, 0, v),
     }
 }
 
@@ -194,10 +194,10 @@ fn reply_in(k: u64, number: u64) -> Named
     ensures { result ≡ reply_in k number }
 {
     if k == 11 {
-        return Named::Event(Logged::Answer(Reply::Good(Brought::Nothing)));
+        return Named::Event(Logged::Answer(Reply::Good(None)));
     }
     if k == 12 {
-        return Named::Event(Logged::Answer(Reply::Good(Brought::Version(number))));
+        return Named::Event(Logged::Answer(Reply::Good(Some(number))));
     }
     if k == 13 {
         return Named::Event(Logged::Answer(Reply::Failed));

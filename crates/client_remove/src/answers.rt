@@ -4,7 +4,7 @@ ghost use Rattle.rules_pool.specs.Run.{takes};
 ghost use Rattle.rules_client.specs.Answers.{awaits, answer_refusal, entered_by, moved_on, reported, answered, answer};
 
 use map_numbers::refusals::first;
-use rules_pool::{Effect, Job, Move, Outcome, Pool, Posted, Reply, Roster, Run, Turn, Who};
+use rules_pool::{Effect, Job, Move, Outcome, Pool, Posted, Reply, Roster, Run, Turn};
 
 fn awaits(p: Pool, number: u64) -> bool
     ensures { result ≡ awaits p number }
@@ -22,12 +22,12 @@ fn answer_refusal(p: Pool, sound: bool, number: u64) -> u64
     first(!ok, 1, first(!sound, 2, first(!some, 13, 0)))
 }
 
-fn enter(w: Who, ro: Roster) -> Roster
+fn enter(w: Option<u64>, ro: Roster) -> Roster
     ensures { result ≡ entered_by w ro }
 {
     match w {
-        Who::Nobody => ro,
-        Who::One(id) => client_state::changes::enter(ro, id),
+        None => ro,
+        Some(id) => client_state::changes::enter(ro, id),
     }
 }
 

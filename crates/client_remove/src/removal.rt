@@ -8,9 +8,7 @@ ghost use Rattle.rules_client.specs.Removal.{state_of, mode_of, op_of, tellable,
 
 use rules_base::Op;
 use rules_client::Gone;
-use rules_pool::{
-    Effect, Job, Kind, Message, Mode, Pool, Posted, Removal, Reply, Roster, Stage, State,
-};
+use rules_pool::{Effect, Job, Kind, Message, Mode, Pool, Posted, Removal, Reply, Roster, Stage, State};
 
 pub fn state_of(p: Pool, id: u64) -> State
     ensures { result ≡ state_of p id }

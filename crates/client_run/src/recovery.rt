@@ -4,7 +4,7 @@ pub mod cases;
 ghost use Rattle.std.specs.Prelude.{◌≡◌};
 ghost use Rattle.rules_pool.specs.Recovery.{next_number, with_roster, posted, quiet, jobless, run_ended, removal_ended, sent_by, gone_on, beginning, tried, disabling, disabling_but};
 
-use rules_pool::{Job, Message, Next, Pool, Posted, Roster, Run, Told, Who};
+use rules_pool::{Job, Message, Pool, Posted, Roster, Run, Told};
 
 fn next_number(n: u32) -> u32
     ensures { result ≡ next_number n }
@@ -90,24 +90,24 @@ fn send_by(p: Pool, r: Run) -> Posted
 }
 
 // A run goes on, or is over.
-pub fn go_on(n: Next, p: Pool) -> Posted
+pub fn go_on(n: Option<Run>, p: Pool) -> Posted
     ensures { result ≡ gone_on n p }
 {
     match n {
-        Next::Over => {
+        None => {
             let idle = end_run(p);
             rest(idle)
         }
-        Next::On(r) => send_by(p, r),
+        Some(r) => send_by(p, r),
     }
 }
 
-fn begin(n: Next, p: Pool) -> Posted
+fn begin(n: Option<Run>, p: Pool) -> Posted
     ensures { result ≡ beginning n p }
 {
     match n {
-        Next::Over => rest(p),
-        Next::On(r) => send_by(p, r),
+        None => rest(p),
+        Some(r) => send_by(p, r),
     }
 }
 
@@ -121,22 +121,22 @@ pub fn try_recovery(p: Pool) -> Posted
 }
 
 // MAP_DISABLE to one session or none.
-pub fn disable(w: Who) -> Told
+pub fn disable(w: Option<u64>) -> Told
     ensures { result ≡ disabling w }
 {
     match w {
-        Who::Nobody => Told::Nothing,
-        Who::One(id) => Told::Disable(id),
+        None => Told::Nothing,
+        Some(id) => Told::Disable(id),
     }
 }
 
 // MAP_DISABLE, but not to the session whose link is down.
-pub fn disable_but(id: u64, w: Who) -> Told
+pub fn disable_but(id: u64, w: Option<u64>) -> Told
     ensures { result ≡ disabling_but id w }
 {
     match w {
-        Who::Nobody => Told::Nothing,
-        Who::One(x) => {
+        None => Told::Nothing,
+        Some(x) => {
             if x == id {
                 Told::Nothing
             } else {

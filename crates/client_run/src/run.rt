@@ -4,7 +4,7 @@ pub mod still;
 ghost use Rattle.std.specs.Prelude.{◌≡◌};
 ghost use Rattle.rules_pool.specs.Run.{counted, go, ahead, receiver, to_spread, to_gather, to_last, to_base, to_versions, went_on, became_normal, ended, passed_over, failed_answer, version_brought, base_next, gather_next, spread_good, good, takes, step_message, awaited_in};
 
-use rules_pool::{Brought, Message, Move, Next, Phase, Reply, Run, Step, Who};
+use rules_pool::{Message, Move, Phase, Reply, Run, Step};
 
 fn counted(taken: u64) -> u64
     ensures { result ≡ counted taken }
@@ -16,11 +16,11 @@ fn counted(taken: u64) -> u64
     }
 }
 
-fn go(r: Run, p: Phase, source: u64, left: u64) -> Next
+fn go(r: Run, p: Phase, source: u64, left: u64) -> Option<Run>
     ensures { result ≡ go r p source left }
 {
     let taken = counted(r.taken);
-    Next::On(Run {
+    Some(Run {
         phase: p,
         source: source,
         left: left,
@@ -29,38 +29,38 @@ fn go(r: Run, p: Phase, source: u64, left: u64) -> Next
 }
 
 // The next message of the spread in hand.
-fn ahead(r: Run, p: Phase) -> Next
+fn ahead(r: Run, p: Phase) -> Option<Run>
     ensures { result ≡ ahead r p }
 {
     go(r, p, r.source, r.left)
 }
 
 // The receiver in hand, who has MAP_READY and has not answered its MAP_DONE.
-pub fn receiver(r: Run) -> Who
+pub fn receiver(r: Run) -> Option<u64>
     ensures { result ≡ receiver r }
 {
     let x = map_numbers::sets::lowest(r.left);
     let p = r.phase;
     match p {
-        Phase::Versions(best) => Who::Nobody,
-        Phase::Base(s) => Who::One(x),
-        Phase::LastIo => Who::Nobody,
-        Phase::Gather(s) => Who::One(r.source),
-        Phase::Enable(every) => Who::Nobody,
-        Phase::Spread(s) => Who::One(x),
+        Phase::Versions(best) => None,
+        Phase::Base(s) => Some(x),
+        Phase::LastIo => None,
+        Phase::Gather(s) => Some(r.source),
+        Phase::Enable(every) => None,
+        Phase::Spread(s) => Some(x),
     }
 }
 
-fn to_spread(r: Run, left: u64) -> Next
+fn to_spread(r: Run, left: u64) -> Option<Run>
     ensures { result ≡ to_spread r left }
 {
     if left == 0 {
-        return Next::Over;
+        return None;
     }
     go(r, Phase::Spread(Step::Ready), r.source, left)
 }
 
-fn to_gather(members: u64, r: Run, source: u64, left: u64) -> Next
+fn to_gather(members: u64, r: Run, source: u64, left: u64) -> Option<Run>
     ensures { result ≡ to_gather members r source left }
 {
     if left == 0 {
@@ -70,7 +70,7 @@ fn to_gather(members: u64, r: Run, source: u64, left: u64) -> Next
     go(r, Phase::Gather(Step::Ready), source, left)
 }
 
-fn to_last(members: u64, r: Run, source: u64, left: u64) -> Next
+fn to_last(members: u64, r: Run, source: u64, left: u64) -> Option<Run>
     ensures { result ≡ to_last members r source left }
 {
     if left == 0 {
@@ -80,7 +80,7 @@ fn to_last(members: u64, r: Run, source: u64, left: u64) -> Next
     go(r, Phase::LastIo, source, left)
 }
 
-fn to_base(members: u64, r: Run, source: u64, left: u64) -> Next
+fn to_base(members: u64, r: Run, source: u64, left: u64) -> Option<Run>
     ensures { result ≡ to_base members r source left }
 {
     if left == 0 {
@@ -89,7 +89,7 @@ fn to_base(members: u64, r: Run, source: u64, left: u64) -> Next
     go(r, Phase::Base(Step::Ready), source, left)
 }
 
-fn to_versions(members: u64, r: Run, best: u64, source: u64, left: u64) -> Next
+fn to_versions(members: u64, r: Run, best: u64, source: u64, left: u64) -> Option<Run>
     ensures { result ≡ to_versions members r best source left }
 {
     if left == 0 {
@@ -99,27 +99,27 @@ fn to_versions(members: u64, r: Run, best: u64, source: u64, left: u64) -> Next
     go(r, Phase::Versions(best), source, left)
 }
 
-fn went_on(r: Run, n: Next) -> Move
+fn went_on(r: Run, n: Option<Run>) -> Move
     ensures { result ≡ went_on r n }
 {
     let taken = counted(r.taken);
     Move {
         next: n,
         taken: taken,
-        normal: Who::Nobody,
-        disable: Who::Nobody,
+        normal: None,
+        disable: None,
     }
 }
 
-fn became_normal(r: Run, n: Next, id: u64) -> Move
+fn became_normal(r: Run, n: Option<Run>, id: u64) -> Move
     ensures { result ≡ became_normal r n id }
 {
     let taken = counted(r.taken);
     Move {
         next: n,
         taken: taken,
-        normal: Who::One(id),
-        disable: Who::Nobody,
+        normal: Some(id),
+        disable: None,
     }
 }
 
@@ -129,9 +129,9 @@ fn ended(r: Run) -> Move
     let taken = counted(r.taken);
     let w = receiver(r);
     Move {
-        next: Next::Over,
+        next: None,
         taken: taken,
-        normal: Who::Nobody,
+        normal: None,
         disable: w,
     }
 }
@@ -147,7 +147,7 @@ fn passed_over(r: Run) -> Move
     Move {
         next: n,
         taken: taken,
-        normal: Who::Nobody,
+        normal: None,
         disable: w,
     }
 }
@@ -168,10 +168,10 @@ fn failed_answer(r: Run) -> Move
 }
 
 // A good answer to MAP_GET_VER, which must bring a version that is not above the pool's.
-fn version_brought(members: u64, version: u64, best: u64, r: Run, b: Brought) -> Move
+fn version_brought(members: u64, version: u64, best: u64, r: Run, b: Option<u64>) -> Move
     ensures { result ≡ version_brought members version best r b }
 {
-    let Brought::Version(v) = b else {
+    let Some(v) = b else {
         return failed_answer(r);
     };
     if version < v {
@@ -185,7 +185,7 @@ fn version_brought(members: u64, version: u64, best: u64, r: Run, b: Brought) ->
     went_on(r, n)
 }
 
-fn base_next(members: u64, s: Step, r: Run) -> Next
+fn base_next(members: u64, s: Step, r: Run) -> Option<Run>
     ensures { result ≡ base_next members s r }
 {
     let x = map_numbers::sets::lowest(r.left);
@@ -197,7 +197,7 @@ fn base_next(members: u64, s: Step, r: Run) -> Next
     }
 }
 
-fn gather_next(members: u64, s: Step, r: Run) -> Next
+fn gather_next(members: u64, s: Step, r: Run) -> Option<Run>
     ensures { result ≡ gather_next members s r }
 {
     let x = map_numbers::sets::lowest(r.left);
@@ -230,7 +230,7 @@ fn spread_good(s: Step, r: Run) -> Move
     }
 }
 
-fn good(members: u64, version: u64, r: Run, b: Brought) -> Move
+fn good(members: u64, version: u64, r: Run, b: Option<u64>) -> Move
     ensures { result ≡ good members version r b }
 {
     let p = r.phase;

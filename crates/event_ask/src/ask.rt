@@ -6,7 +6,6 @@ ghost use Rattle.event_ask.specs.Ask.{of_check, of_next, finding_of, node_finds}
 use crate::lending::Lent;
 use event::Question;
 use node::StorageNode;
-use rules_base::Found;
 use rules_node::{Checked, Next};
 
 // Empty: the node is NORMAL, and its own row is empty. Next: the next dirty chunk, or none.
@@ -14,7 +13,7 @@ use rules_node::{Checked, Next};
 pub enum Finding {
     Refused(u64),
     Empty(bool),
-    Next(Found),
+    Next(Option<u64>),
 }
 
 fn of_check(c: Checked) -> Finding

@@ -1,9 +1,8 @@
 -- What numbers of a line, of a log record and of a call from C stand for.
-use Rattle.std.specs.Prelude.{ℕ, Bool, ◌&&◌, ◌||◌, not, ltb, eqb}
+use Rattle.std.specs.Prelude.{ℕ, Bool, ◌&&◌, ◌||◌, not, ltb, eqb, Some, None}
 use Rattle.laws_words.specs.Words.{pick}
 use Rattle.rules_pool.specs.declared.Mode.{Mode}
 use Rattle.rules_pool.specs.declared.Reply.{Reply}
-use Rattle.rules_pool.specs.declared.Brought.{Brought}
 use Rattle.rules_base.specs.declared.Op.{Op}
 use Rattle.rules_pool.specs.declared.Cause.{Cause}
 use Rattle.rules_pool.specs.declared.State.{State}
@@ -15,7 +14,7 @@ mode_of x = pick (eqb x 0) Mode.Delete Mode.Disassemble
 
 -- 0 failed, 1 success without a version, 2 success with one
 abbrev pub reply_of : ℕ → ℕ → Reply
-reply_of kind version = pick (eqb kind 0) Reply.Failed (pick (eqb kind 1) (Reply.Good Brought.Nothing) (Reply.Good (Brought.Version version)))
+reply_of kind version = pick (eqb kind 0) Reply.Failed (pick (eqb kind 1) (Reply.Good None) (Reply.Good (Some version)))
 
 -- 0 add-create, 1 add-assemble, 2 remove-delete, 3 remove-disassemble
 abbrev pub op_of : ℕ → Op

@@ -5,7 +5,7 @@ ghost use Rattle.std.specs.Prelude.{◌≡◌};
 ghost use Rattle.event_number.specs.Values.{mode_of, reply_of, op_of, state_of, session_of, maybe_session, op_number, mode_number};
 
 use rules_base::Op;
-use rules_pool::{Brought, Cause, Mode, Reply, Session, State};
+use rules_pool::{Cause, Mode, Reply, Session, State};
 
 pub fn mode_of(x: u64) -> Mode
     ensures { result ≡ mode_of x }
@@ -24,9 +24,9 @@ pub fn reply_of(kind: u64, version: u64) -> Reply
         return Reply::Failed;
     }
     if kind == 1 {
-        return Reply::Good(Brought::Nothing);
+        return Reply::Good(None);
     }
-    Reply::Good(Brought::Version(version))
+    Reply::Good(Some(version))
 }
 
 pub fn op_of(x: u64) -> Op

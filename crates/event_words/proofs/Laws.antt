@@ -1,4 +1,5 @@
 -- The arrays that the code spells out are the lists of the definitions; packing and reading are inverse.
+use Rattle.std.specs.Prelude.{Option, Some, None}
 use mathlib.Core.Path.{◌≡◌, refl, ◌∙◌}
 use mathlib.Core.List.{List, ◌∷◌}
 use Prim.Native.Nat.{ℕ, ◌+◌}
@@ -9,7 +10,6 @@ use Rattle.laws_words.specs.Words.{one}
 use Rattle.event_words.proofs.Spelt.{spell, spelt}
 use Rattle.event_words.proofs.Alike.{same_refl, same-all, read_one}
 use Rattle.rules_node.specs.declared.State.{State}
-use Rattle.rules_node.specs.declared.Transfer.{Transfer}
 use Rattle.rules_node.specs.declared.Node.{Node}
 use Rattle.rules_node.specs.States.{in_hand}
 use Rattle.event_words.specs.NodeWords.{state_word, state_of, got_word, transfer_of, packed, unpacked, known}
@@ -20,7 +20,7 @@ pub pack-of : (n : Node) (s t g a b : ℕ) → length n.kept ≡ 16 → s ≡ st
 unfolding packed
 pack-of n s t g a b len es et eg ea eb = rw (spelt 16 0 n.kept len, es, et, eg, ea, eb)
 
-pub unpack-of : (ws : List ℕ) (s : State) (t : Transfer) → length ws ≡ 32 → s ≡ state_of (get_or ws 2 0) → t ≡ transfer_of (get_or ws 8 0) (get_or ws 9 0)
+pub unpack-of : (ws : List ℕ) (s : State) (t : Option ℕ) → length ws ≡ 32 → s ≡ state_of (get_or ws 2 0) → t ≡ transfer_of (get_or ws 8 0) (get_or ws 9 0)
     → ◌≡◌ {A = Node} (record { id = get_or ws 0 0; chunks = get_or ws 1 0; state = s; store = eqb (get_or ws 3 0) 1; create = eqb (get_or ws 4 0) 1; members = get_or ws 5 0; version = get_or ws 6 0; kept = spell 16 16 ws; held = get_or ws 7 0; transfer = t }) (unpacked ws)
 unfolding unpacked
 unpack-of ws s t len es et = rw (es, et, ← spelt 16 16 ws len)
@@ -32,9 +32,9 @@ read-state State.Created = refl
 read-state State.Normal = refl
 read-state State.NoIo = refl
 
-read-transfer : (t : Transfer) → transfer_of (one (in_hand t)) (got_word t) ≡ t
-read-transfer Transfer.Nothing = refl
-read-transfer (Transfer.InHand got) = refl
+read-transfer : (t : Option ℕ) → transfer_of (one (in_hand t)) (got_word t) ≡ t
+read-transfer None = refl
+read-transfer (Some got) = refl
 
 pub read-packed : ReadPacked
 unfolding packed unpacked

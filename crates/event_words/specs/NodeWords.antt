@@ -1,9 +1,8 @@
 -- The words of a node's state, and the state of words. Any words give a state; known are those that a state is packed to.
-use Rattle.std.specs.Prelude.{Bool, List, ◌∷◌, ℕ, eqb, get_or, drop}
+use Rattle.std.specs.Prelude.{Bool, List, ◌∷◌, ℕ, eqb, get_or, drop, Option, Some, None}
 use Rattle.laws_words.specs.Words.{pick, one}
 use Rattle.event_words.specs.Same.{same_to}
 use Rattle.rules_node.specs.declared.State.{State}
-use Rattle.rules_node.specs.declared.Transfer.{Transfer}
 use Rattle.rules_node.specs.declared.Node.{Node}
 use Rattle.rules_node.specs.States.{in_hand}
 
@@ -18,12 +17,12 @@ abbrev pub state_of : ℕ → State
 state_of x = pick (eqb x 0) State.Empty (pick (eqb x 1) State.Registered (pick (eqb x 2) State.Created (pick (eqb x 3) State.Normal State.NoIo)))
 
 -- the bytes taken, 0 where no transfer is in hand
-abbrev pub got_word : Transfer → ℕ
-got_word Transfer.Nothing = 0
-got_word (Transfer.InHand got) = got
+abbrev pub got_word : Option ℕ → ℕ
+got_word None = 0
+got_word (Some got) = got
 
-abbrev pub transfer_of : ℕ → ℕ → Transfer
-transfer_of x got = pick (eqb x 0) Transfer.Nothing (Transfer.InHand got)
+abbrev pub transfer_of : ℕ → ℕ → Option ℕ
+transfer_of x got = pick (eqb x 0) None (Some got)
 
 -- the words of a state
 unfoldable pub packed : Node → List ℕ

@@ -3,7 +3,7 @@
 ghost use Rattle.std.specs.Prelude.{◌≡◌};
 ghost use Rattle.event_words.specs.NodeWords.{state_word, state_of, got_word, transfer_of, packed, unpacked, known};
 
-use rules_node::{Node, State, Transfer};
+use rules_node::{Node, State};
 
 // What 32 words say: a state, and whether they are that state's words.
 #[derive(Clone, Copy)]
@@ -36,22 +36,22 @@ fn state_of(x: u64) -> State
     }
 }
 
-fn got_word(t: Transfer) -> u64
+fn got_word(t: Option<u64>) -> u64
     ensures { result ≡ got_word t }
 {
     match t {
-        Transfer::Nothing => 0,
-        Transfer::InHand(got) => got,
+        None => 0,
+        Some(got) => got,
     }
 }
 
-fn transfer_of(x: u64, got: u64) -> Transfer
+fn transfer_of(x: u64, got: u64) -> Option<u64>
     ensures { result ≡ transfer_of x got }
 {
     if x == 0 {
-        Transfer::Nothing
+        None
     } else {
-        Transfer::InHand(got)
+        Some(got)
     }
 }
 

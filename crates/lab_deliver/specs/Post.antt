@@ -1,8 +1,7 @@
 -- The client's messages as events of their nodes, and a node's answer as the client's.
-use Rattle.std.specs.Prelude.{ℕ, eqb, Bool}
+use Rattle.std.specs.Prelude.{ℕ, eqb, Bool, Some, None}
 use Rattle.laws_words.specs.Words.{pick}
 use Rattle.rules_base.specs.Sets.{has}
-use Rattle.rules_pool.specs.declared.Brought.{Brought}
 use Rattle.rules_pool.specs.declared.Message.{Message}
 use Rattle.rules_base.specs.declared.Op.{Op}
 use Rattle.rules_pool.specs.declared.Reply.{Reply}
@@ -47,5 +46,5 @@ errand_of (Message.Info to op member) = Errand.Event to (NodeEvent.PoolInfo op m
 -- A refusal is a failed answer; a version comes with MAP_GET_VER alone.
 abbrev pub reply_of : Answer → Reply
 reply_of (Answer.Refused n) = Reply.Failed
-reply_of Answer.Done = Reply.Good Brought.Nothing
-reply_of (Answer.Version v) = Reply.Good (Brought.Version v)
+reply_of Answer.Done = Reply.Good None
+reply_of (Answer.Version v) = Reply.Good (Some v)

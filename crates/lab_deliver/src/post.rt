@@ -5,7 +5,7 @@ ghost use Rattle.lab_deliver.specs.Post.{due_if, due_both, told_to, errand_of, r
 use event::NodeEvent;
 use rules_base::Op;
 use rules_node::Answer;
-use rules_pool::{Brought, Message, Reply, Told};
+use rules_pool::{Message, Reply, Told};
 
 // The events of a node that the messages are, as many as go there. Two: of two kinds, in this order.
 #[derive(Clone, Copy)]
@@ -100,7 +100,7 @@ pub fn reply_of(a: Answer) -> Reply
 {
     match a {
         Answer::Refused(n) => Reply::Failed,
-        Answer::Done => Reply::Good(Brought::Nothing),
-        Answer::Version(v) => Reply::Good(Brought::Version(v)),
+        Answer::Done => Reply::Good(None),
+        Answer::Version(v) => Reply::Good(Some(v)),
     }
 }

@@ -1,10 +1,9 @@
 -- The lab's nodes in their places. ws holds the words of their states (crate nodewords), ss their summaries. What a definition does not name stays.
-use Rattle.std.specs.Prelude.{ℕ, zero, suc, Bool, List, [], ◌∷◌, ◌++◌, eqb, get_or, set, replicate, length}
+use Rattle.std.specs.Prelude.{ℕ, zero, suc, Bool, List, [], ◌∷◌, ◌++◌, eqb, get_or, set, replicate, length, Option, Some, None}
 use Rattle.laws_words.specs.Words.{pick}
 use Rattle.rules_base.specs.Limits.{map_bytes}
 use Rattle.rules_node.specs.declared.Node.{Node}
 use Rattle.rules_node.specs.declared.State as node
-use Rattle.rules_node.specs.declared.Transfer.{Transfer}
 use Rattle.node.specs.declared.StorageNode.{StorageNode}
 use Rattle.node.specs.Face.{fresh_node}
 use Rattle.lab_form.specs.declared.Command.{Command}
@@ -50,8 +49,8 @@ node_state_of x =
     node.State.NoIo)))
 
 -- 0 nothing in hand, 1 in hand and nothing taken, 2 in hand and the whole map taken
-abbrev pub transfer_of : ℕ → Transfer
-transfer_of x = pick (eqb x 0) Transfer.Nothing (pick (eqb x 1) (Transfer.InHand 0) (Transfer.InHand map_bytes))
+abbrev pub transfer_of : ℕ → Option ℕ
+transfer_of x = pick (eqb x 0) None (pick (eqb x 1) (Some 0) (Some map_bytes))
 
 -- own id, chunk count and kept chunks stay
 abbrev pub poked : Node → ℕ → Bool → Bool → ℕ → ℕ → ℕ → Node
@@ -70,9 +69,9 @@ poked n state store create members version transfer =
     }
 
 -- of a transfer in hand so many bytes are taken
-abbrev pub got_to : Transfer → ℕ → Transfer
-got_to Transfer.Nothing got = Transfer.Nothing
-got_to (Transfer.InHand bytes) got = Transfer.InHand got
+abbrev pub got_to : Option ℕ → ℕ → Option ℕ
+got_to None got = None
+got_to (Some bytes) got = Some got
 
 abbrev pub poked_got : Node → ℕ → Node
 poked_got n got =

@@ -7,7 +7,7 @@ ghost use Rattle.lab_places.specs.Places.{state_at, summaries_at, state_in, node
 use lab_form::Command;
 use map_summary::summaries::Summaries;
 use node::StorageNode;
-use rules_node::{Node, Transfer};
+use rules_node::Node;
 
 // The words of the state in place n; zeros where there is no such place.
 pub fn state_at(n: u64, states: &[[u64; 32]]) -> [u64; 32]
@@ -111,16 +111,16 @@ fn state_of(x: u64) -> rules_node::State
     rules_node::State::NoIo
 }
 
-fn transfer_of(x: u64) -> Transfer
+fn transfer_of(x: u64) -> Option<u64>
     ensures { result ≡ transfer_of x }
 {
     if x == 0 {
-        return Transfer::Nothing;
+        return None;
     }
     if x == 1 {
-        return Transfer::InHand(0);
+        return Some(0);
     }
-    Transfer::InHand(map_numbers::refusals::MAP_BYTES as u64)
+    Some(map_numbers::refusals::MAP_BYTES as u64)
 }
 
 // A node's state put in, unchecked. Own id, chunk count and kept chunks stay.
@@ -187,12 +187,12 @@ fn with_got(v: Node, got: u64) -> Node
     }
 }
 
-fn got_to(t: Transfer, got: u64) -> Transfer
+fn got_to(t: Option<u64>, got: u64) -> Option<u64>
     ensures { result ≡ got_to t got }
 {
     match t {
-        Transfer::Nothing => Transfer::Nothing,
-        Transfer::InHand(bytes) => Transfer::InHand(got),
+        None => None,
+        Some(bytes) => Some(got),
     }
 }
 

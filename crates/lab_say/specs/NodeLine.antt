@@ -1,11 +1,10 @@
 -- A node's line after an accepted event, and the line of its further fields.
-use Rattle.std.specs.Prelude.{ℕ, ◌-◌, List, [], ◌∷◌, drop}
+use Rattle.std.specs.Prelude.{ℕ, ◌-◌, List, [], ◌∷◌, drop, Option}
 use Rattle.laws_words.specs.Words.{pick, one}
 use Rattle.text_bytes.specs.Bytes.{bytes}
 use Rattle.text_bytes.specs.Ink.{decimal, joined}
 use Rattle.lab_say.specs.Say.{paired}
 use Rattle.rules_node.specs.declared.State.{State}
-use Rattle.rules_node.specs.declared.Transfer.{Transfer}
 use Rattle.rules_node.specs.declared.Node.{Node}
 use Rattle.rules_node.specs.States.{in_hand, taken, is_whole}
 
@@ -17,7 +16,7 @@ state_text State.Normal = bytes " state=NORMAL"
 state_text State.NoIo = bytes " state=NO_IO"
 
 -- 0 none in hand, 1 in hand, 2 in hand and the whole map taken
-abbrev pub transfer_number : Transfer → ℕ
+abbrev pub transfer_number : Option ℕ → ℕ
 transfer_number t = pick (is_whole t) 2 (one (in_hand t))
 
 -- each number after a comma (44)

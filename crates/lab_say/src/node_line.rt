@@ -3,7 +3,7 @@ ghost use Rattle.std.specs.Prelude.{◌≡◌, ◌∷◌, ◌-◌, drop};
 ghost use Rattle.text_bytes.specs.Ink.{ink, emits, decimal as Ink·decimal};
 ghost use Rattle.lab_say.specs.NodeLine.{state_text, transfer_number, commas, kept_text, front_text, node_text, look_text};
 
-use rules_node::{Node, State, Transfer};
+use rules_node::{Node, State};
 
 fn put_state(out: &mut [u8], at: usize, s: State) -> usize
     ensures { ink out.new result ≡ emits (ink out.old at) (state_text s) }
@@ -17,7 +17,7 @@ fn put_state(out: &mut [u8], at: usize, s: State) -> usize
     }
 }
 
-fn transfer_number(t: Transfer) -> u64
+fn transfer_number(t: Option<u64>) -> u64
     ensures { result ≡ transfer_number t }
 {
     map_numbers::numbers::choose(

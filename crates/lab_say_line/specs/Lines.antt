@@ -1,5 +1,5 @@
 -- The lines that answer a command, each with its newline.
-use Rattle.std.specs.Prelude.{Bool, List, [], ◌∷◌, ℕ, ◌+◌, ◌*◌, ltb, length, take, drop}
+use Rattle.std.specs.Prelude.{Bool, List, [], ◌∷◌, ℕ, ◌+◌, ◌*◌, ltb, length, take, drop, Option, Some, None}
 use Rattle.laws_words.specs.Words.{pick, one}
 use Rattle.text_bytes.specs.Bytes.{bytes}
 use Rattle.text_bytes.specs.Ink.{Ink, emit, emits, joined}
@@ -12,7 +12,6 @@ use Rattle.lab_say_client.specs.Client.{client_text, look_text as Client·look_t
 use Rattle.lab_say.specs.NodeLine.{node_text, look_text}
 use Rattle.lab_say.specs.Row.{row_text}
 use Rattle.lab_say.specs.Text.{last_text}
-use Rattle.rules_base.specs.declared.Found.{Found}
 use Rattle.lab_say_line.specs.declared.Said.{Said}
 
 -- a text and its newline
@@ -24,11 +23,11 @@ unfoldable pub asked_text : Node → Bool → List ℕ
 asked_text n empty = joined (node_text n ∷ paired (bytes " empty=") (one empty) ∷ [])
 
 -- what a node answers that is asked for the next dirty chunk: its line, and the chunk, or that there is none
-unfoldable pub found_text : Found → List ℕ
-found_text (Found.At c) = paired (bytes " next=") c
-found_text Found.Nothing = bytes " next=none"
+unfoldable pub found_text : Option ℕ → List ℕ
+found_text (Some c) = paired (bytes " next=") c
+found_text None = bytes " next=none"
 
-unfoldable pub next_text : Node → Found → List ℕ
+unfoldable pub next_text : Node → Option ℕ → List ℕ
 next_text n f = joined (node_text n ∷ found_text f ∷ [])
 
 -- what is said, p and check being the client's state and n the node's; a row is written apart

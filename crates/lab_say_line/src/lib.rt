@@ -12,7 +12,6 @@ ghost use Rattle.lab_say_line.specs.Lines.{ended, asked_text, found_text, next_t
 
 use audit_record::journal::Last;
 use lab_form::Which;
-use rules_base::Found;
 use rules_client::Check;
 use rules_node::Node;
 use rules_pool::{Pool, Sent};
@@ -30,7 +29,7 @@ pub enum Said {
     Client(Sent),
     Node(u64),
     Asked(u64, bool),
-    Next(u64, Found),
+    Next(u64, Option<u64>),
     Row(Which, u64),
     Look,
     LookNode(u64),
@@ -107,23 +106,23 @@ fn asked_line(out: &mut [u8], at: usize, n: Node, empty: bool) -> usize
     text_bytes::put(out, to, 10)
 }
 
-fn put_found(out: &mut [u8], at: usize, f: Found) -> usize
+fn put_found(out: &mut [u8], at: usize, f: Option<u64>) -> usize
     ensures { ink out.new result ≡ emits (ink out.old at) (found_text f) }
 {
     match f {
-        Found::At(c) => lab_say::say::put_pair(out, at, b" next=", c),
-        Found::Nothing => text_bytes::put_bytes(out, at, b" next=none"),
+        Some(c) => lab_say::say::put_pair(out, at, b" next=", c),
+        None => text_bytes::put_bytes(out, at, b" next=none"),
     }
 }
 
-fn put_next(out: &mut [u8], at: usize, n: Node, f: Found) -> usize
+fn put_next(out: &mut [u8], at: usize, n: Node, f: Option<u64>) -> usize
     ensures { ink out.new result ≡ emits (ink out.old at) (next_text n f) }
 {
     let to = lab_say::node_line::put_node(out, at, n);
     put_found(out, to, f)
 }
 
-fn next_line(out: &mut [u8], at: usize, n: Node, f: Found) -> usize
+fn next_line(out: &mut [u8], at: usize, n: Node, f: Option<u64>) -> usize
     ensures { ink out.new result ≡ ended (ink out.old at) (next_text n f) }
 {
     let to = put_next(out, at, n, f);

@@ -1,4 +1,5 @@
 -- An answer keeps the state rules, in a run and in a removal.
+use Rattle.std.specs.Prelude.{Option, Some, None}
 use mathlib.Core.Path.{◌≡◌, refl, sym, ap, ◌∙◌, subst}
 use mathlib.Core.Bool.{Bool, true, false, not}
 use Prim.Native.Nat.{ℕ, ◌+◌, ◌≤◌, ◌<◌}
@@ -18,18 +19,15 @@ use Rattle.rules_pool.specs.declared.Step.{Step}
 use Rattle.rules_pool.specs.declared.Run.{Run}
 use Rattle.rules_pool.specs.declared.Job.{Job}
 use Rattle.rules_pool.specs.declared.Pool.{Pool}
-use Rattle.rules_pool.specs.declared.Brought.{Brought}
 use Rattle.rules_pool.specs.declared.Reply.{Reply}
 use Rattle.rules_pool.specs.Session.{is_normal, candidate}
 use Rattle.rules_pool.specs.declared.Kind.{Kind}
 use Rattle.rules_pool.specs.Sessions.{session_at, ids_of}
 use Rattle.rules_pool.specs.Changes.{entered}
-use Rattle.rules_pool.specs.declared.Who.{Who}
-use Rattle.rules_pool.specs.declared.Next.{Next}
 use Rattle.rules_pool.specs.declared.Move.{Move}
 use Rattle.rules_pool.specs.Run.{hand, rest, counted, ahead, to_spread, went_on, became_normal, failed_at, failed_answer, version_brought, good_at, good, takes}
 use Rattle.rules_pool.specs.Still.{possible}
-use Rattle.laws_client.proofs.RunBound.{counted-most, Some, FitAt, FitNext, still_in, Carries, Lowers, taken-well, some_left, lowers}
+use Rattle.laws_client.proofs.RunBound.{counted-most, HasLeft, FitAt, FitNext, still_in, Carries, Lowers, taken-well, some_left, lowers}
 use Rattle.rules_pool.specs.StateRules.{all_asked, one_asked, asked, source_ok, hand_ok, job_ok}
 use Rattle.rules_pool.specs.Jobs.{is_running}
 use Rattle.rules_pool.specs.Recovery.{with_roster, posted, gone_on}
@@ -49,7 +47,7 @@ use Rattle.rules_client.specs.Answers.{answer_refusal, entered_by, moved_on, rep
 pub candidate-below : (ro : Roster) (id : ℕ) → Long ro → candidate (session_at ro id) ≡ true → id < 16
 candidate-below ro id l c = below candidate ro id l refl c
 
-some_of : (ro : Roster) (r : Run) → RunOk ro r → not (eqb r.left 0) ≡ true → Some r
+some_of : (ro : Roster) (r : Run) → RunOk ro r → not (eqb r.left 0) ≡ true → HasLeft r
 some_of ro r v e = (v.small, some_left r.left v.small (off (eqb r.left 0) e))
   where
     off : (b : Bool) → not b ≡ true → b ≡ false
@@ -76,12 +74,12 @@ record Steps (ro : Roster) (m : Move) : Type 0 where
   same-members : (entered_by m.normal ro).members ≡ ro.members
   same_version : (entered_by m.normal ro).version ≡ ro.version
   plain : (entered_by m.normal ro).sync ≡ false
-  able : (id : ℕ) → m.normal ≡ Who.One id → candidate (session_at ro id) ≡ true
+  able : (id : ℕ) → m.normal ≡ Some id → candidate (session_at ro id) ≡ true
 
-nobody {ℓ} : {A : Type ℓ} (id : ℕ) → Who.Nobody ≡ Who.One id → A
+nobody {ℓ} : {A : Type ℓ} (id : ℕ) → None ≡ Some id → A
 nobody id e = absurd (let z : ◌≡◌ {A = ℕ} 0 1 = cc e in omega arith)
 
-on-moves : (ro : Roster) (r : Run) (n : Next) → Ok ro → ro.sync ≡ false → Sound ro n → Steps ro (went_on r n)
+on-moves : (ro : Roster) (r : Run) (n : Option Run) → Ok ro → ro.sync ≡ false → Sound ro n → Steps ro (went_on r n)
 on-moves ro r n k e s = record { ok = k; sound = s; same-members = refl; same_version = refl; plain = e; able = λ id e. nobody id e }
 
 rest-within : (r : Run) → Within (rest r) r.left
@@ -107,9 +105,9 @@ failed-moves : (ro : Roster) (r : Run) → Ok ro → RunOk ro r → Steps ro (fa
 unfolding failed_answer
 failed-moves ro r k v = fails r.phase ro r k v v.source
 
-brings : (best version : ℕ) (ro : Roster) (r : Run) (b : Brought) → Ok ro → RunOk ro r → Some r → Asking ro r.source → Steps ro (version_brought ro.members version best r b)
-brings best version ro r Brought.Nothing k v h q = failed-moves ro r k v
-brings best version ro r (Brought.Version w) k v h q =
+brings : (best version : ℕ) (ro : Roster) (r : Run) (b : Option ℕ) → Ok ro → RunOk ro r → HasLeft r → Asking ro r.source → Steps ro (version_brought ro.members version best r b)
+brings best version ro r None k v h q = failed-moves ro r k v
+brings best version ro r (Some w) k v h q =
     either (Steps ro) (ltb version w) (failed_answer r) _ (failed-moves ro r k v)
     (on-moves ro r _ k v.plain
     (versions-sound ro k.long r (pick (ltb best w) (hand r) r.source)
@@ -145,7 +143,7 @@ unfolding one_asked
 asked-able true ro source l e = let a = asking-facts ro source l e in a.all-able source a.member
 asked-able false ro source l e = and_right (eqb (ids_of Kind.Normals ro) 0) (candidate (session_at ro source)) e
 
-goes : (p : Phase) (version : ℕ) (ro : Roster) (r : Run) (b : Brought) → Ok ro → RunOk ro r → hand_ok p r.left ≡ true → source_ok p ro r.source r.left ≡ true → Steps ro (good_at p ro.members version r b)
+goes : (p : Phase) (version : ℕ) (ro : Roster) (r : Run) (b : Option ℕ) → Ok ro → RunOk ro r → hand_ok p r.left ≡ true → source_ok p ro r.source r.left ≡ true → Steps ro (good_at p ro.members version r b)
 goes (Phase.Versions best) version ro r b k v h s = brings best version ro r b k v (some_of ro r v h) (asking-facts ro r.source k.long s)
 goes (Phase.Base Step.Ready) version ro r b k v h s = on-moves ro r (ahead r (Phase.Base Step.Send)) k v.plain (v.able, s)
 goes (Phase.Base Step.Send) version ro r b k v h s = on-moves ro r (ahead r (Phase.Base Step.Done)) k v.plain (v.able, s)
@@ -199,11 +197,11 @@ fit-hand (Phase.Enable every) members r f = (f, refl)
 fit-hand (Phase.Spread t) members r f = (f.0, not-empty r.left f.1)
 
 -- the pool with the next message sent, or the run over
-next-valid : (n : Next) (p : Pool) (taken before : ℕ) → 1 ≤ p.chunks → p.chunks ≤ chunk_limit → Ok p.roster → p.roster.sync ≡ false → p.roster.version ≤ version_limit
+next-valid : (n : Option Run) (p : Pool) (taken before : ℕ) → 1 ≤ p.chunks → p.chunks ≤ chunk_limit → Ok p.roster → p.roster.sync ≡ false → p.roster.version ≤ version_limit
     → FitNext p.roster.members n → Sound p.roster n → Carries (counted taken) n → still_in p.roster.members n < before → taken + before ≤ answer_limit → Valid (gone_on n p).pool
 unfolding posted
-next-valid Next.Over p taken before a b k e l f s c w m = ended-keeps p a b k (run_room p.roster k e l)
-next-valid (Next.On r) p taken before a b k e l f s c w m =
+next-valid None p taken before a b k e l f s c w m = ended-keeps p a b k (run_room p.roster k e l)
+next-valid (Some r) p taken before a b k e l f s c w m =
     record {
       some = a;
       most = b;
@@ -262,10 +260,10 @@ answer_keeps p sound number a v = at (eqb (answer_refusal p sound number) 0)
 
 -- ---- what an answer leaves of the sessions
 
-gone-roster : (n : Next) (p : Pool) → (gone_on n p).pool.roster ≡ raised_if (not (is_running (gone_on n p).pool.job)) p.roster
+gone-roster : (n : Option Run) (p : Pool) → (gone_on n p).pool.roster ≡ raised_if (not (is_running (gone_on n p).pool.job)) p.roster
 unfolding posted
-gone-roster Next.Over p = refl
-gone-roster (Next.On r) p = refl
+gone-roster None p = refl
+gone-roster (Some r) p = refl
 
 -- the sessions after an answer in a run: those before, but for the one that became NORMAL; the version is raised if the run is over
 pub run-roster : (p : Pool) (m : Move) → (reported p m).pool.roster ≡ raised_if (not (is_running (reported p m).pool.job)) (entered_by m.normal p.roster)
@@ -273,5 +271,5 @@ unfolding moved_on
 run-roster p m = gone-roster m.next (with_roster p (entered_by m.normal p.roster))
 
 -- The one that becomes NORMAL was a candidate.
-pub run-able : (p : Pool) (r : Run) (a : Reply) → Valid p → RunOk p.roster r → (id : ℕ) → (takes p.roster.members p.roster.version r a).normal ≡ Who.One id → candidate (session_at p.roster id) ≡ true
+pub run-able : (p : Pool) (r : Run) (a : Reply) → Valid p → RunOk p.roster r → (id : ℕ) → (takes p.roster.members p.roster.version r a).normal ≡ Some id → candidate (session_at p.roster id) ≡ true
 run-able p r a v q id e = (takes-moves p.roster.version p.roster r a v.ok q).able id e

@@ -1,4 +1,5 @@
 -- Laws of how long a run can take: every answer lowers what is still possible, a good one by exactly one.
+use Rattle.std.specs.Prelude.{Option, Some, None}
 use mathlib.Core.Path.{◌≡◌, refl, ap}
 use mathlib.Core.Bool.{Bool, true, false, not}
 use Prim.Native.Nat.{ℕ, ◌+◌, ◌*◌, ◌-◌, ◌≤◌, ◌<◌}
@@ -13,9 +14,7 @@ use Rattle.rules_base.proofs.Sets.{lowest-le, lowest-in, empty-set, size-zero, s
 use Rattle.rules_pool.specs.declared.Step.{Step}
 use Rattle.rules_pool.specs.declared.Phase.{Phase}
 use Rattle.rules_pool.specs.declared.Run.{Run}
-use Rattle.rules_pool.specs.declared.Brought.{Brought}
 use Rattle.rules_pool.specs.declared.Reply.{Reply}
-use Rattle.rules_pool.specs.declared.Next.{Next}
 use Rattle.rules_pool.specs.declared.Move.{Move}
 use Rattle.rules_pool.specs.Run.{hand, rest, counted, go, ahead, to_spread, to_gather, to_last, to_base, to_versions, went_on, ended, failed_at, failed_answer, version_brought, good_at, good, takes}
 use Rattle.rules_pool.specs.Still.{steps_done, possible_at, possible}
@@ -37,8 +36,8 @@ counted-one n h = rw (lt-ltb n answer_limit h)
 -- ---- what a run in hand has
 
 -- somebody is left
-abbrev pub Some : Run → Type 0
-Some r = (r.left < 65536) × (lowest r.left < 16)
+abbrev pub HasLeft : Run → Type 0
+HasLeft r = (r.left < 65536) × (lowest r.left < 16)
 
 -- the source is a member
 abbrev pub Chosen : ℕ → Run → Type 0
@@ -49,33 +48,33 @@ abbrev pub Asked : ℕ → Run → Type 0
 Asked members r = (j : ℕ) → has r.left j ≡ true → has members j ≡ true
 
 abbrev pub FitAt : Phase → ℕ → Run → Type 0
-FitAt (Phase.Versions best) members r = Some r × Chosen members r × Asked members r
-FitAt (Phase.Base s) members r = Some r × Chosen members r
-FitAt Phase.LastIo members r = Some r × Chosen members r
-FitAt (Phase.Gather s) members r = Some r × Chosen members r
+FitAt (Phase.Versions best) members r = HasLeft r × Chosen members r × Asked members r
+FitAt (Phase.Base s) members r = HasLeft r × Chosen members r
+FitAt Phase.LastIo members r = HasLeft r × Chosen members r
+FitAt (Phase.Gather s) members r = HasLeft r × Chosen members r
 FitAt (Phase.Enable every) members r = r.left < 65536
-FitAt (Phase.Spread s) members r = Some r
+FitAt (Phase.Spread s) members r = HasLeft r
 
 abbrev pub Fit : ℕ → Run → Type 0
 Fit members r = FitAt r.phase members r
 
 -- ---- what a run comes to
 
-abbrev pub still_in : ℕ → Next → ℕ
-still_in members Next.Over = 0
-still_in members (Next.On r) = possible members r
+abbrev pub still_in : ℕ → Option Run → ℕ
+still_in members None = 0
+still_in members (Some r) = possible members r
 
-abbrev pub FitNext : ℕ → Next → Type 0
-FitNext members Next.Over = Unit {0}
-FitNext members (Next.On r) = Fit members r
+abbrev pub FitNext : ℕ → Option Run → Type 0
+FitNext members None = Unit {0}
+FitNext members (Some r) = Fit members r
 
 -- a run that goes on carries this count
-abbrev pub Carries : ℕ → Next → Type 0
-Carries taken Next.Over = Unit {0}
-Carries taken (Next.On r) = r.taken ≡ taken
+abbrev pub Carries : ℕ → Option Run → Type 0
+Carries taken None = Unit {0}
+Carries taken (Some r) = r.taken ≡ taken
 
 -- n is what a run comes to with this count, and `left` answers are still possible in it
-record Enters (members taken left : ℕ) (n : Next) : Type 0 where
+record Enters (members taken left : ℕ) (n : Option Run) : Type 0 where
   count : still_in members n ≡ left
   fit : FitNext members n
   carries : Carries taken n
@@ -90,7 +89,7 @@ spread-enters : (members : ℕ) (r : Run) (left : ℕ) → left < 65536 → Ente
 unfolding possible
 spread-enters members r left h = at (eqb left 0) refl
   where
-    at : (b : Bool) → eqb left 0 ≡ b → Enters members (counted r.taken) (3 * size left) (pick b Next.Over (go r (Phase.Spread Step.Ready) r.source left))
+    at : (b : Bool) → eqb left 0 ≡ b → Enters members (counted r.taken) (3 * size left) (pick b None (go r (Phase.Spread Step.Ready) r.source left))
     at true e = record { count = rw (eqb-true left 0 e, size-zero) refl; fit = tt; carries = tt }
     at false e = record { count = omega arith; fit = (h, some_left left h e); carries = refl }
 
@@ -139,20 +138,20 @@ module _ (members : ℕ) (small : members < 65536) (r : Run) (source : ℕ) (mem
 
 -- ---- the one in hand
 
-one_fewer : (r : Run) → Some r → size r.left ≡ size (rest r) + 1
+one_fewer : (r : Run) → HasLeft r → size r.left ≡ size (rest r) + 1
 one_fewer r s = size-without r.left (hand r) (lowest-in r.left s.1)
 
-rest_lt : (r : Run) → Some r → rest r < 65536
+rest_lt : (r : Run) → HasLeft r → rest r < 65536
 rest_lt r s = without-lt r.left (hand r) s.0
 
 -- ---- one answer
 
 -- A good answer to MAP_GET_VER brings a version that is not above the pool's; any other good answer is one.
-abbrev pub brings : ℕ → Brought → Bool
-brings version Brought.Nothing = false
-brings version (Brought.Version v) = not (ltb version v)
+abbrev pub brings : ℕ → Option ℕ → Bool
+brings version None = false
+brings version (Some v) = not (ltb version v)
 
-abbrev pub well_at : Phase → ℕ → Brought → Bool
+abbrev pub well_at : Phase → ℕ → Option ℕ → Bool
 well_at (Phase.Versions best) version b = brings version b
 well_at (Phase.Base s) version b = true
 well_at Phase.LastIo version b = true
@@ -208,10 +207,10 @@ failed_ends : (r : Run) (best : ℕ) → r.phase ≡ Phase.Versions best → fai
 unfolding failed_answer
 failed_ends r best p = ap (λ (q : Phase). failed_at q r) p
 
-brought-well : (best members version : ℕ) (r : Run) (b : Brought) → FitAt (Phase.Versions best) members r → r.phase ≡ Phase.Versions best
+brought-well : (best members version : ℕ) (r : Run) (b : Option ℕ) → FitAt (Phase.Versions best) members r → r.phase ≡ Phase.Versions best
     → Lowers (brings version b) (now (Phase.Versions best) members r) members r (version_brought members version best r b)
-brought-well best members version r Brought.Nothing f p = rw (failed_ends r best p) (fails (Phase.Versions best) members r f)
-brought-well best members version r (Brought.Version v) f p = at (ltb version v)
+brought-well best members version r None f p = rw (failed_ends r best p) (fails (Phase.Versions best) members r f)
+brought-well best members version r (Some v) f p = at (ltb version v)
   where
     in_left : has r.left (hand r) ≡ true
     in_left = lowest-in r.left f.0.1
@@ -223,7 +222,7 @@ brought-well best members version r (Brought.Version v) f p = at (ltb version v)
     at true = rw (failed_ends r best p) (fails (Phase.Versions best) members r f)
     at false = by_one _ members r _ _ g (omega (arith, one_fewer r f.0)) refl
 
-goes : (p : Phase) (members version : ℕ) (r : Run) (b : Brought) → FitAt p members r → r.phase ≡ p → Lowers (well_at p version b) (now p members r) members r (good_at p members version r b)
+goes : (p : Phase) (members version : ℕ) (r : Run) (b : Option ℕ) → FitAt p members r → r.phase ≡ p → Lowers (well_at p version b) (now p members r) members r (good_at p members version r b)
 goes (Phase.Versions best) members version r b f p = brought-well best members version r b f p
 goes (Phase.Base Step.Ready) members version r b f p = by_one _ members r _ _ (ahead-enters (Phase.Base Step.Send) members r f) (omega (arith, one_fewer r f.0)) refl
 goes (Phase.Base Step.Send) members version r b f p = by_one _ members r _ _ (ahead-enters (Phase.Base Step.Done) members r f) (omega (arith, one_fewer r f.0)) refl

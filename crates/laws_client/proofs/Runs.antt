@@ -1,4 +1,5 @@
 -- The state rules of a run as facts, and laws that a run goes on by them.
+use Rattle.std.specs.Prelude.{Option, Some, None}
 use mathlib.Core.Path.{◌≡◌, refl, sym, ap, ◌∙◌}
 use mathlib.Core.Bool.{Bool, true, false, not, ◌&&◌}
 use mathlib.Core.Logic.{◌≢◌}
@@ -21,7 +22,6 @@ use Rattle.rules_pool.specs.Session.{is_normal, is_reconnecting, candidate, move
 use Rattle.rules_pool.specs.declared.Kind.{Kind}
 use Rattle.rules_pool.specs.Sessions.{session_at, ids_of}
 use Rattle.rules_pool.specs.Changes.{unmarked, all_unmarked, entered}
-use Rattle.rules_pool.specs.declared.Next.{Next}
 use Rattle.rules_pool.specs.Run.{go, to_spread, to_gather, to_last, to_base, to_versions}
 use Rattle.rules_pool.specs.Still.{possible}
 use Rattle.rules_pool.specs.StateRules.{all_asked, source_ok, hand_ok, run_rules, run_ok}
@@ -177,9 +177,9 @@ asking-of ro source l v =
 -- ---- the runs that come next, with the sessions ro
 
 -- those left are candidates, and the source is what its phase asks
-abbrev pub Sound : Roster → Next → Type 0
-Sound ro Next.Over = Unit {0}
-Sound ro (Next.On r) = AllCandidates ro r.left × (source_ok r.phase ro r.source r.left ≡ true)
+abbrev pub Sound : Roster → Option Run → Type 0
+Sound ro None = Unit {0}
+Sound ro (Some r) = AllCandidates ro r.left × (source_ok r.phase ro r.source r.left ≡ true)
 
 abbrev pub Within : ℕ → ℕ → Type 0
 Within a b = (j : ℕ) → has a j ≡ true → has b j ≡ true
@@ -191,7 +191,7 @@ others-within : (members source : ℕ) → Within (without members source) membe
 others-within members source j h = (still members source j h).0
 
 pub spread-sound : (ro : Roster) (r : Run) (left : ℕ) → AllCandidates ro left → is_normal (session_at ro r.source).state ≡ true → Sound ro (to_spread r left)
-spread-sound ro r left a n = either (Sound ro) (eqb left 0) Next.Over (go r (Phase.Spread Step.Ready) r.source left) tt (a, n)
+spread-sound ro r left a n = either (Sound ro) (eqb left 0) None (go r (Phase.Spread Step.Ready) r.source left) tt (a, n)
 
 module _ (ro : Roster) (l : Long ro) (r : Run) (source : ℕ) (v : Asking ro source) where
   pub gather-sound : (left : ℕ) → Within left ro.members → has left source ≡ false → Sound ro (to_gather ro.members r source left)

@@ -1,4 +1,5 @@
 -- Laws that recovery tried keeps the state rules: a run that begins is one.
+use Rattle.std.specs.Prelude.{Option, Some, None}
 use mathlib.Core.Path.{◌≡◌, refl, sym, ◌∙◌}
 use mathlib.Core.Bool.{Bool, true, false, not, ◌&&◌, ◌||◌}
 use Prim.Native.Nat.{ℕ, ◌+◌, ◌-◌, ◌≤◌, ◌<◌}
@@ -20,7 +21,6 @@ use Rattle.rules_pool.specs.declared.Pool.{Pool}
 use Rattle.rules_pool.specs.Session.{candidate}
 use Rattle.rules_pool.specs.declared.Kind.{Kind}
 use Rattle.rules_pool.specs.Sessions.{session_at, ids_of}
-use Rattle.rules_pool.specs.declared.Next.{Next}
 use Rattle.rules_pool.specs.Still.{possible}
 use Rattle.rules_pool.specs.Cases.{start, case1, case2, case3, case_of, begun}
 use Rattle.rules_pool.specs.Recovery.{with_roster, run_ended, beginning, posted, tried}
@@ -68,9 +68,9 @@ some-lowest s small e = elim (dec_lt (lowest s) 16) [
 ]
 
 -- what begins, if anything does, keeps the rules of a run
-abbrev pub Begins : Roster → Next → Type 0
-Begins ro Next.Over = Unit {0}
-Begins ro (Next.On r) = run_ok ro r ≡ true
+abbrev pub Begins : Roster → Option Run → Type 0
+Begins ro None = Unit {0}
+Begins ro (Some r) = run_ok ro r ≡ true
 
 candidates : (ro : Roster) → Long ro → (j : ℕ) → j < 16 → has (ids_of Kind.Candidates ro) j ≡ true → candidate (session_at ro j) ≡ true
 candidates ro l j h e = sym (ids-has Kind.Candidates ro l j h) ∙ e
@@ -106,16 +106,16 @@ third-case ro v sync low normals some strays =
     (simp (normals, strays, lowest-in ro.members (some-lowest ro.members v.small some)))
     (omega (arith, size-le ro.members))
 
-begins-one : (ro : Roster) → Ok ro → ro.sync ≡ false → ro.version ≤ version_limit → eqb (ids_of Kind.Normals ro) 0 ≡ false → (b : Bool) → eqb (ids_of Kind.Candidates ro) 0 ≡ b → Begins ro (pick b Next.Over (start (Phase.Spread Step.Ready) (lowest (ids_of Kind.Normals ro)) (ids_of Kind.Candidates ro)))
+begins-one : (ro : Roster) → Ok ro → ro.sync ≡ false → ro.version ≤ version_limit → eqb (ids_of Kind.Normals ro) 0 ≡ false → (b : Bool) → eqb (ids_of Kind.Candidates ro) 0 ≡ b → Begins ro (pick b None (start (Phase.Spread Step.Ready) (lowest (ids_of Kind.Normals ro)) (ids_of Kind.Candidates ro)))
 begins-one ro v sync low n true e = tt
 begins-one ro v sync low n false e = first-case ro v.long sync low n e
 
-begins-two : (ro : Roster) (x : ℕ) → Ok ro → ro.sync ≡ false → ro.version ≤ version_limit → eqb (ids_of Kind.Normals ro) 0 ≡ true → (b : Bool) → has (ids_of Kind.Candidates ro) x ≡ b → Begins ro (pick b (start (Phase.Enable false) x (without (ids_of Kind.Candidates ro) x)) Next.Over)
+begins-two : (ro : Roster) (x : ℕ) → Ok ro → ro.sync ≡ false → ro.version ≤ version_limit → eqb (ids_of Kind.Normals ro) 0 ≡ true → (b : Bool) → has (ids_of Kind.Candidates ro) x ≡ b → Begins ro (pick b (start (Phase.Enable false) x (without (ids_of Kind.Candidates ro) x)) None)
 begins-two ro x v sync low n true e = second-case ro x v.long sync low n e
 begins-two ro x v sync low n false e = tt
 
 begins-three : (ro : Roster) → Ok ro → ro.sync ≡ false → ro.version ≤ version_limit → eqb (ids_of Kind.Normals ro) 0 ≡ true → (a b : Bool) → eqb ro.members 0 ≡ a → eqb (ids_of (Kind.Strays ro.members) ro) 0 ≡ b
-    → Begins ro (pick (a || not b) Next.Over (start (Phase.Versions 0) (lowest ro.members) ro.members))
+    → Begins ro (pick (a || not b) None (start (Phase.Versions 0) (lowest ro.members) ro.members))
 begins-three ro v sync low n true b e f = tt
 begins-three ro v sync low n false true e f = third-case ro v sync low n e f
 begins-three ro v sync low n false false e f = tt
@@ -127,7 +127,7 @@ begins-case ro v sync low true false e f = begins-two ro (lowest (ids_of Kind.Ma
 begins-case ro v sync low true true e f = begins-three ro v sync low e (eqb ro.members 0) (eqb (ids_of (Kind.Strays ro.members) ro) 0) refl refl
 
 begins-low : (ro : Roster) → Ok ro → ro.sync ≡ false → (b : Bool) → ltb version_limit ro.version ≡ b
-    → Begins ro (pick b Next.Over (case_of (ids_of Kind.Normals ro) (ids_of Kind.Candidates ro) (ids_of Kind.Marked ro) (ids_of (Kind.Strays ro.members) ro) ro.members))
+    → Begins ro (pick b None (case_of (ids_of Kind.Normals ro) (ids_of Kind.Candidates ro) (ids_of Kind.Marked ro) (ids_of (Kind.Strays ro.members) ro) ro.members))
 unfolding case_of
 begins-low ro v sync true e = tt
 begins-low ro v sync false e = begins-case ro v sync (ltb-false version_limit ro.version e) (eqb (ids_of Kind.Normals ro) 0) (eqb (ids_of Kind.Marked ro) 0) refl refl
@@ -136,10 +136,10 @@ pub begins : (ro : Roster) → Ok ro → ro.sync ≡ false → Begins ro (begun 
 unfolding begun
 begins ro v sync = begins-low ro v sync (ltb version_limit ro.version) refl
 
-begun-keeps : (p : Pool) (n : Next) → Valid p → Begins p.roster n → Valid (beginning n p).pool
+begun-keeps : (p : Pool) (n : Option Run) → Valid p → Begins p.roster n → Valid (beginning n p).pool
 unfolding posted
-begun-keeps p Next.Over v b = v
-begun-keeps p (Next.On r) v b = record { some = v.some; most = v.most; ok = v.ok; job = b }
+begun-keeps p None v b = v
+begun-keeps p (Some r) v b = record { some = v.some; most = v.most; ok = v.ok; job = b }
 
 -- Recovery tried keeps the state rules.
 pub tried-keeps : (p : Pool) → Valid p → p.roster.sync ≡ false → Valid (tried p).pool
@@ -147,10 +147,10 @@ unfolding tried
 tried-keeps p v sync = begun-keeps p (begun p.roster) v (begins p.roster v.ok sync)
 
 -- It changes no session.
-tried-at : (p : Pool) (n : Next) → (beginning n p).pool.roster ≡ p.roster
+tried-at : (p : Pool) (n : Option Run) → (beginning n p).pool.roster ≡ p.roster
 unfolding posted
-tried-at p Next.Over = refl
-tried-at p (Next.On r) = refl
+tried-at p None = refl
+tried-at p (Some r) = refl
 
 pub tried-roster : (p : Pool) → (tried p).pool.roster ≡ p.roster
 unfolding tried

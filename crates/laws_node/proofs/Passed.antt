@@ -1,4 +1,5 @@
 -- What an accepted event knows and keeps. Assumes nothing.
+use Rattle.std.specs.Prelude.{Option, Some, None}
 use mathlib.Core.Path.{◌≡◌, refl}
 use mathlib.Core.Bool.{Bool, true, false, not, ◌||◌}
 use Prim.Native.Nat.{ℕ, ◌≤◌, ◌<◌}
@@ -9,7 +10,6 @@ use borrow.Author.Tests.{ltb-false, not-false}
 use Rattle.laws_words.specs.Tests.{clash}
 use Rattle.rules_base.specs.Limits.{version_limit, version_top}
 use Rattle.rules_base.specs.Sets.{has}
-use Rattle.rules_node.specs.declared.Transfer.{Transfer}
 use Rattle.rules_node.specs.declared.Node.{Node}
 use Rattle.rules_node.specs.States.{in_hand, is_whole}
 use Rattle.rules_node.specs.StateRules.{valid}
@@ -21,9 +21,9 @@ or-false true b e = clash refl e
 or-false false b e = (refl, e)
 
 -- a map that was taken whole is in hand
-pub whole-in-hand : (t : Transfer) → is_whole t ≡ true → in_hand t ≡ true
-whole-in-hand Transfer.Nothing e = clash e refl
-whole-in-hand (Transfer.InHand bytes) e = refl
+pub whole-in-hand : (t : Option ℕ) → is_whole t ≡ true → in_hand t ≡ true
+whole-in-hand None e = clash e refl
+whole-in-hand (Some bytes) e = refl
 
 -- what every accepted event knows: the node's rules, its own id, that the lent maps do not refuse, and that the event may come
 pub record Passed (n : Node) (lent : ℕ) (may : Bool) : Type 0 where

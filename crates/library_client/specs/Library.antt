@@ -1,9 +1,8 @@
 -- What the library's calls do to the lent words and bytes of a client.
-use Rattle.std.specs.Prelude.{Bool, ◌&&◌, ◌||◌, not, List, ℕ, eqb, ltb}
+use Rattle.std.specs.Prelude.{Bool, ◌&&◌, ◌||◌, not, List, ℕ, eqb, ltb, Some, None}
 use Rattle.laws_words.specs.Words.{pick}
 use Rattle.event_words.specs.Same.{error_of}
 use Rattle.rules_pool.specs.declared.Mode.{Mode}
-use Rattle.rules_pool.specs.declared.Brought.{Brought}
 use Rattle.rules_pool.specs.declared.Reply.{Reply}
 use Rattle.event.specs.declared.Event.{Event}
 use Rattle.client.specs.declared.Out.{Out}
@@ -26,8 +25,8 @@ numbered k a b c =
     (pick (eqb k 8) (Event.Remove a Mode.Disassemble)
     (pick (eqb k 9) (Event.Write a b)
     (pick (eqb k 10) Event.Try
-    (pick (eqb k 11) (Event.Answer a (Reply.Good Brought.Nothing))
-    (pick (eqb k 12) (Event.Answer a (Reply.Good (Brought.Version b)))
+    (pick (eqb k 11) (Event.Answer a (Reply.Good None))
+    (pick (eqb k 12) (Event.Answer a (Reply.Good (Some b)))
     (pick (eqb k 13) (Event.Answer a Reply.Failed)
     (pick (eqb k 14) (Event.Rejoin a)
     (pick (eqb k 15) Event.Extend

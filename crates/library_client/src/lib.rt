@@ -8,7 +8,7 @@ ghost use Rattle.library_client.specs.Library.{numbered, event_known, returned, 
 
 use client::Client;
 use event::Event;
-use rules_pool::{Brought, Mode, Reply};
+use rules_pool::{Mode, Reply};
 
 // The event that four numbers stand for. The kinds 1 to 15 are those of a log record.
 #[tactic(auto, unfolding(crate::specs::Library::numbered))]
@@ -26,8 +26,8 @@ fn event_of(kind: u64, a: u64, b: u64, c: u64) -> Event
         8 => Event::Remove(a, Mode::Disassemble),
         9 => Event::Write(a, b),
         10 => Event::Try,
-        11 => Event::Answer(a, Reply::Good(Brought::Nothing)),
-        12 => Event::Answer(a, Reply::Good(Brought::Version(b))),
+        11 => Event::Answer(a, Reply::Good(None)),
+        12 => Event::Answer(a, Reply::Good(Some(b))),
         13 => Event::Answer(a, Reply::Failed),
         14 => Event::Rejoin(a),
         15 => Event::Extend,

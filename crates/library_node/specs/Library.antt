@@ -1,12 +1,11 @@
 -- What the library's calls do to the lent words and bytes of a node.
-use Rattle.std.specs.Prelude.{Bool, ◌&&◌, ◌||◌, not, List, [], ◌∷◌, ℕ, eqb, ltb}
+use Rattle.std.specs.Prelude.{Bool, ◌&&◌, ◌||◌, not, List, [], ◌∷◌, ℕ, eqb, ltb, Some, None}
 use Rattle.laws_words.specs.Words.{pick, one}
 use Rattle.event_words.specs.Same.{error_of}
 use Rattle.event.specs.declared.NodeEvent.{NodeEvent}
 use Rattle.event.specs.declared.Question.{Question}
 use Rattle.event_number.specs.Values.{op_of}
 use Rattle.rules_node.specs.declared.Answer.{Answer}
-use Rattle.rules_base.specs.declared.Found.{Found}
 use Rattle.node.specs.declared.StorageNode.{StorageNode}
 use Rattle.node.specs.declared.Out.{Out}
 use Rattle.node.specs.Face as Face
@@ -61,8 +60,8 @@ ask_known k = eqb k 1 || eqb k 2
 abbrev pub finding_words : Finding → List ℕ
 finding_words (Finding.Refused n) = 0 ∷ n ∷ 0 ∷ 0 ∷ []
 finding_words (Finding.Empty empty) = 1 ∷ 0 ∷ 1 ∷ one empty ∷ []
-finding_words (Finding.Next (Found.At chunk)) = 1 ∷ 0 ∷ 1 ∷ chunk ∷ []
-finding_words (Finding.Next Found.Nothing) = 1 ∷ 0 ∷ 0 ∷ 0 ∷ []
+finding_words (Finding.Next (Some chunk)) = 1 ∷ 0 ∷ 1 ∷ chunk ∷ []
+finding_words (Finding.Next None) = 1 ∷ 0 ∷ 0 ∷ 0 ∷ []
 
 -- the node that the lent words are read as
 abbrev pub node_of : List ℕ → List ℕ → StorageNode

@@ -8,7 +8,6 @@ ghost use Rattle.library_node.specs.Library.{numbered, event_known, answer_words
 use event::{NodeEvent, Question};
 use event_ask::ask::Finding;
 use node::StorageNode;
-use rules_base::Found;
 use rules_node::Answer;
 
 // The event that four numbers stand for. The part that TakePart takes is lent beside them.
@@ -75,12 +74,12 @@ fn ask_known(kind: u64) -> bool
     (kind == 1) | (kind == 2)
 }
 
-fn found_words(f: Found) -> [u64; 4]
+fn found_words(f: Option<u64>) -> [u64; 4]
     ensures { result ≡ finding_words (Finding.Next f) }
 {
     match f {
-        Found::At(chunk) => [1, 0, 1, chunk],
-        Found::Nothing => [1, 0, 0, 0],
+        Some(chunk) => [1, 0, 1, chunk],
+        None => [1, 0, 0, 0],
     }
 }
 

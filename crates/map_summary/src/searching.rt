@@ -4,7 +4,7 @@ ghost use Rattle.std.specs.Prelude.{◌≡◌, ◌<◌, ◌^◌};
 ghost use Rattle.rules_base.specs.Search.{opens, searched, row_searched};
 
 use crate::summaries::Summaries;
-use rules_base::{Found, Sought};
+use rules_base::Sought;
 
 const SPANS: [u64; 4] = [1, 16, 256, 4096];
 
@@ -32,13 +32,13 @@ fn search(words: &Summaries, map: &[u8], m: u64, start: u64, level: u64, i: u64)
 {
     if !opens(words, map, m, start, level, i) {
         return Sought {
-            found: Found::Nothing,
+            found: None,
             looked: 1,
         };
     }
     if level == 0 {
         return Sought {
-            found: Found::At(i),
+            found: Some(i),
             looked: 1,
         };
     }
@@ -49,16 +49,16 @@ fn search(words: &Summaries, map: &[u8], m: u64, start: u64, level: u64, i: u64)
         looked += below.looked;
         let found = below.found;
         match found {
-            Found::At(c) => return Sought {
-                found: Found::At(c),
+            Some(c) => return Sought {
+                found: Some(c),
                 looked: looked,
             },
-            Found::Nothing => {}
+            None => {}
         }
         k += 1;
     }
     Sought {
-        found: Found::Nothing,
+        found: None,
         looked: looked,
     }
 }

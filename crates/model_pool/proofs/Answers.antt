@@ -1,4 +1,5 @@
 -- Answers in a run: each is a course of the simplified pool.
+use Rattle.std.specs.Prelude.{Option, Some, None}
 use mathlib.Core.Path.{◌≡◌, refl, sym, ap, ◌∙◌, subst}
 use mathlib.Core.Bool.{Bool, true, false, not}
 use mathlib.Core.Logic.{inl, inr}
@@ -14,14 +15,12 @@ use Rattle.rules_pool.specs.declared.Step.{Step}
 use Rattle.rules_pool.specs.declared.Phase.{Phase}
 use Rattle.rules_pool.specs.declared.Run.{Run}
 use Rattle.rules_pool.specs.declared.Job.{Job}
-use Rattle.rules_pool.specs.declared.Brought.{Brought}
 use Rattle.rules_pool.specs.declared.Reply.{Reply}
 use Rattle.rules_pool.specs.declared.Pool.{Pool}
 use Rattle.rules_pool.specs.Session.{candidate}
 use Rattle.rules_pool.specs.declared.Kind.{Kind}
 use Rattle.rules_pool.specs.Sessions.{session_at, ids_of}
 use Rattle.rules_pool.specs.Changes.{entered}
-use Rattle.rules_pool.specs.declared.Next.{Next}
 use Rattle.rules_pool.specs.declared.Move.{Move}
 use Rattle.rules_pool.specs.Run.{hand, rest, go, ahead, to_spread, to_base, to_versions, failed_at, failed_answer, version_brought, good_at, good, takes}
 use Rattle.rules_pool.specs.Recovery.{with_roster, posted}
@@ -43,13 +42,13 @@ use Rattle.model_pool.proofs.Normal.{becomes-normal}
 -- what is known of a reply: a good one is that of a message which was accepted, and to MAP_GET_VER it brings the version under way
 abbrev pub Hears : Reply → m.Hand → Type 0
 Hears Reply.Failed h = Unit {0}
-Hears (Reply.Good b) h = (h.fate ≡ m.Fate.Taken) × (T (m.asks h.job) → b ≡ Brought.Version h.says)
+Hears (Reply.Good b) h = (h.fate ≡ m.Fate.Taken) × (T (m.asks h.job) → b ≡ Some h.says)
 
 not-true : (b : Bool) → not b ≡ true → b ≡ false
 not-true true e = clash e refl
 not-true false e = refl
 
-brought : {x y : ℕ} → Brought.Version x ≡ Brought.Version y → x ≡ y
+brought : {x y : ℕ} → Some x ≡ Some y → x ≡ y
 brought e = cc
 
 -- what an answer comes to
@@ -58,7 +57,7 @@ Answered p x w = Goes (moved_on p x).pool (moved_on p x).awaited w
 
 module _ (p : Pool) (w : m.World) (v : Valid p) (y : p.roster.sync ≡ false) (e : Sees p.roster w.pool) (r : Run) (k : Runs r w.hand) (f : RunOk p.roster r) where
   -- the run ends
-  over : GoesOn Next.Over p w
+  over : GoesOn None p w
   over = ends r p p.roster w k (run_room p.roster v.ok y f.limit) (falls-none p.roster w e)
 
   -- the next message, the source being chosen
@@ -98,7 +97,7 @@ module _ (p : Pool) (w : m.World) (v : Valid p) (y : p.roster.sync ≡ false) (e
     asking x q = subst (λ (z : Phase). source_ok z p.roster r.source r.left ≡ true) q f.source
 
     -- the run goes on by one step
-    step : (r' : Run) (j : m.Job) (to : ℕ) → s.Next w (s.awaits w j w.hand.src to) → Runs r' (s.awaits w j w.hand.src to).hand → GoesOn (Next.On r') p w
+    step : (r' : Run) (j : m.Job) (to : ℕ) → s.Next w (s.awaits w j w.hand.src to) → Runs r' (s.awaits w j w.hand.src to).hand → GoesOn (Some r') p w
     unfolding posted
     step r' j to n u = record { to = s.awaits w j w.hand.src to; course = s.more (s.here w) n; sees = e; works = u; sends = posts refl refl; nodes = refl; past = refl }
 
@@ -173,7 +172,7 @@ module _ (p : Pool) (w : m.World) (v : Valid p) (y : p.roster.sync ≡ false) (e
       module _ (source most : ℕ) (j : Judged source most) where
         asks-next : GoesOn (to_versions p.roster.members r most source (rest r)) p w
         unfolding posted
-        asks-next = picked (λ (n : Next). GoesOn n p w) (eqb (rest r) 0) (to_base p.roster.members r source (without p.roster.members source)) (go r (Phase.Versions most) source (rest r))
+        asks-next = picked (λ (n : Option Run). GoesOn n p w) (eqb (rest r) 0) (to_base p.roster.members r source (without p.roster.members source)) (go r (Phase.Versions most) source (rest r))
             (λ z. enter-base p w (s.judged w source most) source v.ok e refl refl
             (λ i to n a. s.more (s.here w) (s.Next.Good-got source most i to (job_is (Phase.Versions best) q) taken j.better
             (λ l h. sym (left_is l) ∙ (ap (λ (i : ℕ). has i l) (eqb-true (rest r) 0 z) ∙ has-none l)) n a))
@@ -193,17 +192,17 @@ module _ (p : Pool) (w : m.World) (v : Valid p) (y : p.roster.sync ≡ false) (e
               past = refl;
             })
 
-      answers : Answered p (version_brought p.roster.members p.roster.version best r (Brought.Version x)) w
+      answers : Answered p (version_brought p.roster.members p.roster.version best r (Some x)) w
       unfolding moved_on
       answers = picked (λ (n : Move). Answered p n w) (ltb p.roster.version x) (failed_answer r) _
           (λ z. failed)
           (λ z. asks-next (pick (ltb best x) (hand r) r.source) (pick (ltb best x) x best) (judged (ltb best x) refl))
 
     -- ---- every phase
-    goods : (x : Phase) → r.phase ≡ x → (b : Brought) → (T (m.asks w.hand.job) → b ≡ Brought.Version w.hand.says) → Answered p (good_at x p.roster.members p.roster.version r b) w
+    goods : (x : Phase) → r.phase ≡ x → (b : Option ℕ) → (T (m.asks w.hand.job) → b ≡ Some w.hand.says) → Answered p (good_at x p.roster.members p.roster.version r b) w
     unfolding moved_on
-    goods (Phase.Versions best) q Brought.Nothing n = failed
-    goods (Phase.Versions best) q (Brought.Version x) n =
+    goods (Phase.Versions best) q None n = failed
+    goods (Phase.Versions best) q (Some x) n =
         answers best x q (brought (n (subst (λ (j : m.Job). T (m.asks j)) (sym (job_is (Phase.Versions best) q)) tt)))
     goods (Phase.Base Step.Ready) q b n = sends m.Kind.Base (Phase.Base Step.Send) (job_is (Phase.Base Step.Ready) q) (record { job = refl; src = k.src; to = to_is (Phase.Base Step.Ready) q; asks = tt })
     goods (Phase.Base Step.Send) q b n = dones m.Kind.Base (Phase.Base Step.Done) (job_is (Phase.Base Step.Send) q) (record { job = refl; src = k.src; to = to_is (Phase.Base Step.Send) q; asks = tt })
@@ -228,7 +227,7 @@ module _ (p : Pool) (w : m.World) (v : Valid p) (y : p.roster.sync ≡ false) (e
         let i = first-in r.left f.small (not-true (eqb r.left 0) (subst (λ (z : Phase). hand_ok z r.left ≡ true) q f.some)) in
         becomes (Phase.Spread Step.Done) q (lowest r.left) (rest r) tt (sym (to_is (Phase.Spread Step.Done) q)) (f.able (lowest r.left) i) rest-small rest-able (has-without-same r.left (lowest r.left))
 
-    pub well : (b : Brought) → (T (m.asks w.hand.job) → b ≡ Brought.Version w.hand.says) → Answered p (good p.roster.members p.roster.version r b) w
+    pub well : (b : Option ℕ) → (T (m.asks w.hand.job) → b ≡ Some w.hand.says) → Answered p (good p.roster.members p.roster.version r b) w
     unfolding good
     well b n = goods r.phase refl b n
 

@@ -1,4 +1,5 @@
 -- The awaited message comes to its node.
+use Rattle.std.specs.Prelude.{Option, Some}
 use mathlib.Core.Path.{◌≡◌, refl, sym, ap, ◌∙◌, subst}
 use mathlib.Core.Bool.{Bool, true, false, not, ◌&&◌}
 use mathlib.Core.List.{List}
@@ -19,7 +20,6 @@ use Rattle.rules_pool.specs.declared.Stage.{Stage}
 use Rattle.rules_pool.specs.declared.Removal.{Removal}
 use Rattle.rules_pool.specs.declared.Job.{Job}
 use Rattle.rules_pool.specs.declared.Message.{Message}
-use Rattle.rules_pool.specs.declared.Brought.{Brought}
 use Rattle.rules_pool.specs.declared.Reply.{Reply}
 use Rattle.rules_pool.specs.Session.{is_delete, is_deleting}
 use Rattle.rules_pool.specs.Jobs.{is_idle, peer_at}
@@ -76,12 +76,12 @@ pub record Lands (a : m.World) (sure : Type 0) (d : Delivered) : Type 0 where
   pub past : to.past ≡ a.past
   pub hand : Refated a.hand to.hand
   pub held : Held d.nodes to.nodes
-  pub good : sure → (b : Brought) → d.reply ≡ Reply.Good b → (to.hand.fate ≡ m.Fate.Taken) × (T (m.asks to.hand.job) → b ≡ Brought.Version to.hand.says)
+  pub good : sure → (b : Option ℕ) → d.reply ≡ Reply.Good b → (to.hand.fate ≡ m.Fate.Taken) × (T (m.asks to.hand.job) → b ≡ Some to.hand.says)
 
-never : {A : Type 0} (b : Brought) → Reply.Failed ≡ Reply.Good b → A
+never : {A : Type 0} (b : Option ℕ) → Reply.Failed ≡ Reply.Good b → A
 never b e = absurd (let z : ◌≡◌ {A = ℕ} 0 1 = cc in let y : ⊥ = omega arith in y)
 
-was-good : (x : Answer) (b : Brought) → reply_of x ≡ Reply.Good b → is_accepted x ≡ true
+was-good : (x : Answer) (b : Option ℕ) → reply_of x ≡ Reply.Good b → is_accepted x ≡ true
 was-good (Answer.Refused n) b e = never b e
 was-good Answer.Done b e = refl
 was-good (Answer.Version v) b e = refl
@@ -110,7 +110,7 @@ module _ (w : World) (a : m.World) (r : Reflects w a) (under : a.hand.fate ≡ m
   comes j e f = by_cases (is_accepted (does (w.nodes j) e).answer) f (refuses j e)
 
   -- a message that is not MAP_GET_VER
-  mute : (x : m.Job) → m.asks x ≡ false → (h : m.Hand) → h.job ≡ x → (b : Brought) → T (m.asks h.job) → b ≡ Brought.Version h.says
+  mute : (x : m.Job) → m.asks x ≡ false → (h : m.Hand) → h.job ≡ x → (b : Option ℕ) → T (m.asks h.job) → b ≡ Some h.says
   mute x z h e b t = absurd (subst T z (subst (λ (y : m.Job). T (m.asks y)) e t))
 
   -- MAP_GET_VER
@@ -123,10 +123,10 @@ module _ (w : World) (a : m.World) (r : Reflects w a) (under : a.hand.fate ≡ m
     past = refl;
     hand = refated a.hand m.Fate.Taken (a.nodes.ver a.hand.to);
     held = held_same w.nodes a.nodes a.hand.to (does (w.nodes a.hand.to) storage.Event.map_get_ver).station r.held (asked c a.hand.to (w.nodes a.hand.to) (r.sane a.hand.to) _ _ _ _ (r.held.at a.hand.to));
-    good = λ u b q. (refl, λ t. brings b (ap reply_of (sym (took storage.Event.map_get_ver (w.nodes a.hand.to) z).answer) ∙ q) ∙ ap Brought.Version (r.held.at a.hand.to).ver);
+    good = λ u b q. (refl, λ t. brings b (ap reply_of (sym (took storage.Event.map_get_ver (w.nodes a.hand.to) z).answer) ∙ q) ∙ ap Some (r.held.at a.hand.to).ver);
   })
     where
-      brings : (b : Brought) → Reply.Good (Brought.Version (w.nodes a.hand.to).node.version) ≡ Reply.Good b → b ≡ Brought.Version (w.nodes a.hand.to).node.version
+      brings : (b : Option ℕ) → Reply.Good (Some (w.nodes a.hand.to).node.version) ≡ Reply.Good b → b ≡ Some (w.nodes a.hand.to).node.version
       brings b e = cc
 
   -- MAP_READY

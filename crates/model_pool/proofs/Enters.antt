@@ -1,4 +1,5 @@
 -- A run goes on to the first message of a turn or of a phase.
+use Rattle.std.specs.Prelude.{Option, Some, None}
 use mathlib.Core.Path.{◌≡◌, refl, sym}
 use mathlib.Core.Bool.{true, false}
 use Prim.Native.Nat.{ℕ, ◌<◌}
@@ -12,7 +13,6 @@ use Rattle.rules_pool.specs.declared.Phase.{Phase}
 use Rattle.rules_pool.specs.declared.Run.{Run}
 use Rattle.rules_pool.specs.declared.Job.{Job}
 use Rattle.rules_pool.specs.declared.Pool.{Pool}
-use Rattle.rules_pool.specs.declared.Next.{Next}
 use Rattle.rules_pool.specs.Run.{go, counted, to_spread, to_gather, to_last, to_base}
 use Rattle.rules_pool.specs.Recovery.{posted, gone_on}
 use Rattle.laws_client.proofs.Rosters.{Ok}
@@ -24,7 +24,7 @@ use Rattle.model_pool.specs.Mirror.{Sees, phase_of, other_in, AsksIn, posts, Goe
 use Rattle.model_pool.proofs.Sessions.{is-again}
 
 -- what a run that goes on, or is over, comes to
-abbrev pub GoesOn : Next → Pool → m.World → Type 0
+abbrev pub GoesOn : Option Run → Pool → m.World → Type 0
 GoesOn n p w = Goes (gone_on n p).pool (gone_on n p).awaited w
 
 -- the run that goes on
@@ -38,7 +38,7 @@ first-in l h e = lowest-in l (some-lowest l h (eqb-false l 0 e))
 -- w goes to u, from which the message may be sent
 module _ (p : Pool) (w u : m.World) (src : ℕ) (v : Ok p.roster) (e : Sees p.roster u.pool) (n : u.nodes ≡ w.nodes) (q : u.past ≡ w.past)
     (launch : (j : m.Job) (to : ℕ) → T (s.enters j) → u.pool.ses to ≡ m.Session.Again → s.Course w (s.awaits u j src to)) where
-  enter : (r : Run) → src ≡ r.source → T (s.enters (phase_of r.phase)) → u.pool.ses (other_in r.phase r) ≡ m.Session.Again → AsksIn r.phase r (s.awaits u (phase_of r.phase) src (other_in r.phase r)).hand → GoesOn (Next.On r) p w
+  enter : (r : Run) → src ≡ r.source → T (s.enters (phase_of r.phase)) → u.pool.ses (other_in r.phase r) ≡ m.Session.Again → AsksIn r.phase r (s.awaits u (phase_of r.phase) src (other_in r.phase r)).hand → GoesOn (Some r) p w
   unfolding posted
   enter r f t a k = record {
     to = s.awaits u (phase_of r.phase) src (other_in r.phase r);
@@ -59,22 +59,22 @@ module _ (p : Pool) (w u : m.World) (src : ℕ) (v : Ok p.roster) (e : Sees p.ro
     inside x j h = c j (still p.roster.members x j h).0
 
     pub enter-gather : (left : ℕ) → AllCandidates p.roster left → left < 65536 → GoesOn (to_gather p.roster.members r src left) p w
-    enter-gather left k h = picked (λ (x : Next). GoesOn x p w) (eqb left 0) (go r (Phase.Enable true) src (without p.roster.members src)) (go r (Phase.Gather Step.Ready) src left)
+    enter-gather left k h = picked (λ (x : Option Run). GoesOn x p w) (eqb left 0) (go r (Phase.Enable true) src (without p.roster.members src)) (go r (Phase.Gather Step.Ready) src left)
         (λ z. enter (on r (Phase.Enable true) src (without p.roster.members src)) refl tt (is-again p.roster u.pool e src (c src own)) tt)
         (λ z. enter (on r (Phase.Gather Step.Ready) src left) refl tt (able left k h z) tt)
 
     pub enter-last : (left : ℕ) → AllCandidates p.roster left → left < 65536 → GoesOn (to_last p.roster.members r src left) p w
-    enter-last left k h = picked (λ (x : Next). GoesOn x p w) (eqb left 0) (to_gather p.roster.members r src (without p.roster.members src)) (go r Phase.LastIo src left)
+    enter-last left k h = picked (λ (x : Option Run). GoesOn x p w) (eqb left 0) (to_gather p.roster.members r src (without p.roster.members src)) (go r Phase.LastIo src left)
         (λ z. enter-gather (without p.roster.members src) (inside src) (without-lt p.roster.members src v.small))
         (λ z. enter (on r Phase.LastIo src left) refl tt (able left k h z) tt)
 
     pub enter-base : (left : ℕ) → AllCandidates p.roster left → left < 65536 → GoesOn (to_base p.roster.members r src left) p w
-    enter-base left k h = picked (λ (x : Next). GoesOn x p w) (eqb left 0) (to_last p.roster.members r src p.roster.members) (go r (Phase.Base Step.Ready) src left)
+    enter-base left k h = picked (λ (x : Option Run). GoesOn x p w) (eqb left 0) (to_last p.roster.members r src p.roster.members) (go r (Phase.Base Step.Ready) src left)
         (λ z. enter-last p.roster.members c v.small)
         (λ z. enter (on r (Phase.Base Step.Ready) src left) refl tt (able left k h z) tt)
 
   -- the next receiver of an enabling spread, or the end
-  pub enter-spread : (r : Run) (left : ℕ) → src ≡ r.source → AllCandidates p.roster left → left < 65536 → GoesOn Next.Over p w → GoesOn (to_spread r left) p w
-  enter-spread r left f k h o = picked (λ (x : Next). GoesOn x p w) (eqb left 0) Next.Over (go r (Phase.Spread Step.Ready) r.source left)
+  pub enter-spread : (r : Run) (left : ℕ) → src ≡ r.source → AllCandidates p.roster left → left < 65536 → GoesOn None p w → GoesOn (to_spread r left) p w
+  enter-spread r left f k h o = picked (λ (x : Option Run). GoesOn x p w) (eqb left 0) None (go r (Phase.Spread Step.Ready) r.source left)
       (λ z. o)
       (λ z. enter (on r (Phase.Spread Step.Ready) r.source left) f tt (able left k h z) tt)

@@ -1,4 +1,5 @@
 -- What each event leaves of a node as it is seen.
+use Rattle.std.specs.Prelude.{Option, Some, None}
 use mathlib.Core.Path.{◌≡◌, refl, sym, ap, ◌∙◌, subst}
 use mathlib.Core.Bool.{Bool, true, false, not, ◌&&◌, ◌||◌}
 use mathlib.Core.List.{List}
@@ -19,7 +20,6 @@ use Rattle.rules_base.specs.Fill.{row_filled}
 use Rattle.rules_base.proofs.Fills.{filled-own}
 use Rattle.rules_base.specs.declared.Op.{Op}
 use Rattle.rules_node.specs.declared.OnMap.{OnMap}
-use Rattle.rules_node.specs.declared.Transfer.{Transfer}
 use Rattle.rules_node.specs.States.{is_whole}
 use Rattle.rules_node.specs.Change.{went_to, equipped, taken_over, member_entered, member_dropped, stored_version, kept_chunk, forgotten, transferred, ended_transfer, instructed}
 use Rattle.laws_node.proofs.Passed.{or-false}
@@ -166,9 +166,9 @@ module _ (chunks j : ℕ) (s : Station) (k : Sane chunks j s) (v : ℕ) (f g : m
   })
   readied-at false z = subst (λ (x : Station). Holds x v f (λ n c. false && f n c) m.Transfer.Begun) (sym (took (Event.map_ready false) s z).is) (record { ver = h.ver; map = h.map; stg = λ n c e. clash e refl; tr = refl })
 
-  whole-got : (x : Transfer) → is_whole x ≡ true → transfer_of x ≡ m.Transfer.Got
-  whole-got Transfer.Nothing e = clash e refl
-  whole-got (Transfer.InHand bytes) e = rw e refl
+  whole-got : (x : Option ℕ) → is_whole x ≡ true → transfer_of x ≡ m.Transfer.Got
+  whole-got None e = clash e refl
+  whole-got (Some bytes) e = rw e refl
 
   -- it was whole
   pub was-whole : (enabling : Bool) (version set : ℕ) → is_accepted (does s (Event.map_done enabling version set)).answer ≡ true → t ≡ m.Transfer.Got

@@ -1,4 +1,5 @@
 -- An enabling message was answered well: its session becomes NORMAL, and the next receiver comes, or the run is over.
+use Rattle.std.specs.Prelude.{Option, None}
 use mathlib.Core.Path.{◌≡◌, refl, sym, ap, ◌∙◌, subst}
 use mathlib.Core.Bool.{true, false}
 use mathlib.Core.Logic.{◌≢◌}
@@ -16,7 +17,6 @@ use Rattle.rules_pool.specs.declared.Pool.{Pool}
 use Rattle.rules_pool.specs.Session.{candidate}
 use Rattle.rules_pool.specs.Sessions.{session_at}
 use Rattle.rules_pool.specs.Changes.{entered}
-use Rattle.rules_pool.specs.declared.Next.{Next}
 use Rattle.rules_pool.specs.Run.{go, to_spread}
 use Rattle.rules_pool.specs.Recovery.{with_roster, posted}
 use Rattle.laws_client.proofs.Rosters.{Ok}
@@ -60,7 +60,7 @@ module _ (p : Pool) (w : m.World) (v : Ok p.roster) (y : p.roster.sync ≡ false
     pub becomes-normal : (r : Run) (left : ℕ) → r.source ≡ w.hand.src → left < 65536 → AllCandidates p.roster left → has left id ≡ false → GoesOn (to_spread r left) (with_roster p (entered p.roster id)) w
     unfolding posted
     becomes-normal r left src small k out =
-        picked (λ (x : Next). GoesOn x (with_roster p (entered p.roster id)) w) (eqb left 0) Next.Over (go r (Phase.Spread Step.Ready) r.source left)
+        picked (λ (x : Option Run). GoesOn x (with_roster p (entered p.roster id)) w) (eqb left 0) None (go r (Phase.Spread Step.Ready) r.source left)
         (λ z. record {
           to = s.ended (s.raised w);
           course = s.more (s.here w) (s.Next.Good-over f t);

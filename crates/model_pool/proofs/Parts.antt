@@ -1,4 +1,5 @@
 -- MAP_SEND in parts, whatever comes of them: nothing of it was taken, or the first bytes of the source's map, perhaps all.
+use Rattle.std.specs.Prelude.{Option, Some, None}
 use mathlib.Core.Path.{◌≡◌, refl, sym, ap, ◌∙◌, subst}
 use mathlib.Core.Bool.{Bool, true, false}
 use mathlib.Core.List.{List, [], ◌∷◌}
@@ -21,10 +22,8 @@ use Rattle.rules_base.proofs.Chunks.{placed}
 use Rattle.rules_base.proofs.Sound.{sound-fact}
 use Rattle.rules_base.specs.Parts.{part_of, or_part}
 use Rattle.rules_base.proofs.Joined.{part-in, part-before, part-past, length_part, length-part_of, parts_none, parts_more, parts_whole}
-use Rattle.rules_pool.specs.declared.Brought.{Brought}
 use Rattle.rules_pool.specs.declared.Reply.{Reply}
 use Rattle.rules_node.specs.declared.Answer.{Answer}
-use Rattle.rules_node.specs.declared.Transfer.{Transfer}
 use Rattle.rules_node.specs.declared.Node.{Node}
 use Rattle.rules_node.specs.States.{in_hand, taken}
 use Rattle.rules_node.specs.Change.{transferred}
@@ -69,7 +68,7 @@ module _ (chunks from to : ℕ) (f : ℕ → Station) (sane : (k : ℕ) → Sane
   -- the receiver has taken the bytes below o
   record Partly (o : ℕ) (g : ℕ → Station) : Type 0 where
     others : (k : ℕ) → k ≢ to → g k ≡ f k
-    node : (g to).node ≡ transferred (f to).node (Transfer.InHand o)
+    node : (g to).node ≡ transferred (f to).node (Some o)
     map : (g to).map ≡ (f to).map
     staging : (g to).staging ≡ or_from 0 o (f to).staging zs
     kept : (n c : ℕ) → dirty (f to).staging n c ≡ 1 → dirty (g to).staging n c ≡ 1
@@ -86,23 +85,23 @@ module _ (chunks from to : ℕ) (f : ℕ → Station) (sane : (k : ℕ) → Sane
   record Came (o : ℕ) (ls : List ℕ) (d : Delivered) : Type 0 where
     bytes : ℕ
     partly : Partly bytes d.nodes
-    all : (b : Brought) → d.reply ≡ Reply.Good b → bytes ≡ o + total ls
+    all : (b : Option ℕ) → d.reply ≡ Reply.Good b → bytes ≡ o + total ls
 
-  never : {A : Type 0} (b : Brought) → Reply.Failed ≡ Reply.Good b → A
+  never : {A : Type 0} (b : Option ℕ) → Reply.Failed ≡ Reply.Good b → A
   never b e = absurd (let z : ◌≡◌ {A = ℕ} 0 1 = cc in let y : ⊥ = omega arith in y)
 
-  was-good : (a : Answer) (b : Brought) → reply_of a ≡ Reply.Good b → is_accepted a ≡ true
+  was-good : (a : Answer) (b : Option ℕ) → reply_of a ≡ Reply.Good b → is_accepted a ≡ true
   was-good (Answer.Refused n) b e = never b e
   was-good Answer.Done b e = refl
   was-good (Answer.Version v) b e = refl
 
   was-bad : (a : Answer) → reply_of a ≡ Reply.Failed → is_accepted a ≡ false
   was-bad (Answer.Refused n) e = refl
-  was-bad Answer.Done e = never Brought.Nothing (sym e)
-  was-bad (Answer.Version v) e = never (Brought.Version v) (sym e)
+  was-bad Answer.Done e = never None (sym e)
+  was-bad (Answer.Version v) e = never (Some v) (sym e)
 
   -- both were good, or the first or the second was not
-  choose : (P : Delivered → Type 0) (p q : Reply) (next this stop : Delivered) → (p ≡ Reply.Failed → P stop) → (q ≡ Reply.Failed → P this) → ((b c : Brought) → p ≡ Reply.Good b → q ≡ Reply.Good c → P next) → P (if_good p (if_good q next this) stop)
+  choose : (P : Delivered → Type 0) (p q : Reply) (next this stop : Delivered) → (p ≡ Reply.Failed → P stop) → (q ≡ Reply.Failed → P this) → ((b c : Option ℕ) → p ≡ Reply.Good b → q ≡ Reply.Good c → P next) → P (if_good p (if_good q next this) stop)
   choose P Reply.Failed q next this stop x y z = x refl
   choose P (Reply.Good b) Reply.Failed next this stop x y z = y refl
   choose P (Reply.Good b) (Reply.Good c) next this stop x y z = z b c refl refl
@@ -120,7 +119,7 @@ module _ (chunks from to : ℕ) (f : ℕ → Station) (sane : (k : ℕ) → Sane
       let s = upd_same g to (takes_from o l from to g).station ∙ t.is in
       record {
         others = λ k q. upd_other g to k (takes_from o l from to g).station q ∙ p.others k q;
-        node = ap (λ (u : Station). u.node) s ∙ (ap (λ (u : Node). transferred u (Transfer.InHand (o + length (part_of o l (g from).map)))) p.node ∙ ap (λ (u : ℕ). transferred (f to).node (Transfer.InHand (o + u))) n');
+        node = ap (λ (u : Station). u.node) s ∙ (ap (λ (u : Node). transferred u (Some (o + length (part_of o l (g from).map)))) p.node ∙ ap (λ (u : ℕ). transferred (f to).node (Some (o + u))) n');
         map = ap (λ (u : Station). u.map) s ∙ p.map;
         staging = ap (λ (u : Station). u.staging) s ∙ (ap (λ (u : List ℕ). or_part o (part_of o l u) (g to).staging) z ∙ (ap (or_part o (part_of o l zs)) p.staging ∙ parts_more o l (f to).staging zs (omega (arith, len-zs, w))));
         kept = λ i c h. subst (λ (u : Station). dirty u.staging i c ≡ 1) (sym s) (stays-part o (part_of o l (g from).map) (g to).staging i c p.size (p.kept i c h));
@@ -163,11 +162,11 @@ module _ (chunks from to : ℕ) (f : ℕ → Station) (sane : (k : ℕ) → Sane
       (λ b c x y. then o l ls _ (parts ls (o + l) (upd g to (takes_from o l from to g).station) (one o l g p (was-good (does (g from) (Event.give_part o l)).answer b x) (was-good (takes_from o l from to g).answer c y))))
 
   -- ---- where a transfer begins, and where none can
-  begins : (f to).node.transfer ≡ Transfer.InHand 0 → Partly 0 f
+  begins : (f to).node.transfer ≡ Some 0 → Partly 0 f
   unfolding transferred
   begins e = record {
     others = λ k q. refl;
-    node = ap (λ (t : Transfer). transferred (f to).node t) e;
+    node = ap (λ (t : Option ℕ). transferred (f to).node t) e;
     map = refl;
     staging = sym (parts_none (f to).staging zs);
     kept = λ i c h. h;
@@ -178,9 +177,9 @@ module _ (chunks from to : ℕ) (f : ℕ → Station) (sane : (k : ℕ) → Sane
   -- nothing of it was taken
   record Untouched (ls : List ℕ) (d : Delivered) : Type 0 where
     same : (k : ℕ) → d.nodes k ≡ f k
-    none : (b : Brought) → d.reply ≡ Reply.Good b → total ls ≡ 0
+    none : (b : Option ℕ) → d.reply ≡ Reply.Good b → total ls ≡ 0
 
-  untouched : ((f to).node.transfer ≡ Transfer.InHand 0 → ⊥) → (ls : List ℕ) → Untouched ls (send ls 0 from to f)
+  untouched : ((f to).node.transfer ≡ Some 0 → ⊥) → (ls : List ℕ) → Untouched ls (send ls 0 from to f)
   unfolding send take_part_refusal
   untouched never-there [] = record { same = λ k. refl; none = λ b e. refl }
   untouched never-there (l ∷ ls) =
@@ -194,21 +193,21 @@ module _ (chunks from to : ℕ) (f : ℕ → Station) (sane : (k : ℕ) → Sane
       let t = take_part-passed (f to).node (lent (f to)) 0 (length (part_of 0 l (f from).map)) (clean_from (f to).node.chunks 0 (part_of 0 l (f from).map)) (took (Event.take_part 0 (part_of 0 l (f from).map)) (f to) (was-good (takes_from 0 l from to f).answer c y)).none in
       absurd (never-there (at_zero (f to).node.transfer t.0.from t.1.here)))
     where
-      at_zero : (t : Transfer) → in_hand t ≡ true → 0 ≡ taken t → t ≡ Transfer.InHand 0
-      at_zero Transfer.Nothing e q = clash e refl
-      at_zero (Transfer.InHand bytes) e q = ap Transfer.InHand (sym q)
+      at_zero : (t : Option ℕ) → in_hand t ≡ true → 0 ≡ taken t → t ≡ Some 0
+      at_zero None e q = clash e refl
+      at_zero (Some bytes) e q = ap Some (sym q)
 
   -- ---- as it is seen
   module _ (v v' : ℕ) (a g a' g' : m.Map) (t t' : m.Transfer) (h : Holds (f to) v a g t) (h' : Holds (f from) v' a' g' t') where
     -- the receiver is what it was, if not for what was added to staging; or it has taken all of the source's map
     pub data Sent (ls : List ℕ) (d : Delivered) : Type 0 where
-      part : Holds (d.nodes to) v a g t → ((b : Brought) → d.reply ≡ Reply.Good b → total ls ≡ 8192 → ⊥) → Sent ls d
+      part : Holds (d.nodes to) v a g t → ((b : Option ℕ) → d.reply ≡ Reply.Good b → total ls ≡ 8192 → ⊥) → Sent ls d
       whole : m.opened t ≡ true → Holds (d.nodes to) v a (m.merge g a') m.Transfer.Got → Sent ls d
 
-    begun : (f to).node.transfer ≡ Transfer.InHand 0 → m.Transfer.Begun ≡ t
+    begun : (f to).node.transfer ≡ Some 0 → m.Transfer.Begun ≡ t
     begun e = ap transfer_of (sym e) ∙ h.tr
 
-    some : (f to).node.transfer ≡ Transfer.InHand 0 → (ls : List ℕ) (d : Delivered) → Came 0 ls d → Sent ls d
+    some : (f to).node.transfer ≡ Some 0 → (ls : List ℕ) (d : Delivered) → Came 0 ls d → Sent ls d
     unfolding transferred
     some e ls d c = by_cases (leb map_bytes c.bytes) full less
       where
@@ -238,10 +237,10 @@ module _ (chunks from to : ℕ) (f : ℕ → Station) (sane : (k : ℕ) → Sane
     pub sent : (ls : List ℕ) → ((k : ℕ) → k ≢ to → (send ls 0 from to f).nodes k ≡ f k) × Sent ls (send ls 0 from to f)
     sent ls = go (f to).node.transfer refl
       where
-        nothing : ((f to).node.transfer ≡ Transfer.InHand 0 → ⊥) → ((k : ℕ) → k ≢ to → (send ls 0 from to f).nodes k ≡ f k) × Sent ls (send ls 0 from to f)
+        nothing : ((f to).node.transfer ≡ Some 0 → ⊥) → ((k : ℕ) → k ≢ to → (send ls 0 from to f).nodes k ≡ f k) × Sent ls (send ls 0 from to f)
         nothing n = let u = untouched n ls in ((λ k q. u.same k), part (subst (λ (x : Station). Holds x v a g t) (sym (u.same to)) h) (λ b r w. let z = u.none b r in omega arith))
 
-        go : (x : Transfer) → (f to).node.transfer ≡ x → ((k : ℕ) → k ≢ to → (send ls 0 from to f).nodes k ≡ f k) × Sent ls (send ls 0 from to f)
-        go Transfer.Nothing e = nothing (λ q. let z : Transfer.Nothing ≡ Transfer.InHand 0 = sym e ∙ q in absurd (let y : ◌≡◌ {A = ℕ} 0 1 = cc in let w : ⊥ = omega arith in w))
-        go (Transfer.InHand zero) e = let c = parts ls 0 f (begins e) in (c.partly.others, some e ls (send ls 0 from to f) c)
-        go (Transfer.InHand (suc b)) e = nothing (λ q. let z : Transfer.InHand (suc b) ≡ Transfer.InHand 0 = sym e ∙ q in absurd (let y : suc b ≡ 0 = cc in let w : ⊥ = omega arith in w))
+        go : (x : Option ℕ) → (f to).node.transfer ≡ x → ((k : ℕ) → k ≢ to → (send ls 0 from to f).nodes k ≡ f k) × Sent ls (send ls 0 from to f)
+        go None e = nothing (λ q. let z : None ≡ Some 0 = sym e ∙ q in absurd (let y : ◌≡◌ {A = ℕ} 0 1 = cc in let w : ⊥ = omega arith in w))
+        go (Some zero) e = let c = parts ls 0 f (begins e) in (c.partly.others, some e ls (send ls 0 from to f) c)
+        go (Some (suc b)) e = nothing (λ q. let z : Some (suc b) ≡ Some 0 = sym e ∙ q in absurd (let y : suc b ≡ 0 = cc in let w : ⊥ = omega arith in w))

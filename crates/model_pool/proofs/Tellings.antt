@@ -1,4 +1,5 @@
 -- What the client's events tell, of those that tell nodes at most MAP_DISABLE or ENABLE 0.
+use Rattle.std.specs.Prelude.{Option, Some, None}
 use Prim.Native.Nat.{ℕ}
 use mathlib.Core.Bool.{Bool}
 use lib.Dec.{eqb}
@@ -11,7 +12,6 @@ use Rattle.rules_pool.specs.declared.Pool.{Pool}
 use Rattle.rules_pool.specs.declared.Turn.{Turn}
 use Rattle.rules_pool.specs.Session.{is_created}
 use Rattle.rules_pool.specs.Sessions.{session_at}
-use Rattle.rules_pool.specs.declared.Who.{Who}
 use Rattle.rules_pool.specs.Run.{receiver, takes}
 use Rattle.rules_pool.specs.Recovery.{disabling, disabling_but}
 use Rattle.rules_pool.specs.Exit.{refused}
@@ -49,13 +49,13 @@ module _ (P : Told → Type 0) (nothing : P Told.Nothing) where
   maintenance-told off p id = if-told p (maintenance_refusal p id) (maintenance_done p id) (off id)
 
   module _ (disable : (i : ℕ) → P (Told.Disable i)) where
-    but-told : (id : ℕ) (x : Who) → P (disabling_but id x)
-    but-told id Who.Nobody = nothing
-    but-told id (Who.One i) = either P (eqb i id) Told.Nothing (Told.Disable i) nothing (disable i)
+    but-told : (id : ℕ) (x : Option ℕ) → P (disabling_but id x)
+    but-told id None = nothing
+    but-told id (Some i) = either P (eqb i id) Told.Nothing (Told.Disable i) nothing (disable i)
 
-    who-told : (x : Who) → P (disabling x)
-    who-told Who.Nobody = nothing
-    who-told (Who.One i) = disable i
+    who-told : (x : Option ℕ) → P (disabling x)
+    who-told None = nothing
+    who-told (Some i) = disable i
 
     pub down-told : (p : Pool) (id : ℕ) → Tells (link_down p id)
     unfolding link_down down_done

@@ -1,4 +1,5 @@
 -- Recovery tried: nothing, or a run begins by one of the three cases.
+use Rattle.std.specs.Prelude.{Option, Some, None}
 use mathlib.Core.Path.{◌≡◌, refl, sym, ap, ◌∙◌, subst}
 use mathlib.Core.Bool.{true, false, not}
 use mathlib.Core.Logic.{◌≢◌}
@@ -14,7 +15,6 @@ use Rattle.rules_pool.specs.declared.Message.{Message}
 use Rattle.rules_pool.specs.declared.Pool.{Pool}
 use Rattle.rules_pool.specs.declared.Kind.{Kind}
 use Rattle.rules_pool.specs.Sessions.{ids_of}
-use Rattle.rules_pool.specs.declared.Next.{Next}
 use Rattle.rules_pool.specs.Run.{awaited_in}
 use Rattle.rules_pool.specs.Cases.{begun}
 use Rattle.rules_pool.specs.Recovery.{tried, posted, beginning, next_number}
@@ -41,7 +41,7 @@ module _ (p : Pool) (w : m.World) (v : Ok p.roster) (e : Sees p.roster w.pool) (
   is-candidate : (j : ℕ) → has (ids_of Kind.Candidates p.roster) j ≡ true → w.pool.ses j ≡ m.Session.Again
   is-candidate j h = is-again p.roster w.pool e j (of-kind p.roster w.pool e Kind.Candidates v.long j h)
 
-  module _ (r : Run) (b : begun p.roster ≡ Next.On r) where
+  module _ (r : Run) (b : begun p.roster ≡ Some r) where
     try-1 : ids_of Kind.Normals p.roster ≢ 0 → Begins r
     try-1 x =
         let q = begun-1 p.roster r b x in
@@ -108,9 +108,9 @@ module _ (p : Pool) (w : m.World) (v : Ok p.roster) (e : Sees p.roster w.pool) (
   unfolding tried posted
   tries idle = go (begun p.roster) refl
     where
-      go : (x : Next) → begun p.roster ≡ x → Goes (beginning (begun p.roster) p).pool (beginning (begun p.roster) p).awaited w
-      go Next.Over b = rw b (record { to = w; course = s.here w; sees = e; works = rw idle z; sends = rests refl idle; nodes = refl; past = refl })
-      go (Next.On r) b = rw b (began r b)
+      go : (x : Option Run) → begun p.roster ≡ x → Goes (beginning (begun p.roster) p).pool (beginning (begun p.roster) p).awaited w
+      go None b = rw b (record { to = w; course = s.here w; sees = e; works = rw idle z; sends = rests refl idle; nodes = refl; past = refl })
+      go (Some r) b = rw b (began r b)
 
 -- courses one after the other
 pub joined : {u v w : m.World} → s.Course u v → s.Course v w → s.Course u w

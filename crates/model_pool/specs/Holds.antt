@@ -1,16 +1,15 @@
 -- A node seen as one of the simplified pool: its stored version and its transfer as they are, and of its two maps that they hold at least what is seen.
-use Rattle.std.specs.Prelude.{◌≡◌, true, ℕ, leb}
+use Rattle.std.specs.Prelude.{◌≡◌, true, ℕ, leb, Option, Some, None}
 use Rattle.laws_words.specs.Words.{pick}
 use Rattle.rules_base.specs.Limits.{map_bytes}
 use Rattle.rules_base.specs.Chunk.{dirty}
-use Rattle.rules_node.specs.declared.Transfer.{Transfer}
 use Rattle.laws_node.proofs.Theorems.{Good}
 use Rattle.rules_world.specs.Station.{Station, face}
 use Rattle.model_pool.specs.Model as m
 
-abbrev pub transfer_of : Transfer → m.Transfer
-transfer_of Transfer.Nothing = m.Transfer.Shut
-transfer_of (Transfer.InHand bytes) = pick (leb map_bytes bytes) m.Transfer.Got m.Transfer.Begun
+abbrev pub transfer_of : Option ℕ → m.Transfer
+transfer_of None = m.Transfer.Shut
+transfer_of (Some bytes) = pick (leb map_bytes bytes) m.Transfer.Got m.Transfer.Begun
 
 pub record Holds (s : Station) (v : ℕ) (f g : m.Map) (t : m.Transfer) : Type 0 where
   pub ver : s.node.version ≡ v

@@ -1,6 +1,5 @@
 -- A world of the rules seen as one of the simplified pool.
-use Rattle.std.specs.Prelude.{◌≡◌, false, ℕ, T}
-use Rattle.rules_pool.specs.declared.Brought.{Brought}
+use Rattle.std.specs.Prelude.{◌≡◌, false, ℕ, T, Option, Some}
 use Rattle.rules_pool.specs.declared.Reply.{Reply}
 use Rattle.rules_pool.specs.Jobs.{is_idle}
 use Rattle.laws_client.proofs.Pools.{Valid}
@@ -13,7 +12,7 @@ use Rattle.rules_world.specs.Whole.{Fate, World}
 -- what became of the awaited message: it is under way on both sides; or a good reply came, of a message that was accepted, to MAP_GET_VER with the version
 pub record Reads (f : Fate) (h : m.Hand) : Type 0 where
   pub under : f ≡ Fate.under_way → h.fate ≡ m.Fate.Under
-  pub good : (b : Brought) → f ≡ Fate.came (Reply.Good b) → (h.fate ≡ m.Fate.Taken) × (T (m.asks h.job) → b ≡ Brought.Version h.says)
+  pub good : (b : Option ℕ) → f ≡ Fate.came (Reply.Good b) → (h.fate ≡ m.Fate.Taken) × (T (m.asks h.job) → b ≡ Some h.says)
 
 pub record Reflects (w : World) (a : m.World) : Type 0 where
   pub valid : Valid w.pool

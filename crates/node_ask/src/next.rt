@@ -4,7 +4,6 @@ ghost use Rattle.rules_node.specs.Next.{next_refusal, next_dirty};
 
 use map_numbers::refusals::first;
 use node_state::turns;
-use rules_base::Found;
 use rules_node::{Next, Node};
 
 fn next_refusal(n: Node, lent: u64, member: u64, start: u64) -> u64
@@ -16,7 +15,7 @@ fn next_refusal(n: Node, lent: u64, member: u64, start: u64) -> u64
 }
 
 // found: what the search finds.
-pub fn next_dirty(n: Node, lent: u64, member: u64, start: u64, found: Found) -> Next
+pub fn next_dirty(n: Node, lent: u64, member: u64, start: u64, found: Option<u64>) -> Next
     ensures { result ≡ next_dirty n lent member start found }
 {
     let why = next_refusal(n, lent, member, start);

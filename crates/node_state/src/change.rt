@@ -16,7 +16,7 @@ ghost use Rattle.rules_node.specs.Change.{
   instructed,
 };
 
-use rules_node::{Node, State, Transfer};
+use rules_node::{Node, State};
 
 // A fresh node: EMPTY, with nothing.
 pub fn fresh(id: u64, chunks: u64) -> Node
@@ -32,7 +32,7 @@ pub fn fresh(id: u64, chunks: u64) -> Node
         version: 0,
         kept: [0; 16],
         held: 0,
-        transfer: Transfer::Nothing,
+        transfer: None,
     }
 }
 
@@ -134,7 +134,7 @@ pub fn forgotten(mut n: Node) -> Node
 }
 
 // How far the transfer is.
-pub fn transferred(n: Node, t: Transfer) -> Node
+pub fn transferred(n: Node, t: Option<u64>) -> Node
     ensures { result ≡ transferred n t }
 {
     let s = n.state;
@@ -157,7 +157,7 @@ pub fn transferred(n: Node, t: Transfer) -> Node
 pub fn ended_transfer(n: Node) -> Node
     ensures { result ≡ ended_transfer n }
 {
-    transferred(n, Transfer::Nothing)
+    transferred(n, None)
 }
 
 // Version and member set of enable 1, MAP_DONE and register add.

@@ -2,7 +2,7 @@
 ghost use Rattle.std.specs.Prelude.{◌≡◌};
 ghost use Rattle.rules_node.specs.States.{is_empty, is_registered, is_normal, is_no_io, is_joined, is_serving, in_hand, taken, is_whole};
 
-use rules_node::{Node, State, Transfer};
+use rules_node::{Node, State};
 
 pub fn is_empty(s: State) -> bool
     ensures { result ≡ is_empty s }
@@ -73,27 +73,27 @@ pub fn is_serving(n: Node) -> bool
     is_joined(s) & n.store
 }
 
-pub fn in_hand(t: Transfer) -> bool
+pub fn in_hand(t: Option<u64>) -> bool
     ensures { result ≡ in_hand t }
 {
     match t {
-        Transfer::Nothing => false,
-        Transfer::InHand(bytes) => true,
+        None => false,
+        Some(bytes) => true,
     }
 }
 
 // The bytes of the map that were taken so far.
-pub fn taken(t: Transfer) -> u64
+pub fn taken(t: Option<u64>) -> u64
     ensures { result ≡ taken t }
 {
     match t {
-        Transfer::Nothing => 0,
-        Transfer::InHand(bytes) => bytes,
+        None => 0,
+        Some(bytes) => bytes,
     }
 }
 
 // The whole map was taken.
-pub fn is_whole(t: Transfer) -> bool
+pub fn is_whole(t: Option<u64>) -> bool
     ensures { result ≡ is_whole t }
 {
     (map_numbers::refusals::MAP_BYTES as u64) <= taken(t)

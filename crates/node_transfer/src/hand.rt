@@ -4,7 +4,7 @@ ghost use Rattle.rules_node.specs.Hand.{hand_refusal, is_next, take_part_refusal
 
 use map_numbers::refusals::first;
 use node_state::{change, states, turns};
-use rules_node::{Answer, Node, OnMap, OnStaging, State, Transfer, Turn};
+use rules_node::{Answer, Node, OnMap, OnStaging, State, Turn};
 
 // What refuses MAP_DISABLE.
 fn hand_refusal(n: Node, lent: u64) -> u64
@@ -54,7 +54,7 @@ fn part_taken(n: Node, offset: u64, length: u64) -> Node
     requires { offset + length ≤ 8192 }
     ensures { result ≡ part_taken n offset length }
 {
-    change::transferred(n, Transfer::InHand(offset + length))
+    change::transferred(n, Some(offset + length))
 }
 
 fn map_done_refusal(n: Node, lent: u64, version: u64, set: u64) -> u64

@@ -4,7 +4,7 @@ ghost use Rattle.rules_node.specs.Serve.{serve_refusal, readied, fills, map_read
 
 use map_numbers::refusals::first;
 use node_state::{change, states, turns};
-use rules_node::{Answer, Node, OnMap, OnStaging, State, Transfer, Turn};
+use rules_node::{Answer, Node, OnMap, OnStaging, State, Turn};
 
 // What refuses MAP_READY and MAP_GET_VER.
 fn serve_refusal(n: Node, lent: u64) -> u64
@@ -30,7 +30,7 @@ fn readied(n: Node) -> Node
     ensures { result ≡ readied n }
 {
     let here = change::went_to(n, State::NoIo);
-    change::transferred(here, Transfer::InHand(0))
+    change::transferred(here, Some(0))
 }
 
 fn fills(keep: bool) -> OnStaging

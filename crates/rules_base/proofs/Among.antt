@@ -1,4 +1,5 @@
 -- Laws of the search: the loop over the sixteen places below, and what is found by cases. Assumes nothing.
+use Rattle.std.specs.Prelude.{Option, Some, None}
 use mathlib.Core.Path.{◌≡◌, refl, sym, ap, ◌∙◌}
 use mathlib.Core.Bool.{Bool, true, false, ◌&&◌}
 use mathlib.Core.List.{List}
@@ -10,25 +11,24 @@ use lib.Dec.{ltb}
 use Rattle.laws_words.specs.Words.{pick}
 use Rattle.laws_words.specs.Tests.{picked, and_left}
 use Rattle.rules_base.specs.Summary.{size, lit}
-use Rattle.rules_base.specs.declared.Found.{Found}
 use Rattle.rules_base.specs.declared.Sought.{Sought}
 use Rattle.rules_base.specs.Search.{sought, plus, or_else, among, opens, searched}
 use Rattle.rules_base.proofs.Places.{size_low, size-most}
 use Rattle.rules_base.proofs.Spans.{lit-low}
 
 -- ---- the loop: v looks so far, and then those at the places from a + k on; s is what is found at the first of these
-pub among-hit : (f : ℕ → Sought) (a n k c v : ℕ) (s : Sought) → k < n → s ≡ f (a + k) → s.found ≡ Found.At c → plus v (among f (a + k) (n - k)) ≡ sought (Found.At c) (v + s.looked)
+pub among-hit : (f : ℕ → Sought) (a n k c v : ℕ) (s : Sought) → k < n → s ≡ f (a + k) → s.found ≡ Some c → plus v (among f (a + k) (n - k)) ≡ sought (Some c) (v + s.looked)
 unfolding among
 among-hit f a n k c v s h e g = let q : n - k ≡ suc (n - (k + 1)) = omega arith in rw (q, ← e, g)
 
-pub among-miss : (f : ℕ → Sought) (a n k v : ℕ) (s : Sought) → k < n → s ≡ f (a + k) → s.found ≡ Found.Nothing → plus v (among f (a + k) (n - k)) ≡ plus (v + s.looked) (among f (a + (k + 1)) (n - (k + 1)))
+pub among-miss : (f : ℕ → Sought) (a n k v : ℕ) (s : Sought) → k < n → s ≡ f (a + k) → s.found ≡ None → plus v (among f (a + k) (n - k)) ≡ plus (v + s.looked) (among f (a + (k + 1)) (n - (k + 1)))
 unfolding among
 among-miss f a n k v s h e g =
     let q : n - k ≡ suc (n - (k + 1)) = omega arith in
     let p : a + (k + 1) ≡ suc (a + k) = omega arith in
     rw (q, ← e, g, p, add_assoc v s.looked (among f (suc (a + k)) (n - (k + 1))).looked)
 
-pub among-end : (f : ℕ → Sought) (a n k v : ℕ) → n ≤ k → plus v (among f (a + k) (n - k)) ≡ sought Found.Nothing v
+pub among-end : (f : ℕ → Sought) (a n k v : ℕ) → n ≤ k → plus v (among f (a + k) (n - k)) ≡ sought None v
 unfolding among
 among-end f a n k v h = let q : n - k ≡ 0 = omega arith in rw (q, add-zero v)
 
@@ -37,12 +37,12 @@ among-start f a n v = rw (add-zero, sub-zero)
 
 -- ---- what the search finds, by cases
 module _ (ws xs : List ℕ) (m start : ℕ) where
-  pub search-shut : (l i : ℕ) → opens ws xs m start l i ≡ false → searched ws xs m start l i ≡ sought Found.Nothing 1
+  pub search-shut : (l i : ℕ) → opens ws xs m start l i ≡ false → searched ws xs m start l i ≡ sought None 1
   unfolding searched
   search-shut zero i e = rw e
   search-shut (suc l) i e = rw e
 
-  pub search-leaf : (l i : ℕ) → opens ws xs m start l i ≡ true → l ≡ 0 → searched ws xs m start l i ≡ sought (Found.At i) 1
+  pub search-leaf : (l i : ℕ) → opens ws xs m start l i ≡ true → l ≡ 0 → searched ws xs m start l i ≡ sought (Some i) 1
   unfolding searched
   search-leaf l i e q = rw q (rw (rw q at e))
 
@@ -69,9 +69,9 @@ module _ (ws xs : List ℕ) (m start : ℕ) where
   lit-shut l i e = rw e
 
 -- ---- however the words are, the looks are no more than the places: so no count of them wraps
-pub or_else-most : (x : Found) (v : ℕ) (s : Sought) → (or_else x v s).looked ≤ v + s.looked
-or_else-most (Found.At c) v s = omega arith
-or_else-most Found.Nothing v s = omega arith
+pub or_else-most : (x : Option ℕ) (v : ℕ) (s : Sought) → (or_else x v s).looked ≤ v + s.looked
+or_else-most (Some c) v s = omega arith
+or_else-most None v s = omega arith
 
 among-most : (f : ℕ → Sought) (a n w : ℕ) → ((k : ℕ) → (f k).looked ≤ w) → (among f a n).looked ≤ n * w
 unfolding among
@@ -87,7 +87,7 @@ looked-most ws xs m start (suc l) i =
     let p : 1 ≤ 17 ^ l = pow-le-pow_right {n = 17} (omega arith) {i = 0} {j = l} (omega arith) in
     let q : 17 ^ suc l ≡ 17 ^ l * 17 = pow-suc 17 l in
     let r = among-most (searched ws xs m start l) (16 * i) 16 (17 ^ l) (looked-most ws xs m start l) in
-    picked (λ s. s.looked ≤ 17 ^ suc l) (opens ws xs m start (suc l) i) (plus 1 (among (searched ws xs m start l) (16 * i) 16)) (sought Found.Nothing 1) (λ e. omega arith) (λ e. omega arith)
+    picked (λ s. s.looked ≤ 17 ^ suc l) (opens ws xs m start (suc l) i) (plus 1 (among (searched ws xs m start l) (16 * i) 16)) (sought None 1) (λ e. omega arith) (λ e. omega arith)
 
 looked-low : (ws xs : List ℕ) (m start l i : ℕ) → l < 4 → (searched ws xs m start l i).looked ≤ 4913
 looked-low ws xs m start l i h = let p : 17 ^ l ≤ 17 ^ 3 = pow-le-pow_right {n = 17} (omega arith) {i = l} {j = 3} (omega arith) in omega (arith, looked-most ws xs m start l i)

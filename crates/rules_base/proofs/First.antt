@@ -1,4 +1,5 @@
 -- Where the summaries agree with the map, going down the levels finds what reading the row finds: by induction on the level. Assumes nothing.
+use Rattle.std.specs.Prelude.{Option, Some, None}
 use mathlib.Core.Path.{◌≡◌, refl, sym, ap, ◌∙◌}
 use mathlib.Core.Bool.{Bool, true, false, ◌&&◌}
 use mathlib.Core.List.{List}
@@ -14,18 +15,17 @@ use Rattle.rules_base.specs.Summary.{is_dirty, under, summaries_of, size, lit}
 use Rattle.rules_base.proofs.Some.{some-none}
 use Rattle.rules_base.proofs.Places.{size-up}
 use Rattle.rules_base.proofs.Summaries.{summaries-mean}
-use Rattle.rules_base.specs.declared.Found.{Found}
 use Rattle.rules_base.specs.declared.Sought.{Sought}
 use Rattle.rules_base.specs.Search.{first_in, sought, plus, or_else, among, opens, searched}
 use Rattle.rules_base.proofs.Among.{search-shut, search-leaf, search-suc}
 
 -- the first finding, or else the second
-abbrev pub either : Found → Found → Found
-either (Found.At c) y = Found.At c
-either Found.Nothing y = y
+abbrev pub either : Option ℕ → Option ℕ → Option ℕ
+either (Some c) y = Some c
+either None y = y
 
 -- ---- reading on
-pub first-none : (t : ℕ → Bool) (a n : ℕ) → ((k : ℕ) → k < n → t (a + k) ≡ false) → first_in t a n ≡ Found.Nothing
+pub first-none : (t : ℕ → Bool) (a n : ℕ) → ((k : ℕ) → k < n → t (a + k) ≡ false) → first_in t a n ≡ None
 unfolding first_in
 first-none t a zero h = refl
 first-none t a (suc n) h =
@@ -49,18 +49,18 @@ first-same t u a (suc n) h =
     rw (z, first-same t u (suc a) n (λ k l. let q : suc a + k ≡ a + suc k = omega arith in rw q (h (suc k) (omega arith))))
 
 -- where nothing is found no number passes
-pub first-nothing : (t : ℕ → Bool) (a n : ℕ) → first_in t a n ≡ Found.Nothing → (j : ℕ) → a ≤ j → j < a + n → t j ≡ false
+pub first-nothing : (t : ℕ → Bool) (a n : ℕ) → first_in t a n ≡ None → (j : ℕ) → a ≤ j → j < a + n → t j ≡ false
 unfolding first_in
 first-nothing t a zero e j l h = absurd (let z : ⊥ = omega arith in z)
 first-nothing t a (suc n) e j l h =
     by_cases (t a)
-    (λ q. let p : Found.At a ≡ Found.Nothing = rw q at e in absurd (let z : ◌≡◌ {A = ℕ} 0 1 = cc in omega arith))
+    (λ q. let p : Some a ≡ None = rw q at e in absurd (let z : ◌≡◌ {A = ℕ} 0 1 = cc in omega arith))
     (λ q. elim (ℕ_discrete j a) [ yes p ↦ rw p q | no d ↦ first-nothing t (suc a) n (rw q at e) j (omega arith) (omega arith) ])
 
 -- what is found among places, each of width w, one after the other
-either-found : (x : Found) (v : ℕ) (s : Sought) → (or_else x v s).found ≡ either x s.found
-either-found (Found.At c) v s = refl
-either-found Found.Nothing v s = refl
+either-found : (x : Option ℕ) (v : ℕ) (s : Sought) → (or_else x v s).found ≡ either x s.found
+either-found (Some c) v s = refl
+either-found None v s = refl
 
 first-parts : (f : ℕ → Sought) (t : ℕ → Bool) (w a n : ℕ) → ((k : ℕ) → k < n → (f (a + k)).found ≡ first_in t (w * (a + k)) w) → (among f a n).found ≡ first_in t (w * a) (w * n)
 unfolding among
@@ -100,11 +100,11 @@ module _ (xs : List ℕ) (m start : ℕ) (member : m < 16) where
       let g = ltb-true start (1 * (i + 1)) (and_right (is_dirty xs m i) (ltb start (1 * (i + 1))) e) in
       rw (le-leb start i (omega arith), d)
 
-  first_one : (t : ℕ → Bool) (a : ℕ) → t a ≡ true → first_in t a 1 ≡ Found.At a
+  first_one : (t : ℕ → Bool) (a : ℕ) → t a ≡ true → first_in t a 1 ≡ Some a
   unfolding first_in
   first_one t a e = rw e
 
-  leaf_first : (i : ℕ) → opens (summaries_of xs) xs m start 0 i ≡ true → first_in (wanted xs m start) (16 ^ 0 * i) (16 ^ 0) ≡ Found.At i
+  leaf_first : (i : ℕ) → opens (summaries_of xs) xs m start 0 i ≡ true → first_in (wanted xs m start) (16 ^ 0 * i) (16 ^ 0) ≡ Some i
   leaf_first i e = let q : 1 * i ≡ i = omega arith in rw q (first_one (wanted xs m start) i (leaf-wanted i e))
 
   pub search-first : (l i : ℕ) → i < size l → (searched (summaries_of xs) xs m start l i).found ≡ first_in (wanted xs m start) (16 ^ l * i) (16 ^ l)

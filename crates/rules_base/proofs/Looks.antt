@@ -1,4 +1,5 @@
 -- At how many places the search looks where the summaries agree with the map: by induction on the level. Assumes nothing.
+use Rattle.std.specs.Prelude.{Option, Some, None}
 use mathlib.Core.Path.{◌≡◌, refl, sym, ap, ◌∙◌}
 use mathlib.Core.Bool.{Bool, true, false, ◌&&◌}
 use mathlib.Core.List.{List}
@@ -14,35 +15,34 @@ use Rattle.rules_base.specs.Summary.{some, is_dirty, under, summaries_of, size, 
 use Rattle.rules_base.proofs.Some.{some-no}
 use Rattle.rules_base.proofs.Places.{size-up}
 use Rattle.rules_base.proofs.Summaries.{summaries-mean}
-use Rattle.rules_base.specs.declared.Found.{Found}
 use Rattle.rules_base.specs.declared.Sought.{Sought}
 use Rattle.rules_base.specs.Search.{first_in, sought, plus, or_else, among, opens, searched}
 use Rattle.rules_base.proofs.Among.{search-shut, search-leaf, search-suc, opens-lit}
 use Rattle.rules_base.proofs.First.{first-nothing, wanted, search-first}
 
 -- a finding, or none
-cases : {P : Type 0} (x : Found) → ((c : ℕ) → x ≡ Found.At c → P) → (x ≡ Found.Nothing → P) → P
-cases (Found.At c) f g = f c refl
-cases Found.Nothing f g = g refl
+cases : {P : Type 0} (x : Option ℕ) → ((c : ℕ) → x ≡ Some c → P) → (x ≡ None → P) → P
+cases (Some c) f g = f c refl
+cases None f g = g refl
 
-never : {P : Type 0} {x : Found} {c : ℕ} → x ≡ Found.At c → x ≡ Found.Nothing → P
+never : {P : Type 0} {x : Option ℕ} {c : ℕ} → x ≡ Some c → x ≡ None → P
 never p q = absurd (let z : ◌≡◌ {A = ℕ} 0 1 = cc in omega arith)
 
 -- ---- the first of n + 1 places: it finds a chunk, or the others are looked at too
 module _ (f : ℕ → Sought) (a n : ℕ) where
-  hit-looked : (c : ℕ) → (f a).found ≡ Found.At c → (among f a (suc n)).looked ≡ (f a).looked
+  hit-looked : (c : ℕ) → (f a).found ≡ Some c → (among f a (suc n)).looked ≡ (f a).looked
   unfolding among
   hit-looked c e = rw e
 
-  hit-found : (c : ℕ) → (f a).found ≡ Found.At c → (among f a (suc n)).found ≡ Found.At c
+  hit-found : (c : ℕ) → (f a).found ≡ Some c → (among f a (suc n)).found ≡ Some c
   unfolding among
   hit-found c e = rw e
 
-  miss-looked : (f a).found ≡ Found.Nothing → (among f a (suc n)).looked ≡ (f a).looked + (among f (suc a) n).looked
+  miss-looked : (f a).found ≡ None → (among f a (suc n)).looked ≡ (f a).looked + (among f (suc a) n).looked
   unfolding among
   miss-looked e = rw e
 
-  miss-found : (f a).found ≡ Found.Nothing → (among f a (suc n)).found ≡ (among f (suc a) n).found
+  miss-found : (f a).found ≡ None → (among f a (suc n)).found ≡ (among f (suc a) n).found
   unfolding among
   miss-found e = rw e
 
@@ -57,7 +57,7 @@ module _ (xs : List ℕ) (m start : ℕ) (member : m < 16) where
   down : ℕ → ℕ → Bool
   down l i = opens (summaries_of xs) xs m start l i
 
-  shut-found : (l i : ℕ) → down l i ≡ false → (at l i).found ≡ Found.Nothing
+  shut-found : (l i : ℕ) → down l i ≡ false → (at l i).found ≡ None
   unfolding at down
   shut-found l i e = ap (λ (s : Sought). s.found) (search-shut (summaries_of xs) xs m start l i e)
 
@@ -79,11 +79,11 @@ module _ (xs : List ℕ) (m start : ℕ) (member : m < 16) where
   past-shut l i h = rw (add-one i, le-ltb start (16 ^ l * suc i) h) (and-false (lit (summaries_of xs) xs m l i))
 
   -- a marked place that is not before the start has a chunk to find
-  open-finds : {P : Type 0} (l i : ℕ) → i < size l → start ≤ 16 ^ l * i → down l i ≡ true → (at l i).found ≡ Found.Nothing → P
+  open-finds : {P : Type 0} (l i : ℕ) → i < size l → start ≤ 16 ^ l * i → down l i ≡ true → (at l i).found ≡ None → P
   unfolding at down under wanted
   open-finds l i h s e q =
       let r : lit (summaries_of xs) xs m l i ≡ true = opens-lit (summaries_of xs) xs m start l i e in
-      let z : first_in (wanted xs m start) (16 ^ l * i) (16 ^ l) ≡ Found.Nothing = sym (search-first xs m start member l i h) ∙ q in
+      let z : first_in (wanted xs m start) (16 ^ l * i) (16 ^ l) ≡ None = sym (search-first xs m start member l i h) ∙ q in
       let n : some (is_dirty xs m) (16 ^ l * i) (16 ^ l) ≡ false =
       some-no (is_dirty xs m) (16 ^ l * i) (16 ^ l) (λ k b. rw (le-leb start (16 ^ l * i + k) (omega arith)) at (first-nothing (wanted xs m start) (16 ^ l * i) (16 ^ l) z (16 ^ l * i + k) (omega arith) (omega arith))) in
       clash r (summaries-mean xs m l i member h ∙ n)
@@ -91,7 +91,7 @@ module _ (xs : List ℕ) (m start : ℕ) (member : m < 16) where
   -- what is known of a place: however the start lies; where nothing is found; where the start is not after its first chunk
   record Few (l i : ℕ) : Type 0 where
     any : (at l i).looked ≤ 32 * l + 1
-    vain : (at l i).found ≡ Found.Nothing → (at l i).looked ≤ 16 * l + 1
+    vain : (at l i).found ≡ None → (at l i).looked ≤ 16 * l + 1
     clean : start ≤ 16 ^ l * i → (at l i).looked ≤ 16 * l + 1
 
   -- ---- among n places of a level
@@ -108,7 +108,7 @@ module _ (xs : List ℕ) (m start : ℕ) (member : m < 16) where
         (λ d. open-finds l a (omega arith) s d e)
         (λ d. rw (miss-looked (at l) a n e, shut-looked l a d) (omega (arith, clean-among n (suc a) (omega arith) (next a s)))))
 
-    clean-vain : (n a : ℕ) → a + n ≤ size l → start ≤ 16 ^ l * a → (among (at l) a n).found ≡ Found.Nothing → (among (at l) a n).looked ≤ n
+    clean-vain : (n a : ℕ) → a + n ≤ size l → start ≤ 16 ^ l * a → (among (at l) a n).found ≡ None → (among (at l) a n).looked ≤ n
     clean-vain zero a h s v = rw (none-looked (at l) a) (omega arith)
     clean-vain (suc n) a h s v =
         cases (at l a).found
@@ -137,7 +137,7 @@ module _ (xs : List ℕ) (m start : ℕ) (member : m < 16) where
         (λ e. rw (miss-looked (at l) a n e) (omega (arith, (few a (omega arith)).vain e, clean-among n (suc a) (omega arith) b))))
         (λ b. omega (arith, clean-among (suc n) a h b))
 
-    vain-among : (n a : ℕ) → a + n ≤ size l → (among (at l) a n).found ≡ Found.Nothing → (among (at l) a n).looked ≤ n + 16 * l
+    vain-among : (n a : ℕ) → a + n ≤ size l → (among (at l) a n).found ≡ None → (among (at l) a n).looked ≤ n + 16 * l
     vain-among zero a h v = rw (none-looked (at l) a) (omega arith)
     vain-among (suc n) a h v =
         lies a

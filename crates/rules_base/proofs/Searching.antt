@@ -1,4 +1,5 @@
 -- The laws of specs/Laws.antt. Assumes nothing.
+use Rattle.std.specs.Prelude.{Option, Some, None}
 use mathlib.Core.Path.{◌≡◌, refl, sym, ap, ◌∙◌}
 use mathlib.Core.Bool.{Bool, true, false, ◌&&◌}
 use mathlib.Core.List.{List}
@@ -17,7 +18,6 @@ use Rattle.rules_base.proofs.Sound.{sound-fact, sound-past}
 use Rattle.rules_base.specs.Summary.{is_dirty, summaries_of, base, size, bit_of, is_set, is_place, lit}
 use Rattle.rules_base.proofs.Places.{no_member, no_chunk, lit-none}
 use Rattle.rules_base.proofs.Summaries.{one-summary}
-use Rattle.rules_base.specs.declared.Found.{Found}
 use Rattle.rules_base.specs.declared.Sought.{Sought}
 use Rattle.rules_base.specs.Search.{first_in, first_dirty, among, opens, searched, row_searched}
 use Rattle.rules_base.specs.SearchLaws.{Reads, AsReading, AsReadingChunks, ClearSkips, FewLooks, Worked}
@@ -32,13 +32,13 @@ record First (t : ℕ → Bool) (a n c : ℕ) : Type 0 where
   passes : t c ≡ true
   none : (j : ℕ) → a ≤ j → j < c → t j ≡ false
 
-first-at : (t : ℕ → Bool) (a n c : ℕ) → first_in t a n ≡ Found.At c → First t a n c
+first-at : (t : ℕ → Bool) (a n c : ℕ) → first_in t a n ≡ Some c → First t a n c
 unfolding first_in
 first-at t a zero c e = absurd (let z : ◌≡◌ {A = ℕ} 0 1 = cc in omega arith)
 first-at t a (suc n) c e =
     by_cases (t a)
     (λ q.
-    let r : Found.At a ≡ Found.At c = rw q at e in
+    let r : Some a ≡ Some c = rw q at e in
     let p : a ≡ c = cc in
     record { low = omega arith; high = omega arith; passes = rw (← p) q; none = λ j l h. absurd (let z : ⊥ = omega arith in z) })
     (λ q.
@@ -72,16 +72,16 @@ reads =
       nothing = λ xs m start n e k l h. clean_is xs m k (first-nothing (is_dirty xs m) start (n - start) e k l (omega arith));
     }
 
-either-nothing : (x : Found) → either x Found.Nothing ≡ x
-either-nothing (Found.At c) = refl
-either-nothing Found.Nothing = refl
+either-nothing : (x : Option ℕ) → either x None ≡ x
+either-nothing (Some c) = refl
+either-nothing None = refl
 
 -- reading on where nothing passes any more
 first_on : (t : ℕ → Bool) (n k start : ℕ) → n ≤ k → ((c : ℕ) → n ≤ c → t c ≡ false) → first_in t start (k - start) ≡ first_in t start (n - start)
 first_on t n k start h past = elim (dec_lt start n) [
   | yes l ↦
       let q : k - start ≡ (n - start) + (k - n) = omega arith in
-      let r : first_in t (start + (n - start)) (k - n) ≡ Found.Nothing = first-none t (start + (n - start)) (k - n) (λ j b. past (start + (n - start) + j) (omega arith)) in
+      let r : first_in t (start + (n - start)) (k - n) ≡ None = first-none t (start + (n - start)) (k - n) (λ j b. past (start + (n - start) + j) (omega arith)) in
       rw (q, first-joint t start (n - start) (k - n), r) (either-nothing (first_in t start (n - start)))
   | no g ↦
       let q : n - start ≡ 0 = omega arith in
@@ -102,7 +102,7 @@ wanted-row : (xs : List ℕ) (m start : ℕ) → first_in (wanted xs m start) 0 
 wanted-row xs m start = elim (dec_lt 4096 start) [
   | no g ↦
       let q : 4096 ≡ start + (4096 - start) = omega arith in
-      let r : first_in (wanted xs m start) 0 start ≡ Found.Nothing = first-none (wanted xs m start) 0 start (λ k b. before-start xs m start (0 + k) (omega arith)) in
+      let r : first_in (wanted xs m start) 0 start ≡ None = first-none (wanted xs m start) 0 start (λ k b. before-start xs m start (0 + k) (omega arith)) in
       let t : first_in (wanted xs m start) (0 + start) (4096 - start) ≡ first_in (is_dirty xs m) start (4096 - start) = rw (zero-add start) (first-same (wanted xs m start) (is_dirty xs m) start (4096 - start) (λ k b. after-start xs m start (start + k) (omega arith))) in
       ap (first_in (wanted xs m start) 0) q ∙ (first-joint (wanted xs m start) 0 start (4096 - start) ∙ rw (r, t))
   | yes l ↦

@@ -13,21 +13,15 @@ pub struct Numbers {
     pub version: u64,
 }
 
-#[derive(Clone, Copy)]
-pub enum Found {
-    At(u64),
-    Nothing,
-}
-
-// looked: how many places were looked at.
+// found: the chunk. looked: how many places were looked at.
 #[derive(Clone, Copy)]
 pub struct Sought {
-    pub found: Found,
+    pub found: Option<u64>,
     pub looked: u64,
 }
 
 // What a POOL_INFO says of its member.
-#[derive(Clone, Copy)]
+#[derive(Clone, Copy, PartialEq, Eq)]
 pub enum Op {
     AddCreate,
     AddAssemble,

@@ -1,4 +1,5 @@
 -- Worked removals, by computation: the messages, the effects on the client map, and what halts and starts over.
+use Rattle.std.specs.Prelude.{None}
 use mathlib.Core.Path.{◌≡◌, refl}
 use mathlib.Core.Bool.{true, false}
 use mathlib.Core.List.{◌∷◌}
@@ -14,7 +15,6 @@ use Rattle.rules_base.specs.declared.Op.{Op}
 use Rattle.rules_pool.specs.declared.Message.{Message}
 use Rattle.rules_pool.specs.declared.Told.{Told}
 use Rattle.rules_pool.specs.declared.Outcome.{Outcome}
-use Rattle.rules_pool.specs.declared.Brought.{Brought}
 use Rattle.rules_pool.specs.declared.Reply.{Reply}
 use Rattle.rules_pool.specs.declared.Answer.{Answer}
 use Rattle.rules_pool.specs.declared.Effect.{Effect}
@@ -85,7 +85,7 @@ synced =
     }
 
 abbrev fine : Reply
-fine = Reply.Good Brought.Nothing
+fine = Reply.Good None
 
 -- delete of 1: LEAVE to it, then POOL_INFO to 0; 2 is FAILED
 abbrev leaving : Turn

@@ -1,5 +1,5 @@
 -- The answer to an awaited message.
-use Rattle.std.specs.Prelude.{Bool, ◌&&◌, not, List, [], ◌∷◌, ℕ, eqb}
+use Rattle.std.specs.Prelude.{Bool, ◌&&◌, not, List, [], ◌∷◌, ℕ, eqb, Option, Some, None}
 use Rattle.laws_words.specs.Words.{pick}
 use Rattle.rules_base.specs.Refusals.{Test, test, refusal}
 use Rattle.rules_pool.specs.declared.Roster.{Roster}
@@ -10,7 +10,6 @@ use Rattle.rules_pool.specs.declared.Reply.{Reply}
 use Rattle.rules_pool.specs.declared.Effect.{Effect}
 use Rattle.rules_pool.specs.declared.Turn.{Turn}
 use Rattle.rules_pool.specs.Changes.{entered}
-use Rattle.rules_pool.specs.declared.Who.{Who}
 use Rattle.rules_pool.specs.declared.Move.{Move}
 use Rattle.rules_pool.specs.Run.{takes}
 use Rattle.rules_pool.specs.StateRules.{valid_pool}
@@ -34,9 +33,9 @@ unfoldable pub answer_refusal : Pool → Bool → ℕ → ℕ
 answer_refusal p sound number = refusal (answer_tests p sound number)
 
 -- who became NORMAL, if one did
-abbrev pub entered_by : Who → Roster → Roster
-entered_by Who.Nobody ro = ro
-entered_by (Who.One id) ro = entered ro id
+abbrev pub entered_by : Option ℕ → Roster → Roster
+entered_by None ro = ro
+entered_by (Some id) ro = entered ro id
 
 -- what an answer did to the run, done to the pool: who became NORMAL, and the next message or the end
 unfoldable pub moved_on : Pool → Move → Posted

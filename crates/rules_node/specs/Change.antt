@@ -1,9 +1,8 @@
 -- The fresh node, and the named changes that the events of a node are made of. Each names what it changes; all else stays.
-use Rattle.std.specs.Prelude.{Bool, false, [], ◌∷◌, ◌++◌, ℕ, ◌+◌, ltb, drop, replicate}
+use Rattle.std.specs.Prelude.{Bool, false, [], ◌∷◌, ◌++◌, ℕ, ◌+◌, ltb, drop, replicate, Option, None}
 use Rattle.laws_words.specs.Words.{pick}
 use Rattle.rules_base.specs.Sets.{with, without}
 use Rattle.rules_node.specs.declared.State.{State}
-use Rattle.rules_node.specs.declared.Transfer.{Transfer}
 use Rattle.rules_node.specs.declared.Node.{Node}
 
 -- a fresh node: EMPTY, with nothing
@@ -19,7 +18,7 @@ fresh id chunks =
       version = 0;
       kept = replicate 16 0;
       held = 0;
-      transfer = Transfer.Nothing;
+      transfer = None;
     }
 
 -- another state
@@ -127,7 +126,7 @@ forgotten n =
     }
 
 -- how far the transfer is
-unfoldable pub transferred : Node → Transfer → Node
+unfoldable pub transferred : Node → Option ℕ → Node
 transferred n t =
     record {
       id = n.id;
@@ -144,7 +143,7 @@ transferred n t =
 
 -- staging dropped or committed: no transfer is in hand (the staging map is zeroed beside it)
 unfoldable pub ended_transfer : Node → Node
-ended_transfer n = transferred n Transfer.Nothing
+ended_transfer n = transferred n None
 
 -- version and member set of Enable 1, MAP_DONE and Register add
 unfoldable pub instructed : Node → ℕ → ℕ → Node

@@ -1,11 +1,10 @@
 -- The transfer in hand: taking a part of a map, MAP_DONE, MAP_DISABLE; with nothing in hand they give 15, never 9. `lent` is the number that the lent maps refuse with.
-use Rattle.std.specs.Prelude.{Bool, true, false, not, ◌&&◌, ◌||◌, List, [], ◌∷◌, ℕ, ◌+◌, eqb, ltb}
+use Rattle.std.specs.Prelude.{Bool, true, false, not, ◌&&◌, ◌||◌, List, [], ◌∷◌, ℕ, ◌+◌, eqb, ltb, Some}
 use Rattle.rules_base.specs.Limits.{version_limit}
 use Rattle.rules_base.specs.Refusals.{Test, test, refusal}
 use Rattle.rules_base.specs.Sets.{has}
 use Rattle.rules_base.specs.Parts.{is_part}
 use Rattle.rules_node.specs.declared.State.{State}
-use Rattle.rules_node.specs.declared.Transfer.{Transfer}
 use Rattle.rules_node.specs.declared.OnMap.{OnMap}
 use Rattle.rules_node.specs.declared.OnStaging.{OnStaging}
 use Rattle.rules_node.specs.declared.Answer.{Answer}
@@ -37,7 +36,7 @@ take_part_refusal n lent offset length clean = refusal (take_part_tests n lent o
 
 -- the bytes up to the part's end were taken
 unfoldable pub part_taken : Node → ℕ → ℕ → Node
-part_taken n offset length = transferred n (Transfer.InHand (offset + length))
+part_taken n offset length = transferred n (Some (offset + length))
 
 unfoldable pub take_part : Node → ℕ → ℕ → ℕ → Bool → Turn
 take_part n lent offset length clean =

@@ -1,9 +1,8 @@
 -- What a serving node is asked for: MAP_READY, a part of its map, MAP_GET_VER, LAST_IO_TO_MAP. `lent` is the number that the lent maps refuse with.
-use Rattle.std.specs.Prelude.{Bool, true, false, not, ◌||◌, List, [], ◌∷◌, ℕ, ltb}
+use Rattle.std.specs.Prelude.{Bool, true, false, not, ◌||◌, List, [], ◌∷◌, ℕ, ltb, Some}
 use Rattle.rules_base.specs.Refusals.{Test, test, refusal}
 use Rattle.rules_base.specs.Parts.{is_part}
 use Rattle.rules_node.specs.declared.State.{State}
-use Rattle.rules_node.specs.declared.Transfer.{Transfer}
 use Rattle.rules_node.specs.declared.OnMap.{OnMap}
 use Rattle.rules_node.specs.declared.OnStaging.{OnStaging}
 use Rattle.rules_node.specs.declared.Answer.{Answer}
@@ -23,7 +22,7 @@ serve_refusal n lent = refusal (serve_tests n lent)
 -- ---- MAP_READY (keep or start empty): gives NO_IO and fills staging, with the map or with zero; a transfer in hand starts over, at byte 0
 
 unfoldable pub readied : Node → Node
-readied n = transferred (went_to n State.NoIo) (Transfer.InHand 0)
+readied n = transferred (went_to n State.NoIo) (Some 0)
 
 abbrev pub fills : Bool → OnStaging
 fills true = OnStaging.Fill

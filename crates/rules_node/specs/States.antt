@@ -1,8 +1,7 @@
 -- Tests on a node's state.
-use Rattle.std.specs.Prelude.{Bool, true, false, ◌&&◌, ℕ, leb}
+use Rattle.std.specs.Prelude.{Bool, true, false, ◌&&◌, ℕ, leb, Option, Some, None}
 use Rattle.rules_base.specs.Limits.{map_bytes}
 use Rattle.rules_node.specs.declared.State.{State}
-use Rattle.rules_node.specs.declared.Transfer.{Transfer}
 use Rattle.rules_node.specs.declared.Node.{Node}
 
 abbrev pub is_empty : State → Bool
@@ -53,15 +52,15 @@ abbrev pub is_serving : Node → Bool
 is_serving n = is_joined n.state && n.store
 
 -- a transfer is in hand
-abbrev pub in_hand : Transfer → Bool
-in_hand Transfer.Nothing = false
-in_hand (Transfer.InHand bytes) = true
+abbrev pub in_hand : Option ℕ → Bool
+in_hand None = false
+in_hand (Some bytes) = true
 
 -- the bytes of the map that were taken so far
-abbrev pub taken : Transfer → ℕ
-taken Transfer.Nothing = 0
-taken (Transfer.InHand bytes) = bytes
+abbrev pub taken : Option ℕ → ℕ
+taken None = 0
+taken (Some bytes) = bytes
 
 -- the whole map was taken
-abbrev pub is_whole : Transfer → Bool
+abbrev pub is_whole : Option ℕ → Bool
 is_whole t = leb map_bytes (taken t)

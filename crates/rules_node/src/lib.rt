@@ -1,8 +1,6 @@
 // The rules of the node: the types that they speak of; the rules are in specs/.
 #![tactic(auto)]
 
-use rules_base::Found;
-
 // Empty: the node's own row is, and the node is NORMAL.
 #[derive(Clone, Copy)]
 pub enum Checked {
@@ -14,11 +12,11 @@ pub enum Checked {
 #[derive(Clone, Copy)]
 pub enum Next {
     Refused(u64),
-    Is(Found),
+    Is(Option<u64>),
 }
 
 // The states of source document 003.
-#[derive(Clone, Copy)]
+#[derive(Clone, Copy, PartialEq, Eq)]
 pub enum State {
     Empty,
     Registered,
@@ -27,14 +25,8 @@ pub enum State {
     NoIo,
 }
 
-// The map transfer in hand, with the bytes of the map that were taken so far: all 8,192 when it is whole.
-#[derive(Clone, Copy)]
-pub enum Transfer {
-    Nothing,
-    InHand(u64),
-}
-
-// The node's whole state. create: registered with create mode. The last chunk numbers written stand at the end of kept, in order of arrival; held says
+// The node's whole state. create: registered with create mode. transfer: the map transfer in hand, with the bytes of the map that were taken so far, all 8,192
+// when it is whole. The last chunk numbers written stand at the end of kept, in order of arrival; held says
 // how many they are.
 #[derive(Clone, Copy)]
 pub struct Node {
@@ -47,7 +39,7 @@ pub struct Node {
     pub version: u64,
     pub kept: [u64; 16],
     pub held: u64,
-    pub transfer: Transfer,
+    pub transfer: Option<u64>,
 }
 
 // What is done to the node's map. Mark: a set, a chunk. Clear: a member, a chunk. LastIos: the chosen. ZeroRow: a member. KeepRows: of a set.

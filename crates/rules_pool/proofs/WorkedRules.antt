@@ -1,4 +1,5 @@
 -- Worked rows for which a wrong definition must fall (must-fail/): each is computed from the definitions alone.
+use Rattle.std.specs.Prelude.{Some, None}
 use mathlib.Core.Path.{◌≡◌, refl}
 use mathlib.Core.Bool.{true, false}
 use mathlib.Core.List.{List, [], ◌∷◌}
@@ -16,7 +17,6 @@ use Rattle.rules_pool.specs.declared.Run.{Run}
 use Rattle.rules_pool.specs.declared.Reply.{Reply}
 use Rattle.rules_pool.specs.Past.{no_past}
 use Rattle.rules_pool.specs.Session.{new_session}
-use Rattle.rules_pool.specs.declared.Next.{Next}
 use Rattle.rules_pool.specs.declared.Kind.{Kind}
 use Rattle.rules_pool.specs.Sessions.{ids_of, odd}
 use Rattle.rules_pool.specs.Run.{receiver, failed_answer, takes}
@@ -27,8 +27,8 @@ run ph = record { phase = ph; source = 0; left = 6; taken = 4 }
 
 -- A failed answer: in the base spread the run is over; in the enabling one the receiver is passed over, and the answer counts.
 fails :
-    ((takes 7 3 (run (Phase.Base Step.Ready)) Reply.Failed).next ≡ Next.Over)
-    × ((takes 7 3 (run (Phase.Spread Step.Ready)) Reply.Failed).next ≡ Next.On (record { phase = Phase.Spread Step.Ready; source = 0; left = 4; taken = 5 }))
+    ((takes 7 3 (run (Phase.Base Step.Ready)) Reply.Failed).next ≡ None)
+    × ((takes 7 3 (run (Phase.Spread Step.Ready)) Reply.Failed).next ≡ Some (record { phase = Phase.Spread Step.Ready; source = 0; left = 4; taken = 5 }))
     × ((takes 7 3 (run (Phase.Spread Step.Ready)) Reply.Failed).taken ≡ 5)
 unfolding failed_answer receiver lowest without has bit
 fails = (refl, refl, refl)

@@ -1,4 +1,6 @@
 -- Worked runs of the tester's table: the messages in the order of sending, and the answers taken.
+use Rattle.std.specs.Prelude.{Option, Some, None}
+use Rattle.rules_pool.specs.declared.Run.{Run}
 use mathlib.Core.Path.{◌≡◌, refl}
 use mathlib.Core.Bool.{true, false}
 use mathlib.Core.List.{List, [], ◌∷◌}
@@ -7,52 +9,50 @@ use Rattle.laws_words.specs.Words.{bit}
 use Rattle.rules_base.specs.Limits.{answer_limit}
 use Rattle.rules_base.specs.Sets.{has, without, size, lowest}
 use Rattle.rules_pool.specs.declared.Phase.{Phase}
-use Rattle.rules_pool.specs.declared.Brought.{Brought}
 use Rattle.rules_pool.specs.declared.Reply.{Reply}
 use Rattle.rules_pool.specs.declared.Message.{Message}
-use Rattle.rules_pool.specs.declared.Next.{Next}
 use Rattle.rules_pool.specs.Run.{receiver, failed_answer, good, takes, awaited_in}
 use Rattle.rules_pool.specs.Still.{possible}
 
 -- the message that is awaited, what an answer does, and the count with it
-abbrev pub awaited_by : ℕ → ℕ → Next → Message
-awaited_by members version Next.Over = Message.Nothing
-awaited_by members version (Next.On r) = awaited_in members version r
+abbrev pub awaited_by : ℕ → ℕ → Option Run → Message
+awaited_by members version None = Message.Nothing
+awaited_by members version (Some r) = awaited_in members version r
 
-abbrev pub answered_by : ℕ → ℕ → Next → Reply → Next
-answered_by members version Next.Over a = Next.Over
-answered_by members version (Next.On r) a = (takes members version r a).next
+abbrev pub answered_by : ℕ → ℕ → Option Run → Reply → Option Run
+answered_by members version None a = None
+answered_by members version (Some r) a = (takes members version r a).next
 
-abbrev pub counted_by : ℕ → ℕ → ℕ → Next → Reply → ℕ
-counted_by members version taken Next.Over a = taken
-counted_by members version taken (Next.On r) a = (takes members version r a).taken
+abbrev pub counted_by : ℕ → ℕ → ℕ → Option Run → Reply → ℕ
+counted_by members version taken None a = taken
+counted_by members version taken (Some r) a = (takes members version r a).taken
 
 -- the messages that a run awaits, one after the other (Nothing once it is over), and the count at the end
-abbrev pub messages : ℕ → ℕ → Next → List Reply → List Message
+abbrev pub messages : ℕ → ℕ → Option Run → List Reply → List Message
 messages members version n [] = awaited_by members version n ∷ []
 messages members version n (a ∷ rs) = awaited_by members version n ∷ messages members version (answered_by members version n a) rs
 
-abbrev pub counts : ℕ → ℕ → ℕ → Next → List Reply → ℕ
+abbrev pub counts : ℕ → ℕ → ℕ → Option Run → List Reply → ℕ
 counts members version taken n [] = taken
 counts members version taken n (a ∷ rs) = counts members version (counted_by members version taken n a) (answered_by members version n a) rs
 
 abbrev fine : Reply
-fine = Reply.Good Brought.Nothing
+fine = Reply.Good None
 
 abbrev told : ℕ → Reply
-told v = Reply.Good (Brought.Version v)
+told v = Reply.Good (Some v)
 
 abbrev fines : ℕ → List Reply
 fines zero = []
 fines (suc n) = fine ∷ fines n
 
 -- case 2: 1 is marked, 0 receives
-abbrev two : Next
-two = Next.On (record { phase = Phase.Enable false; source = 1; left = 1; taken = 0 })
+abbrev two : Option Run
+two = Some (record { phase = Phase.Enable false; source = 1; left = 1; taken = 0 })
 
 -- case 3: 0 and 1
-abbrev three : Next
-three = Next.On (record { phase = Phase.Versions 0; source = 0; left = 3; taken = 0 })
+abbrev three : Option Run
+three = Some (record { phase = Phase.Versions 0; source = 0; left = 3; taken = 0 })
 
 -- ENABLE 1, READY 0, SEND 1, DONE 0; 4 answers
 case-2 :
@@ -78,7 +78,7 @@ case-3-tie : messages 3 3 three (told 3 ∷ told 3 ∷ []) ≡ Message.GetVersio
 unfolding good failed_answer receiver awaited_in lowest without has bit
 case-3-tie = refl
 
-alone : counts 4 9 0 (Next.On (record { phase = Phase.Versions 0; source = 2; left = 4; taken = 0 })) (told 9 ∷ fines 2) ≡ 3
+alone : counts 4 9 0 (Some (record { phase = Phase.Versions 0; source = 2; left = 4; taken = 0 })) (told 9 ∷ fines 2) ≡ 3
 unfolding good failed_answer receiver awaited_in lowest without has bit
 alone = refl
 

@@ -1,5 +1,5 @@
 -- The awaited message of a job: its sending, the end of a run and of a removal, recovery tried.
-use Rattle.std.specs.Prelude.{ℕ, ◌+◌, ◌%◌, eqb}
+use Rattle.std.specs.Prelude.{ℕ, ◌+◌, ◌%◌, eqb, Option, Some, None}
 use Rattle.laws_words.specs.Words.{pick}
 use Rattle.rules_pool.specs.declared.Roster.{Roster}
 use Rattle.rules_pool.specs.declared.Run.{Run}
@@ -8,8 +8,6 @@ use Rattle.rules_pool.specs.declared.Pool.{Pool}
 use Rattle.rules_pool.specs.declared.Message.{Message}
 use Rattle.rules_pool.specs.declared.Told.{Told}
 use Rattle.rules_pool.specs.Changes.{raised}
-use Rattle.rules_pool.specs.declared.Who.{Who}
-use Rattle.rules_pool.specs.declared.Next.{Next}
 use Rattle.rules_pool.specs.Run.{awaited_in}
 use Rattle.rules_pool.specs.declared.Posted.{Posted}
 use Rattle.rules_pool.specs.Cases.{begun}
@@ -51,25 +49,25 @@ abbrev pub sent_by : Pool → Run → Posted
 sent_by p r = posted p (Job.Running r) (awaited_in p.roster.members p.roster.version r)
 
 -- a run goes on, or is over
-abbrev pub gone_on : Next → Pool → Posted
-gone_on Next.Over p = quiet (run_ended p)
-gone_on (Next.On r) p = sent_by p r
+abbrev pub gone_on : Option Run → Pool → Posted
+gone_on None p = quiet (run_ended p)
+gone_on (Some r) p = sent_by p r
 
 -- a run begins, or nothing changes
-abbrev pub beginning : Next → Pool → Posted
-beginning Next.Over p = quiet p
-beginning (Next.On r) p = sent_by p r
+abbrev pub beginning : Option Run → Pool → Posted
+beginning None p = quiet p
+beginning (Some r) p = sent_by p r
 
 -- Recovery is tried.
 unfoldable pub tried : Pool → Posted
 tried p = beginning (begun p.roster) p
 
 -- MAP_DISABLE to one session or none
-abbrev pub disabling : Who → Told
-disabling Who.Nobody = Told.Nothing
-disabling (Who.One id) = Told.Disable id
+abbrev pub disabling : Option ℕ → Told
+disabling None = Told.Nothing
+disabling (Some id) = Told.Disable id
 
 -- the same, but not to this session
-abbrev pub disabling_but : ℕ → Who → Told
-disabling_but id Who.Nobody = Told.Nothing
-disabling_but id (Who.One x) = pick (eqb x id) Told.Nothing (Told.Disable x)
+abbrev pub disabling_but : ℕ → Option ℕ → Told
+disabling_but id None = Told.Nothing
+disabling_but id (Some x) = pick (eqb x id) Told.Nothing (Told.Disable x)

@@ -37,27 +37,13 @@ pub enum Way {
     Removing(Mode, bool),
 }
 
-// One session or none.
-#[derive(Clone, Copy)]
-pub enum Who {
-    Nobody,
-    One(u64),
-}
-
-// What a run comes to: it is over, or goes on.
-#[derive(Clone, Copy)]
-pub enum Next {
-    Over,
-    On(Run),
-}
-
-// What an answer does: how the run goes on, the answers taken with this one, who became NORMAL, who gets MAP_DISABLE.
+// What an answer does: how the run goes on, unless it is over, the answers taken with this one, who became NORMAL, who gets MAP_DISABLE.
 #[derive(Clone, Copy)]
 pub struct Move {
-    pub next: Next,
+    pub next: Option<Run>,
     pub taken: u64,
-    pub normal: Who,
-    pub disable: Who,
+    pub normal: Option<u64>,
+    pub disable: Option<u64>,
 }
 
 // The pool, and the awaited message that was sent with it.
@@ -68,14 +54,14 @@ pub struct Posted {
 }
 
 // Delete takes the member out for good; disassemble leaves it a member.
-#[derive(Clone, Copy)]
+#[derive(Clone, Copy, PartialEq, Eq)]
 pub enum Mode {
     Delete,
     Disassemble,
 }
 
 // Why a session is FAILED: its link went down, or a write did not reach it.
-#[derive(Clone, Copy)]
+#[derive(Clone, Copy, PartialEq, Eq)]
 pub enum Cause {
     Link,
     Io,
@@ -83,7 +69,7 @@ pub enum Cause {
 
 // A session's state. Free: the id has no session. FAILED carries its cause, so that a cause stands exactly while a session is FAILED. REMOVING carries its
 // mode, and whether LEAVE_POOL is still owed.
-#[derive(Clone, Copy)]
+#[derive(Clone, Copy, PartialEq, Eq)]
 pub enum State {
     Free,
     Created,
@@ -93,7 +79,7 @@ pub enum State {
     Removing(Mode, bool),
 }
 
-#[derive(Clone, Copy)]
+#[derive(Clone, Copy, PartialEq, Eq)]
 pub struct Session {
     pub state: State,
     pub maintenance: bool,
@@ -101,7 +87,7 @@ pub struct Session {
 }
 
 // What the pool went through since its membership was last emptied by a delete. written: a write was acknowledged. assembled: a node's member set was taken over.
-#[derive(Clone, Copy)]
+#[derive(Clone, Copy, PartialEq, Eq)]
 pub struct Past {
     pub written: bool,
     pub assembled: bool,
@@ -119,7 +105,7 @@ pub struct Roster {
 }
 
 // The three messages of a spread to one receiver.
-#[derive(Clone, Copy)]
+#[derive(Clone, Copy, PartialEq, Eq)]
 pub enum Step {
     Ready,
     Send,
@@ -230,18 +216,11 @@ pub enum Answer {
     Done(Sent),
 }
 
-// What a good answer brings.
-#[derive(Clone, Copy)]
-pub enum Brought {
-    Nothing,
-    Version(u64),
-}
-
-// An awaited answer.
+// An awaited answer. Good: with the version that it brings, if it brings one.
 #[derive(Clone, Copy)]
 pub enum Reply {
     Failed,
-    Good(Brought),
+    Good(Option<u64>),
 }
 
 // What is to be done to the client map: nothing, mark a set at a chunk, zero a member's row, zero all, set a member's row for every chunk below a count.

@@ -1,6 +1,6 @@
 -- The client and its nodes together, and one exchange of a recovery run: the message that the client sent and awaits goes to its node, and that node's
 -- answer goes back to the client, under the message's number.
-use Rattle.std.specs.Prelude.{List, [], ◌∷◌, ℕ, zero, suc, ◌+◌, eqb}
+use Rattle.std.specs.Prelude.{List, [], ◌∷◌, ℕ, zero, suc, ◌+◌, eqb, Some, None}
 use Rattle.laws_words.specs.Words.{pick}
 use Rattle.rules_base.specs.Parts.{part_of}
 use Rattle.rules_pool.specs.declared.Job.{Job}
@@ -9,7 +9,6 @@ use Rattle.rules_pool.specs.declared.Message.{Message}
 use Rattle.rules_pool.specs.declared.Told.{Told}
 use Rattle.rules_pool.specs.declared.Sent.{Sent}
 use Rattle.rules_pool.specs.declared.Answer.{Answer}
-use Rattle.rules_pool.specs.declared.Brought.{Brought}
 use Rattle.rules_pool.specs.declared.Reply.{Reply}
 use Rattle.rules_pool.specs.declared.Turn.{Turn}
 use Rattle.rules_pool.specs.Session.{is_delete}
@@ -32,8 +31,8 @@ pub record Delivered : Type 0 where
 -- a node's answer as the client takes it: a refusal is a failed answer
 abbrev pub reply_of : says.Answer → Reply
 reply_of (says.Answer.Refused n) = Reply.Failed
-reply_of says.Answer.Done = Reply.Good Brought.Nothing
-reply_of (says.Answer.Version v) = Reply.Good (Brought.Version v)
+reply_of says.Answer.Done = Reply.Good None
+reply_of (says.Answer.Version v) = Reply.Good (Some v)
 
 -- a message to the node k, which did d
 abbrev pub by_one : (ℕ → Station) → ℕ → Did → Delivered
@@ -51,7 +50,7 @@ takes_from offset l from to f = does (f to) (Event.take_part offset (part_of off
 -- MAP_SEND, part by part by their lengths, from an offset on: the source gives a part of its map, and the receiver takes it. A good answer means that every part was given and
 -- taken; the first refusal ends it, and what was taken before stays taken.
 unfoldable pub send : List ℕ → ℕ → ℕ → ℕ → (ℕ → Station) → Delivered
-send [] offset from to f = record { nodes = f; reply = Reply.Good Brought.Nothing }
+send [] offset from to f = record { nodes = f; reply = Reply.Good None }
 send (l ∷ ls) offset from to f =
     if_good (reply_of (does (f from) (Event.give_part offset l)).answer)
     (if_good (reply_of (takes_from offset l from to f).answer) (send ls (offset + l) from to (upd f to (takes_from offset l from to f).station)) (by_one f to (takes_from offset l from to f)))

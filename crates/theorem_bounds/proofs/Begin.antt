@@ -1,4 +1,5 @@
 -- How a run begins: by recovery tried, and so as one of the three cases; and how many answers it can take then.
+use Rattle.std.specs.Prelude.{Option, Some, None}
 use mathlib.Core.Path.{◌≡◌, refl, ap, ◌∙◌, subst}
 use mathlib.Core.Bool.{Bool, true, false, not, ◌||◌}
 use mathlib.Core.List.{List}
@@ -21,7 +22,6 @@ use Rattle.rules_pool.specs.declared.Reply.{Reply}
 use Rattle.rules_pool.specs.declared.Kind.{Kind}
 use Rattle.rules_pool.specs.Sessions.{ids_of}
 use Rattle.rules_pool.specs.Jobs.{is_running}
-use Rattle.rules_pool.specs.declared.Next.{Next}
 use Rattle.rules_pool.specs.Still.{possible}
 use Rattle.laws_client.proofs.RunBound.{some_left}
 use Rattle.rules_pool.specs.Cases.{start, case1, case2, case3, case_of, begun}
@@ -35,13 +35,13 @@ use Rattle.theorem_bounds.specs.Demand3.{most}
 use Rattle.theorem_client.proofs.Tries.{answered-calm}
 
 -- the run that a trial began
-pub trial-run : (p : Pool) (r : Run) → is_running p.job ≡ false → (tried p).pool.job ≡ Job.Running r → begun p.roster ≡ Next.On r
+pub trial-run : (p : Pool) (r : Run) → is_running p.job ≡ false → (tried p).pool.job ≡ Job.Running r → begun p.roster ≡ Some r
 unfolding tried posted
 trial-run p r i = at (begun p.roster) refl
   where
-    at : (n : Next) → begun p.roster ≡ n → (beginning n p).pool.job ≡ Job.Running r → begun p.roster ≡ Next.On r
-    at Next.Over e z = clash (ap is_running z) i
-    at (Next.On s) e z = let q : s ≡ r = cc z in e ∙ ap (λ (x : Run). Next.On x) q
+    at : (n : Option Run) → begun p.roster ≡ n → (beginning n p).pool.job ≡ Job.Running r → begun p.roster ≡ Some r
+    at None e z = clash (ap is_running z) i
+    at (Some s) e z = let q : s ≡ r = cc z in e ∙ ap (λ (x : Run). Some x) q
 
 -- ---- an answer begins no run
 
@@ -60,29 +60,29 @@ answer-calm c xs number a i = at (eqb (answer_refusal c (sound_for c xs) number)
 
 -- ---- how many answers a run can take that begins
 
-abbrev is_on : Next → Bool
-is_on Next.Over = false
-is_on (Next.On r) = true
+abbrev is_on : Option Run → Bool
+is_on None = false
+is_on (Some r) = true
 
 abbrev pub Most : ℕ → ℕ → Run → Type 0
 Most members n r = (possible members r ≡ n) × (r.taken ≡ 0)
 
-starts : (members n : ℕ) (p : Phase) (source left : ℕ) (r : Run) → start p source left ≡ Next.On r → possible members (record { phase = p; source = source; left = left; taken = 0 }) ≡ n → Most members n r
+starts : (members n : ℕ) (p : Phase) (source left : ℕ) (r : Run) → start p source left ≡ Some r → possible members (record { phase = p; source = source; left = left; taken = 0 }) ≡ n → Most members n r
 starts members n p source left r e m =
     let q : record { phase = p; source = source; left = left; taken = 0 } ≡ r = cc e in
     subst (Most members n) q (m, refl)
 
-most-1 : (members normals candidates : ℕ) (r : Run) (b : Bool) → pick b Next.Over (start (Phase.Spread Step.Ready) (lowest normals) candidates) ≡ Next.On r → Most members (3 * size candidates) r
+most-1 : (members normals candidates : ℕ) (r : Run) (b : Bool) → pick b None (start (Phase.Spread Step.Ready) (lowest normals) candidates) ≡ Some r → Most members (3 * size candidates) r
 unfolding possible
 most-1 members normals candidates r true e = clash (ap is_on e) refl
 most-1 members normals candidates r false e = starts members (3 * size candidates) (Phase.Spread Step.Ready) (lowest normals) candidates r e (omega arith)
 
-most-2 : (members x candidates : ℕ) (r : Run) (b : Bool) → pick b (start (Phase.Enable false) x (without candidates x)) Next.Over ≡ Next.On r → Most members (3 * size (without candidates x) + 1) r
+most-2 : (members x candidates : ℕ) (r : Run) (b : Bool) → pick b (start (Phase.Enable false) x (without candidates x)) None ≡ Some r → Most members (3 * size (without candidates x) + 1) r
 unfolding possible
 most-2 members x candidates r true e = starts members (3 * size (without candidates x) + 1) (Phase.Enable false) x (without candidates x) r e (omega arith)
 most-2 members x candidates r false e = clash (ap is_on e) refl
 
-most-3 : (members : ℕ) (r : Run) (a b : Bool) → members < 65536 → eqb members 0 ≡ a → pick (a || b) Next.Over (start (Phase.Versions 0) (lowest members) members) ≡ Next.On r → Most members (11 * size members - 8) r
+most-3 : (members : ℕ) (r : Run) (a b : Bool) → members < 65536 → eqb members 0 ≡ a → pick (a || b) None (start (Phase.Versions 0) (lowest members) members) ≡ Some r → Most members (11 * size members - 8) r
 unfolding possible
 most-3 members r true b h z e = clash (ap is_on e) refl
 most-3 members r false true h z e = clash (ap is_on e) refl
@@ -91,7 +91,7 @@ most-3 members r false false h z e =
     starts members (11 * size members - 8) (Phase.Versions 0) (lowest members) members r e (omega (arith, size-some members (lowest members) k))
 
 most-of : (ro : Roster) (r : Run) → Ok ro → (n m : Bool)
-    → pick (not n) (case1 (ids_of Kind.Normals ro) (ids_of Kind.Candidates ro)) (pick (not m) (case2 (ids_of Kind.Marked ro) (ids_of Kind.Candidates ro)) (case3 ro.members (ids_of (Kind.Strays ro.members) ro))) ≡ Next.On r
+    → pick (not n) (case1 (ids_of Kind.Normals ro) (ids_of Kind.Candidates ro)) (pick (not m) (case2 (ids_of Kind.Marked ro) (ids_of Kind.Candidates ro)) (case3 ro.members (ids_of (Kind.Strays ro.members) ro))) ≡ Some r
     → Most ro.members (pick (not n) (3 * size (ids_of Kind.Candidates ro)) (pick (not m) (3 * size (without (ids_of Kind.Candidates ro) (lowest (ids_of Kind.Marked ro))) + 1) (11 * size ro.members - 8))) r
 most-of ro r v false m e = most-1 ro.members (ids_of Kind.Normals ro) (ids_of Kind.Candidates ro) r (eqb (ids_of Kind.Candidates ro) 0) e
 most-of ro r v true false e =
@@ -99,12 +99,12 @@ most-of ro r v true false e =
 most-of ro r v true true e =
     most-3 ro.members r (eqb ro.members 0) (not (eqb (ids_of (Kind.Strays ro.members) ro) 0)) v.small refl e
 
-pub begun-most : (ro : Roster) (r : Run) → Ok ro → begun ro ≡ Next.On r → Most ro.members (most ro) r
+pub begun-most : (ro : Roster) (r : Run) → Ok ro → begun ro ≡ Some r → Most ro.members (most ro) r
 unfolding begun case_of
 begun-most ro r v = at (ltb version_limit ro.version)
   where
     at : (b : Bool)
-        → pick b Next.Over (pick (not (eqb (ids_of Kind.Normals ro) 0)) (case1 (ids_of Kind.Normals ro) (ids_of Kind.Candidates ro)) (pick (not (eqb (ids_of Kind.Marked ro) 0)) (case2 (ids_of Kind.Marked ro) (ids_of Kind.Candidates ro)) (case3 ro.members (ids_of (Kind.Strays ro.members) ro)))) ≡ Next.On r
+        → pick b None (pick (not (eqb (ids_of Kind.Normals ro) 0)) (case1 (ids_of Kind.Normals ro) (ids_of Kind.Candidates ro)) (pick (not (eqb (ids_of Kind.Marked ro) 0)) (case2 (ids_of Kind.Marked ro) (ids_of Kind.Candidates ro)) (case3 ro.members (ids_of (Kind.Strays ro.members) ro)))) ≡ Some r
         → Most ro.members (most ro) r
     at true e = clash (ap is_on e) refl
     at false e = most-of ro r v (eqb (ids_of Kind.Normals ro) 0) (eqb (ids_of Kind.Marked ro) 0) e

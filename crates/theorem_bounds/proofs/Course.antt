@@ -1,5 +1,6 @@
 -- The course of a run through events, whatever they are: every awaited answer lowers what is still possible and raises the count by one, and all else but a link down
 -- passes it by.
+use Rattle.std.specs.Prelude.{Option, Some, None}
 use mathlib.Core.Path.{◌≡◌, refl, sym, ap, ◌∙◌, subst}
 use mathlib.Core.Bool.{Bool, true, false, not, ◌&&◌, ◌||◌, and-true}
 use mathlib.Core.List.{List, [], ◌∷◌}
@@ -19,8 +20,6 @@ use Rattle.rules_pool.specs.declared.Reply.{Reply}
 use Rattle.rules_pool.specs.declared.Turn.{Turn}
 use Rattle.rules_pool.specs.StateRules.{job_ok}
 use Rattle.rules_pool.specs.Jobs.{is_idle, is_running}
-use Rattle.rules_pool.specs.declared.Who.{Who}
-use Rattle.rules_pool.specs.declared.Next.{Next}
 use Rattle.rules_pool.specs.declared.Move.{Move}
 use Rattle.rules_pool.specs.Run as run
 use Rattle.rules_pool.specs.Still.{possible}
@@ -116,28 +115,28 @@ raised c r h =
     counted-one r.taken (omega (arith, (facts c r h).most, some-possible c r h))
 
 -- a session that becomes NORMAL leaves the membership as it was
-same-members : (w : Who) (ro : Roster) → ro.sync ≡ false → (answers.entered_by w ro).members ≡ ro.members
-same-members Who.Nobody ro e = refl
-same-members (Who.One id) ro e = entered-members ro id
+same-members : (w : Option ℕ) (ro : Roster) → ro.sync ≡ false → (answers.entered_by w ro).members ≡ ro.members
+same-members None ro e = refl
+same-members (Some id) ro e = entered-members ro id
 
 abbrev Ahead : List Event → Type 0
 Ahead es = (c : Pool) (r : Run) → InHand c r → Course (during es c) c r.taken (possible c.roster.members r)
 
 -- a run that sends its message is in hand
-in-hand : (r : Run) (p : Pool) → Valid (gone_on (Next.On r) p).pool → InHand ((gone_on (Next.On r) p).pool) r
+in-hand : (r : Run) (p : Pool) → Valid (gone_on (Some r) p).pool → InHand ((gone_on (Some r) p).pool) r
 unfolding posted
 in-hand r p v = record { valid = v; job = refl }
 
-posted-roster : (r : Run) (p : Pool) → (gone_on (Next.On r) p).pool.roster ≡ p.roster
+posted-roster : (r : Run) (p : Pool) → (gone_on (Some r) p).pool.roster ≡ p.roster
 unfolding posted
 posted-roster r p = refl
 
 -- what follows an awaited answer: nothing where the run is over
-abbrev rest : List Event → Next → Pool → List Event
+abbrev rest : List Event → Option Run → Pool → List Event
 rest es n p = following es (is_running (gone_on n p).pool.job) (gone_on n p).pool
 
 -- the rest of the course, after an answer with which the count is t
-abbrev Onward : List Event → Next → Pool → ℕ → ℕ → Type 0
+abbrev Onward : List Event → Option Run → Pool → ℕ → ℕ → Type 0
 Onward es n p t left =
     (awaited_answers (rest es n p) (gone_on n p).pool < left)
     × (last_count (rest es n p) (gone_on n p).pool t ≡ t + awaited_answers (rest es n p) (gone_on n p).pool)
@@ -152,12 +151,12 @@ goes_on ds c t t' still left k l h = (
   λ u. stands_on (through ds c).job (t + awaited_answers ds c) (t' + awaited_answers ds c) (t + still) (t' + (left - 1)) (ap (λ (x : ℕ). x + awaited_answers ds c) k) (omega (arith, k)) (h.stands u),
 )
 
-onward : (es : List Event) → Ahead es → (n : Next) (p : Pool) (t left : ℕ) → Valid (gone_on n p).pool → Carries t n → still_in p.roster.members n < left → Onward es n p t left
+onward : (es : List Event) → Ahead es → (n : Option Run) (p : Pool) (t left : ℕ) → Valid (gone_on n p).pool → Carries t n → still_in p.roster.members n < left → Onward es n p t left
 unfolding posted
-onward es rec Next.Over p t left v k l = (l, (let z : t ≡ t + 0 = omega arith in z), λ u. tt)
-onward es rec (Next.On r) p t left v k l =
-    goes_on (during es ((gone_on (Next.On r) p).pool)) ((gone_on (Next.On r) p).pool) r.taken t (possible p.roster.members r) left k l
-    (rec ((gone_on (Next.On r) p).pool) r (in-hand r p v))
+onward es rec None p t left v k l = (l, (let z : t ≡ t + 0 = omega arith in z), λ u. tt)
+onward es rec (Some r) p t left v k l =
+    goes_on (during es ((gone_on (Some r) p).pool)) ((gone_on (Some r) p).pool) r.taken t (possible p.roster.members r) left k l
+    (rec ((gone_on (Some r) p).pool) r (in-hand r p v))
 
 -- ---- an awaited answer
 
@@ -300,16 +299,16 @@ idle-stays xs (a ∷ rs) c e = idle-stays xs rs (next (Event.answer xs c.number 
 abbrev Ending : List ℕ → List Reply → Type 0
 Ending xs rs = (c : Pool) (r : Run) → InHand c r → sound_for c xs ≡ true → possible c.roster.members r ≤ length rs → (replied xs rs c).job ≡ Job.Idle
 
-same-chunks : (n : Next) (p : Pool) → (gone_on n p).pool.chunks ≡ p.chunks
+same-chunks : (n : Option Run) (p : Pool) → (gone_on n p).pool.chunks ≡ p.chunks
 unfolding posted
-same-chunks Next.Over p = refl
-same-chunks (Next.On r) p = refl
+same-chunks None p = refl
+same-chunks (Some r) p = refl
 
-on-ending : (xs : List ℕ) (rs : List Reply) → Ending xs rs → (n : Next) (p : Pool) → Valid (gone_on n p).pool → sound_for (gone_on n p).pool xs ≡ true → still_in p.roster.members n ≤ length rs
+on-ending : (xs : List ℕ) (rs : List Reply) → Ending xs rs → (n : Option Run) (p : Pool) → Valid (gone_on n p).pool → sound_for (gone_on n p).pool xs ≡ true → still_in p.roster.members n ≤ length rs
     → (replied xs rs (gone_on n p).pool).job ≡ Job.Idle
-on-ending xs rs rec Next.Over p v s l = idle-stays xs rs (run_ended p) refl
-on-ending xs rs rec (Next.On r) p v s l =
-    rec ((gone_on (Next.On r) p).pool) r (in-hand r p v) s
+on-ending xs rs rec None p v s l = idle-stays xs rs (run_ended p) refl
+on-ending xs rs rec (Some r) p v s l =
+    rec ((gone_on (Some r) p).pool) r (in-hand r p v) s
     (subst (λ (ro : Roster). possible ro.members r ≤ length rs) (sym (posted-roster r p)) l)
 
 reply-ends : (xs : List ℕ) (a : Reply) (rs : List Reply) → Ending xs rs → Ending xs (a ∷ rs)

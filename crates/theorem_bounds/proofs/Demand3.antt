@@ -1,4 +1,5 @@
 -- Demand 3, first half.
+use Rattle.std.specs.Prelude.{Some}
 use mathlib.Core.Path.{◌≡◌, refl, sym, ap, ◌∙◌}
 use mathlib.Core.Bool.{true, false, not, ◌&&◌, ◌||◌}
 use mathlib.Core.List.{List}
@@ -14,7 +15,6 @@ use Rattle.rules_pool.specs.declared.Pool.{Pool}
 use Rattle.rules_pool.specs.declared.Outcome.{Outcome}
 use Rattle.rules_pool.specs.declared.Turn.{Turn}
 use Rattle.rules_pool.specs.Jobs.{is_running}
-use Rattle.rules_pool.specs.declared.Next.{Next}
 use Rattle.rules_pool.specs.Run.{receiver}
 use Rattle.rules_pool.specs.Still.{possible}
 use Rattle.rules_pool.specs.Cases.{begun}
@@ -92,7 +92,7 @@ afresh c e r b =
     same : t.after ≡ tried_in e c
     same = t.idle ∙ ap (λ (ro : Roster). jobless (with_roster c ro)) roster
 
-    case : begun (next e c).roster ≡ Next.On r
+    case : begun (next e c).roster ≡ Some r
     case = sym (ap begun roster) ∙ trial-run t.after r (ap (λ (p : Pool). is_running p.job) t.idle) (sym (ap (λ (p : Pool). p.job) pool) ∙ b.run)
 
 -- ---- the bound

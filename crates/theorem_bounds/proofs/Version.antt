@@ -1,4 +1,5 @@
 -- All messages of a run carry the version that it began with, and its last answer leaves one more.
+use Rattle.std.specs.Prelude.{Option, Some, None}
 use mathlib.Core.Path.{◌≡◌, refl, sym, ap, ◌∙◌, subst}
 use mathlib.Core.Bool.{Bool, true, false, not, ◌&&◌}
 use mathlib.Core.List.{List, [], ◌∷◌}
@@ -20,7 +21,6 @@ use Rattle.rules_pool.specs.declared.Answer.{Answer}
 use Rattle.rules_pool.specs.declared.Reply.{Reply}
 use Rattle.rules_pool.specs.declared.Turn.{Turn}
 use Rattle.rules_pool.specs.Changes.{more}
-use Rattle.rules_pool.specs.declared.Next.{Next}
 use Rattle.rules_pool.specs.declared.Move.{Move}
 use Rattle.rules_pool.specs.Run as run
 use Rattle.rules_pool.specs.Cases.{begun}
@@ -61,15 +61,15 @@ unfolding run.awaited_in
 bears-in members v r = bears-at r.phase members v r
 
 -- the message of a run that goes on, and of one that begins
-bears-next : (n : Next) (p : Pool) (v : ℕ) → p.roster.version ≡ v → Bears v (gone_on n p).awaited
+bears-next : (n : Option Run) (p : Pool) (v : ℕ) → p.roster.version ≡ v → Bears v (gone_on n p).awaited
 unfolding posted
-bears-next Next.Over p v e = tt
-bears-next (Next.On r) p v e = subst (λ (x : ℕ). Bears x (run.awaited_in p.roster.members p.roster.version r)) e (bears-in p.roster.members p.roster.version r)
+bears-next None p v e = tt
+bears-next (Some r) p v e = subst (λ (x : ℕ). Bears x (run.awaited_in p.roster.members p.roster.version r)) e (bears-in p.roster.members p.roster.version r)
 
-bears-first : (n : Next) (p : Pool) → Bears p.roster.version (beginning n p).awaited
+bears-first : (n : Option Run) (p : Pool) → Bears p.roster.version (beginning n p).awaited
 unfolding posted
-bears-first Next.Over p = tt
-bears-first (Next.On r) p = bears-in p.roster.members p.roster.version r
+bears-first None p = tt
+bears-first (Some r) p = bears-in p.roster.members p.roster.version r
 
 bears-tried : (p : Pool) → Bears p.roster.version (tried p).awaited
 unfolding tried

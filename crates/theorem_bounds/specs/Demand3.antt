@@ -1,5 +1,5 @@
 -- Demand 3, first half: a run is over after at most so many awaited answers, whatever they say and whatever comes between.
-use Rattle.std.specs.Prelude.{◌≡◌, Bool, true, false, not, ◌&&◌, ◌||◌, List, [], ◌∷◌, ℕ, ◌+◌, ◌*◌, ◌-◌, ◌≤◌, ◌<◌, eqb, length}
+use Rattle.std.specs.Prelude.{◌≡◌, Bool, true, false, not, ◌&&◌, ◌||◌, List, [], ◌∷◌, ℕ, ◌+◌, ◌*◌, ◌-◌, ◌≤◌, ◌<◌, eqb, length, Some}
 use Rattle.laws_words.specs.Words.{pick, one}
 use Rattle.rules_base.specs.Sets.{without, size, lowest}
 use Rattle.rules_pool.specs.declared.Roster.{Roster}
@@ -14,7 +14,6 @@ use Rattle.rules_pool.specs.declared.Reply.{Reply}
 use Rattle.rules_pool.specs.declared.Kind.{Kind}
 use Rattle.rules_pool.specs.Sessions.{ids_of}
 use Rattle.rules_pool.specs.Jobs.{is_running}
-use Rattle.rules_pool.specs.declared.Next.{Next}
 use Rattle.rules_pool.specs.Run.{receiver}
 use Rattle.rules_pool.specs.Cases.{begun}
 use Rattle.rules_pool.specs.Recovery.{with_roster, jobless, run_ended, tried, disabling_but}
@@ -98,7 +97,7 @@ tried_in e c = jobless (with_roster c (next e c).roster)
 -- the awaited message and its number are those of recovery tried.
 pub record New (c : Pool) (e : Event) (r : Run) : Type 0 where
   pub event : is_answer e ≡ false
-  pub case : begun (next e c).roster ≡ Next.On r
+  pub case : begun (next e c).roster ≡ Some r
   pub count : r.taken ≡ 0
   pub pool : next e c ≡ (tried (tried_in e c)).pool
   pub sent : Sent

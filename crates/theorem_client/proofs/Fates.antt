@@ -1,4 +1,5 @@
 -- What an event makes of the record of each session, and why.
+use Rattle.std.specs.Prelude.{Option, Some, None}
 use mathlib.Core.Path.{◌≡◌, refl, ap, ◌∙◌, sym, subst}
 use mathlib.Core.Logic.{◌≢◌}
 use mathlib.Core.Bool.{Bool, true, false, not, ◌&&◌, ◌||◌}
@@ -13,7 +14,6 @@ use Rattle.rules_base.proofs.Sets.{count_to-none}
 use Rattle.rules_base.specs.Sets.{has, count_to}
 use Rattle.rules_pool.specs.Session.{is_free, is_created, is_normal, is_failed, is_reconnecting, is_removing, is_owed, free, new_session, moved, flagged, marked}
 use Rattle.rules_pool.specs.Table.{legal}
-use Rattle.rules_pool.specs.declared.Brought.{Brought}
 use Rattle.rules_pool.specs.declared.Cause.{Cause}
 use Rattle.rules_pool.specs.declared.Job.{Job}
 use Rattle.rules_pool.specs.declared.Mode.{Mode}
@@ -30,7 +30,6 @@ use Rattle.rules_pool.specs.Sessions.{session_at}
 use Rattle.rules_pool.specs.Changes.{owes, removing}
 use Rattle.rules_pool.specs.declared.Way.{Way}
 use Rattle.rules_pool.specs.Run.{hand, failed_at, failed_answer, version_brought, good_at, good, awaited_at, awaited_in}
-use Rattle.rules_pool.specs.declared.Who.{Who}
 use Rattle.rules_pool.specs.Recovery.{with_roster}
 use Rattle.laws_client.proofs.Exit.{turned}
 use Rattle.rules_pool.specs.Jobs.{is_running}
@@ -306,11 +305,11 @@ write-fate c xs chunk reached id v miss =
 
 -- ---- answers
 
-failed-nobody : (r : Run) → (failed_answer r).normal ≡ Who.Nobody
+failed-nobody : (r : Run) → (failed_answer r).normal ≡ None
 unfolding failed_answer
 failed-nobody r = at r.phase
   where
-    at : (p : Phase) → (failed_at p r).normal ≡ Who.Nobody
+    at : (p : Phase) → (failed_at p r).normal ≡ None
     at (Phase.Versions best) = refl
     at (Phase.Base s) = refl
     at Phase.LastIo = refl
@@ -318,20 +317,20 @@ failed-nobody r = at r.phase
     at (Phase.Enable every) = refl
     at (Phase.Spread s) = refl
 
-nobody-not {ℓ} : {A : Type ℓ} (id : ℕ) (w : Who) → w ≡ Who.Nobody → is_one w id ≡ true → A
-nobody-not id w e o = clash o (ap (λ (w : Who). is_one w id) e)
+nobody-not {ℓ} : {A : Type ℓ} (id : ℕ) (w : Option ℕ) → w ≡ None → is_one w id ≡ true → A
+nobody-not id w e o = clash o (ap (λ (w : Option ℕ). is_one w id) e)
 
 -- one that becomes NORMAL is the one that the awaited message enables
-good-enables : (members version : ℕ) (r : Run) (b : Brought) (id : ℕ) → is_one (good members version r b).normal id ≡ true → enabling (awaited_in members version r) id ≡ true
+good-enables : (members version : ℕ) (r : Run) (b : Option ℕ) (id : ℕ) → is_one (good members version r b).normal id ≡ true → enabling (awaited_in members version r) id ≡ true
 unfolding good awaited_in
 good-enables members version r b id o = at r.phase o
   where
     turn : (x y : ℕ) → eqb x y ≡ true → eqb y x ≡ true
     turn x y e = eq-eqb y x (sym (eqb-true x y e))
 
-    brought : (best : ℕ) (b : Brought) → (version_brought members version best r b).normal ≡ Who.Nobody
-    brought best Brought.Nothing = failed-nobody r
-    brought best (Brought.Version w) = by_cases (ltb version w) (λ e. rw e (failed-nobody r)) (λ e. rw e refl)
+    brought : (best : ℕ) (b : Option ℕ) → (version_brought members version best r b).normal ≡ None
+    brought best None = failed-nobody r
+    brought best (Some w) = by_cases (ltb version w) (λ e. rw e (failed-nobody r)) (λ e. rw e refl)
 
     at : (p : Phase) → is_one (good_at p members version r b).normal id ≡ true → enabling (awaited_at p members version r) id ≡ true
     at (Phase.Versions best) e = nobody-not id (version_brought members version best r b).normal (brought best b) e
@@ -344,19 +343,19 @@ good-enables members version r b id o = at r.phase o
     at (Phase.Spread Step.Done) e = turn id (hand r) e
 
 -- the one that an answer makes NORMAL
-run-fate : (c : Pool) (xs : List ℕ) (number : ℕ) (b : Brought) (id : ℕ) (r : Run) → job_of c ≡ Job.Running r → Valid c → RunOk c.roster r
+run-fate : (c : Pool) (xs : List ℕ) (number : ℕ) (b : Option ℕ) (id : ℕ) (r : Run) → job_of c ≡ Job.Running r → Valid c → RunOk c.roster r
     → is_one (good (members_of c) (version_of c) r b).normal id ≡ true → Has c (Event.answer xs number (Reply.Good b)) id (reported c (good (members_of c) (version_of c) r b)).pool
 run-fate c xs number b id r job v f o = at (good (members_of c) (version_of c) r b).normal refl o
   where
-    at : (w : Who) → (good (members_of c) (version_of c) r b).normal ≡ w → is_one w id ≡ true → Has c (Event.answer xs number (Reply.Good b)) id (reported c (good (members_of c) (version_of c) r b)).pool
-    at Who.Nobody e o' = clash o' refl
-    at (Who.One x) e o' =
+    at : (w : Option ℕ) → (good (members_of c) (version_of c) r b).normal ≡ w → is_one w id ≡ true → Has c (Event.answer xs number (Reply.Good b)) id (reported c (good (members_of c) (version_of c) r b)).pool
+    at None e o' = clash o' refl
+    at (Some x) e o' =
         let same = eqb-true id x o' in
-        let can = run-able c r (Reply.Good b) v f id (e ∙ ap Who.One (sym same)) in
+        let can = run-able c r (Reply.Good b) v f id (e ∙ ap Some (sym same)) in
         let is = reconnecting-is (state_of c id) (and_left (is_reconnecting (state_of c id)) (not (record_of c id).maintenance) can) in
         Fate.goes State.Normal (rw (is, f.plain) refl) (λ n. clash n (rw is refl)) (λ n s. Becomes.answered xs number b r job (good-enables (members_of c) (version_of c) r b id o)) (λ k q. no-cause State.Normal k refl q)
         (ap (λ (ro : Roster). session_at ro id) (run-roster c (good (members_of c) (version_of c) r b))
-        ∙ (ap (λ (w : Who). session_at (entered_by w c.roster) id) (e ∙ ap Who.One (sym same))
+        ∙ (ap (λ (w : Option ℕ). session_at (entered_by w c.roster) id) (e ∙ ap Some (sym same))
         ∙ entered_at c.roster id v.ok.long (candidate-below c.roster id v.ok.long can)))
 
 -- the state of a REMOVING session whose LEAVE_POOL was answered well

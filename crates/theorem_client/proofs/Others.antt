@@ -1,4 +1,5 @@
 -- The sessions that an event is not about keep their records, save that a mark goes when a session enters NORMAL.
+use Rattle.std.specs.Prelude.{Option, Some, None}
 use mathlib.Core.Path.{◌≡◌, refl, ap, ◌∙◌, sym}
 use mathlib.Core.Logic.{◌≢◌}
 use mathlib.Core.Bool.{Bool, true, false, not}
@@ -19,7 +20,6 @@ use Rattle.rules_pool.specs.Sessions.{session_at}
 use Rattle.rules_pool.specs.Changes.{removing}
 use Rattle.rules_pool.specs.declared.Way.{Way}
 use Rattle.rules_pool.specs.Run.{takes}
-use Rattle.rules_pool.specs.declared.Who.{Who}
 use Rattle.rules_pool.specs.Recovery.{with_roster}
 use Rattle.laws_client.proofs.Exit.{turned}
 use Rattle.rules_pool.specs.Jobs.{is_running}
@@ -66,15 +66,15 @@ enable-kept c id j v h ne =
 
 -- ---- answers
 
-other-one : (w : Who) (j id : ℕ) → is_one w j ≡ false → w ≡ Who.One id → j ≢ id
-other-one w j id n e z = clash (eq-eqb j id z) (sym (ap (λ (w : Who). is_one w j) e) ∙ n)
+other-one : (w : Option ℕ) (j id : ℕ) → is_one w j ≡ false → w ≡ Some id → j ≢ id
+other-one w j id n e z = clash (eq-eqb j id z) (sym (ap (λ (w : Option ℕ). is_one w j) e) ∙ n)
 
-run-kept : (c : Pool) (j : ℕ) → Valid c → c.roster.sync ≡ false → (q : Pool) (over : Bool) (w : Who) → is_one w j ≡ false
-    → ((id : ℕ) → w ≡ Who.One id → candidate (session_at c.roster id) ≡ true) → q.roster ≡ raised_if over (entered_by w c.roster) → Keeps c j q
-run-kept c j v plain q over Who.Nobody n able e = Kept.equal (ap (λ (ro : Roster). session_at ro j) e)
-run-kept c j v plain q over (Who.One id) n able e =
+run-kept : (c : Pool) (j : ℕ) → Valid c → c.roster.sync ≡ false → (q : Pool) (over : Bool) (w : Option ℕ) → is_one w j ≡ false
+    → ((id : ℕ) → w ≡ Some id → candidate (session_at c.roster id) ≡ true) → q.roster ≡ raised_if over (entered_by w c.roster) → Keeps c j q
+run-kept c j v plain q over None n able e = Kept.equal (ap (λ (ro : Roster). session_at ro j) e)
+run-kept c j v plain q over (Some id) n able e =
     let can = able id refl in
-    Kept.cleared (ap (λ (ro : Roster). session_at ro j) e ∙ entered-other c.roster id j plain (other-one (Who.One id) j id n refl)) (record {
+    Kept.cleared (ap (λ (ro : Roster). session_at ro j) e ∙ entered-other c.roster id j plain (other-one (Some id) j id n refl)) (record {
       who = id;
       before = candidate-normal (session_at c.roster id) can;
       after = ap (λ (ro : Roster). is_normal (session_at ro id).state) e

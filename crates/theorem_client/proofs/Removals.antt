@@ -1,4 +1,5 @@
 -- What the events of a removal leave of its session, of the member and of the client map; and that no other event frees a session or takes a member out.
+use Rattle.std.specs.Prelude.{Option, Some, None}
 use mathlib.Core.Path.{◌≡◌, refl, ap, ◌∙◌, sym, subst}
 use mathlib.Core.Logic.{◌≢◌}
 use mathlib.Core.Bool.{Bool, true, false, not, ◌&&◌}
@@ -30,7 +31,6 @@ use Rattle.rules_pool.specs.declared.Kind.{Kind}
 use Rattle.rules_pool.specs.Changes.{owes, removing}
 use Rattle.rules_pool.specs.declared.Way.{Way}
 use Rattle.rules_pool.specs.Run.{takes}
-use Rattle.rules_pool.specs.declared.Who.{Who}
 use Rattle.rules_pool.specs.Recovery.{with_roster}
 use Rattle.laws_client.proofs.Exit.{turned}
 use Rattle.rules_pool.specs.Jobs.{is_running}
@@ -406,9 +406,9 @@ unfolding join_create create_done join_assemble assemble_done enable maintenance
 answer-stays xs number a c v p id was =
     turned (Holds id) (answer_refusal c (sound_for c xs) number) _ c was (λ e. at c.job p)
   where
-    one : (w : Who) (over : Bool) (ro : Roster) → ro ≡ raised_if over (entered_by w c.roster) → has ro.members id ≡ true
-    one Who.Nobody over ro e = ap (λ (x : Roster). has x.members id) e ∙ was
-    one (Who.One i) over ro e = ap (λ (x : Roster). has x.members id) e ∙ (ap (λ (n : ℕ). has n id) (entered-numbers c.roster i (is_sync c) refl).held ∙ was)
+    one : (w : Option ℕ) (over : Bool) (ro : Roster) → ro ≡ raised_if over (entered_by w c.roster) → has ro.members id ≡ true
+    one None over ro e = ap (λ (x : Roster). has x.members id) e ∙ was
+    one (Some i) over ro e = ap (λ (x : Roster). has x.members id) e ∙ (ap (λ (n : ℕ). has n id) (entered-numbers c.roster i (is_sync c) refl).held ∙ was)
 
     at : (k : Job) → is_part (answer_part k a) ≡ false → Holds id (answered k c a).pool
     at Job.Idle q = was

@@ -1,4 +1,5 @@
 -- Joins, store check, enable, maintenance, link down: what an accepted one does; and how a session becomes NORMAL.
+use Rattle.std.specs.Prelude.{Option, Some, None}
 use mathlib.Core.Path.{◌≡◌, refl, ap, ◌∙◌, sym}
 use mathlib.Core.Bool.{Bool, true, false}
 use Prim.Native.Nat.{ℕ, max}
@@ -21,7 +22,6 @@ use Rattle.rules_pool.specs.declared.Turn.{Turn}
 use Rattle.rules_pool.specs.Sessions.{session_at}
 use Rattle.rules_pool.specs.Changes.{flagged_at}
 use Rattle.rules_pool.specs.declared.Way.{Way}
-use Rattle.rules_pool.specs.declared.Next.{Next}
 use Rattle.rules_pool.specs.Cases.{begun}
 use Rattle.rules_pool.specs.Recovery.{with_roster, posted, tried, run_ended, beginning}
 use Rattle.rules_pool.specs.Jobs.{is_idle, is_running, peer_at, is_peer}
@@ -100,9 +100,9 @@ pub tried-job : (p : Pool) → p.job ≡ Job.Idle → (tried p).pool.job ≡ rec
 unfolding tried posted
 tried-job p idle = at (begun p.roster) refl
   where
-    at : (n : Next) → begun p.roster ≡ n → (beginning n p).pool.job ≡ begins (begun (beginning n p).pool.roster)
-    at Next.Over e = idle ∙ sym (ap begins e)
-    at (Next.On r) e = sym (ap begins e)
+    at : (n : Option Run) → begun p.roster ≡ n → (beginning n p).pool.job ≡ begins (begun (beginning n p).pool.roster)
+    at None e = idle ∙ sym (ap begins e)
+    at (Some r) e = sym (ap begins e)
 
 -- ---- enable
 

@@ -1,4 +1,6 @@
 -- The chunk count stays, and a sound map that is lent is left sound.
+use Rattle.std.specs.Prelude.{Option, Some, None}
+use Rattle.rules_pool.specs.declared.Run.{Run}
 use mathlib.Core.Path.{◌≡◌, refl, ap}
 use mathlib.Core.Bool.{Bool, true, not, ◌&&◌}
 use mathlib.Core.List.{List}
@@ -21,7 +23,6 @@ use Rattle.rules_pool.specs.declared.Stage.{Stage}
 use Rattle.rules_pool.specs.Sessions.{session_at}
 use Rattle.rules_pool.specs.Changes.{member_dropped}
 use Rattle.rules_pool.specs.Run.{takes}
-use Rattle.rules_pool.specs.declared.Next.{Next}
 use Rattle.rules_pool.specs.Cases.{begun}
 use Rattle.rules_pool.specs.Recovery.{with_roster, posted, tried, run_ended, beginning, gone_on}
 use Rattle.laws_client.proofs.Exit.{turned, pools, halts, turn-of}
@@ -51,14 +52,14 @@ pub tried_same : (p : Pool) → Same p (tried p).pool
 unfolding tried posted
 tried_same p = at (begun p.roster)
   where
-    at : (n : Next) → (beginning n p).pool.chunks ≡ p.chunks
-    at Next.Over = refl
-    at (Next.On r) = refl
+    at : (n : Option Run) → (beginning n p).pool.chunks ≡ p.chunks
+    at None = refl
+    at (Some r) = refl
 
-gone_same : (n : Next) (p : Pool) → (gone_on n p).pool.chunks ≡ p.chunks
+gone_same : (n : Option Run) (p : Pool) → (gone_on n p).pool.chunks ≡ p.chunks
 unfolding posted
-gone_same Next.Over p = refl
-gone_same (Next.On r) p = refl
+gone_same None p = refl
+gone_same (Some r) p = refl
 
 abbrev GoneSame : Pool → Gone → Type 0
 GoneSame p g = g.posted.pool.chunks ≡ p.chunks

@@ -1,4 +1,5 @@
 -- The pool's kind never changes; its version rises by one for each session that left NORMAL and for a run that ended, and at join assemble becomes the larger one.
+use Rattle.std.specs.Prelude.{Option, Some, None}
 use mathlib.Core.Path.{◌≡◌, refl, ap, ◌∙◌, sym}
 use mathlib.Core.Logic.{◌≢◌}
 use mathlib.Core.Bool.{Bool, true, false, not, ◌&&◌, ◌||◌}
@@ -26,7 +27,6 @@ use Rattle.rules_pool.specs.Sessions.{session_at}
 use Rattle.rules_pool.specs.Changes.{more, owes, removing}
 use Rattle.rules_pool.specs.declared.Way.{Way}
 use Rattle.rules_pool.specs.Run.{takes}
-use Rattle.rules_pool.specs.declared.Who.{Who}
 use Rattle.rules_pool.specs.Recovery.{with_roster}
 use Rattle.laws_client.proofs.Exit.{turned, turn-of}
 use Rattle.rules_pool.specs.Exit.{refused}
@@ -313,20 +313,20 @@ write-rises xs chunk reached c v =
     ))
 
 -- an answer in a run makes nobody leave NORMAL
-run-stays : (c : Pool) (q : Pool) (over : Bool) (w : Who) → Valid c → is_sync c ≡ false → ((id : ℕ) → w ≡ Who.One id → candidate (session_at c.roster id) ≡ true)
+run-stays : (c : Pool) (q : Pool) (over : Bool) (w : Option ℕ) → Valid c → is_sync c ≡ false → ((id : ℕ) → w ≡ Some id → candidate (session_at c.roster id) ≡ true)
     → q.roster ≡ raised_if over (entered_by w c.roster) → (j : ℕ) → leaves_normal c (q) j ≡ false
-run-stays c q over Who.Nobody v plain able e j = same-state c (q) j (ap (λ (ro : Roster). (session_at ro j).state) e)
-run-stays c q over (Who.One id) v plain able e j = elim (ℕ_discrete j id) [
+run-stays c q over None v plain able e j = same-state c (q) j (ap (λ (ro : Roster). (session_at ro j).state) e)
+run-stays c q over (Some id) v plain able e j = elim (ℕ_discrete j id) [
   | yes p ↦ was-not c (q) j (rw p (candidate-normal (session_at c.roster id) (able id refl)))
   | no d ↦ same-state c (q) j (ap (λ (ro : Roster). (session_at ro j).state) e ∙ ap (λ (s : Session). s.state) (entered-other c.roster id j plain d))
 ]
 
 -- the one that becomes NORMAL leaves kind and version as they were
-pub entered-same : (w : Who) (c : Pool) → ((entered_by w c.roster).sync ≡ is_sync c) × ((entered_by w c.roster).version ≡ version_of c)
-entered-same Who.Nobody c = (refl, refl)
-entered-same (Who.One id) c = let n = entered-numbers c.roster id (is_sync c) refl in (n.kind, n.versioned)
+pub entered-same : (w : Option ℕ) (c : Pool) → ((entered_by w c.roster).sync ≡ is_sync c) × ((entered_by w c.roster).version ≡ version_of c)
+entered-same None c = (refl, refl)
+entered-same (Some id) c = let n = entered-numbers c.roster id (is_sync c) refl in (n.kind, n.versioned)
 
-run-version : (over : Bool) (c : Pool) (w : Who) → is_sync c ≡ false → version_of c < version_top → (raised_if over (entered_by w c.roster)).version ≡ version_of c + one over
+run-version : (over : Bool) (c : Pool) (w : Option ℕ) → is_sync c ≡ false → version_of c < version_top → (raised_if over (entered_by w c.roster)).version ≡ version_of c + one over
 run-version true c w plain low = ap more (entered-same w c).1 ∙ below_top (version_of c) low
 run-version false c w plain low = (entered-same w c).1 ∙ omega arith
 

@@ -1,5 +1,5 @@
 -- How the theorems read an event of the client: whom it is about, what it may do to the map, its part in a removal, how it comes during a run.
-use Rattle.std.specs.Prelude.{Bool, true, false, not, ◌&&◌, ℕ, eqb}
+use Rattle.std.specs.Prelude.{Bool, true, false, not, ◌&&◌, ℕ, eqb, Option, Some, None}
 use Rattle.rules_base.specs.Sets.{has}
 use Rattle.rules_pool.specs.declared.Mode.{Mode}
 use Rattle.rules_pool.specs.declared.Removal.{Removal}
@@ -10,16 +10,15 @@ use Rattle.rules_pool.specs.declared.Effect.{Effect}
 use Rattle.rules_pool.specs.Session.{is_normal, is_delete, is_deleting}
 use Rattle.rules_pool.specs.declared.Kind.{Kind}
 use Rattle.rules_pool.specs.Sessions.{ids_of}
-use Rattle.rules_pool.specs.declared.Who.{Who}
 use Rattle.rules_pool.specs.Run.{takes}
 use Rattle.rules_client.specs.Extend as Extending
 use Rattle.rules_pool.specs.declared.Pool.{Pool}
 use Rattle.rules_client.specs.Events.{Event, state_of, job_of}
 
 -- the one that an answer makes NORMAL
-abbrev pub is_one : Who → ℕ → Bool
-is_one Who.Nobody j = false
-is_one (Who.One id) j = eqb j id
+abbrev pub is_one : Option ℕ → ℕ → Bool
+is_one None j = false
+is_one (Some id) j = eqb j id
 
 -- no session is left
 abbrev pub nobody_left : Roster → Bool

@@ -1,6 +1,6 @@
 -- What document 01 says of the client's events, in its own words and not by the rules' definitions, so that a misreading can't stand in rule and code alike. With each
 -- statement: the wrong rules that it refuses.
-use Rattle.std.specs.Prelude.{◌≡◌, ◌≢◌, Bool, true, false, ◌&&◌, ◌||◌, not, List, ℕ, ◌+◌, ◌<◌, max, eqb, ltb}
+use Rattle.std.specs.Prelude.{◌≡◌, ◌≢◌, Bool, true, false, ◌&&◌, ◌||◌, not, List, ℕ, ◌+◌, ◌<◌, max, eqb, ltb, Option, Some, None}
 use Rattle.laws_words.specs.Words.{pick, one}
 use Rattle.rules_base.specs.Sets.{has, count_to}
 use Rattle.rules_base.specs.Chunk.{marked_for, dirty}
@@ -18,10 +18,8 @@ use Rattle.rules_pool.specs.declared.Told.{Told}
 use Rattle.rules_pool.specs.declared.Outcome.{Outcome}
 use Rattle.rules_pool.specs.declared.Sent.{Sent}
 use Rattle.rules_pool.specs.declared.Answer.{Answer}
-use Rattle.rules_pool.specs.declared.Brought.{Brought}
 use Rattle.rules_pool.specs.declared.Reply.{Reply}
 use Rattle.rules_pool.specs.Session.{is_free, is_created, is_normal, is_failed, is_reconnecting, is_removing, is_delete, is_deleting, is_owed, is_told}
-use Rattle.rules_pool.specs.declared.Next.{Next}
 use Rattle.rules_pool.specs.Run.{awaited_in}
 use Rattle.rules_pool.specs.Cases.{begun}
 use Rattle.rules_pool.specs.Jobs.{is_running, peer_at}
@@ -62,9 +60,9 @@ abbrev pub sends : Outcome → Told → Answer
 sends outcome told = Answer.Done (record { outcome = outcome; told = told; awaited = Message.Nothing; number = 0 })
 
 -- the job in hand once recovery was tried with the sessions of c: the run that one of the three cases begins, if any
-abbrev pub begins : Next → Job
-begins Next.Over = Job.Idle
-begins (Next.On r) = Job.Running r
+abbrev pub begins : Option Run → Job
+begins None = Job.Idle
+begins (Some r) = Job.Running r
 
 abbrev pub recovery_in : Pool → Job
 recovery_in c = begins (begun c.roster)
@@ -97,7 +95,7 @@ enabling (Message.Info to op member) id = false
 
 pub data Becomes (c : Pool) (id : ℕ) : Event → Type 0 where
   enabled : is_created (state_of c id) ≡ true → Becomes c id (Event.enable id)
-  answered : (xs : List ℕ) (number : ℕ) (b : Brought) (r : Run) → job_of c ≡ Job.Running r → enabling (awaited_in (members_of c) (version_of c) r) id ≡ true → Becomes c id (Event.answer xs number (Reply.Good b))
+  answered : (xs : List ℕ) (number : ℕ) (b : Option ℕ) (r : Run) → job_of c ≡ Job.Running r → enabling (awaited_in (members_of c) (version_of c) r) id ≡ true → Becomes c id (Event.answer xs number (Reply.Good b))
 
 -- "Enable: from CREATED to NORMAL"; "A session becomes NORMAL when its enabling message is answered well": in a pool that is not sync, in no other way. Refused: a store
 -- check, the end of maintenance or a MAP_DONE without enable that makes NORMAL; a session that becomes so for another's message.

@@ -1,4 +1,5 @@
 -- What becomes of every field, event by event.
+use Rattle.std.specs.Prelude.{Option, Some, None}
 use mathlib.Core.Path.{◌≡◌, refl, sym, ap, ◌∙◌, subst}
 use mathlib.Core.Logic.{◌≢◌}
 use mathlib.Core.Bool.{Bool, true, false, not, ◌&&◌, ◌||◌}
@@ -40,7 +41,6 @@ use Rattle.rules_pool.specs.declared.Answer.{Answer}
 use Rattle.rules_pool.specs.declared.Reply.{Reply}
 use Rattle.rules_pool.specs.declared.Turn.{Turn}
 use Rattle.rules_pool.specs.declared.Way.{Way}
-use Rattle.rules_pool.specs.declared.Who.{Who}
 use Rattle.rules_pool.specs.Past.{past_written}
 use Rattle.rules_pool.specs.Breaking.{is_accepted}
 use Rattle.rules_pool.specs.Session.{is_free, is_created, is_normal, is_failed, is_reconnecting, is_removing, is_deleting, moved, flagged, new_session}
@@ -386,9 +386,9 @@ run-low : (p : Pool) (r : Run) → job_ok (Job.Running r) p.roster ≡ true → 
 unfolding run_ok
 run-low p r e = leb-true _ _ (all-at (run_rules p.roster r) 1 e)
 
-disables : (id : ℕ) (w : Who) → IsTold (said.disable_but id w) (disabling_but id w)
-disables id Who.Nobody = refl
-disables id (Who.One x) = at (eqb x id)
+disables : (id : ℕ) (w : Option ℕ) → IsTold (said.disable_but id w) (disabling_but id w)
+disables id None = refl
+disables id (Some x) = at (eqb x id)
   where
     at : (b : Bool) → IsTold (said.not_to b x) (pick b messages.Told.Nothing (messages.Told.Disable x))
     at true = refl

@@ -1,6 +1,6 @@
 -- What becomes of every field where an event of the pool is accepted, sentence by sentence as documents 01 and 02 have it. A field that a clause does not name stays.
 -- Where recovery is tried or a removal goes on its way, the fields are those of the pool in which it is; what that leads to is said in theorem_runs.
-use Rattle.std.specs.Prelude.{◌≡◌, ◌≢◌, ◌⊎◌, ◌↔◌, Bool, true, false, ◌&&◌, ◌||◌, not, List, ℕ, ◌+◌, ◌-◌, ◌<◌, max, eqb, ltb}
+use Rattle.std.specs.Prelude.{◌≡◌, ◌≢◌, ◌⊎◌, ◌↔◌, Bool, true, false, ◌&&◌, ◌||◌, not, List, ℕ, ◌+◌, ◌-◌, ◌<◌, max, eqb, ltb, Option, Some, None}
 use Rattle.laws_words.specs.Words.{pick, one}
 use Rattle.rules_base.specs.Sets.{has, size, count_to, lowest_to}
 use Rattle.rules_base.specs.Chunk.{dirty}
@@ -22,7 +22,6 @@ use Rattle.rules_pool.specs.declared.Outcome.{Outcome}
 use Rattle.rules_pool.specs.declared.Sent.{Sent}
 use Rattle.rules_pool.specs.declared.Answer.{Answer}
 use Rattle.rules_pool.specs.declared.Reply.{Reply}
-use Rattle.rules_pool.specs.declared.Who.{Who}
 use Rattle.rules_pool.specs.Session.{is_free, is_created, is_normal, is_removing, is_deleting, is_nothing}
 use Rattle.rules_pool.specs.Run.{receiver}
 use Rattle.rules_pool.specs.Recovery.{tried}
@@ -196,9 +195,9 @@ abbrev pub not_to : Bool → ℕ → Tells
 not_to true x = Tells.nothing
 not_to false x = Tells.disable x
 
-abbrev pub disable_but : ℕ → Who → Tells
-disable_but id Who.Nobody = Tells.nothing
-disable_but id (Who.One x) = not_to (eqb x id) x
+abbrev pub disable_but : ℕ → Option ℕ → Tells
+disable_but id None = Tells.nothing
+disable_but id (Some x) = not_to (eqb x id) x
 
 -- "An accepted link down during a run ends it too (no MAP_DISABLE to that session); recovery is tried. The result counts awaited answers taken so far in the run"; "so must the end of every run"
 -- raise the version. "Link down of the awaited peer .. is its failed answer": the removal halts.

@@ -1,4 +1,6 @@
 -- What every event leaves of the past: what the answer acknowledges, what is taken over, what a delete empties.
+use Rattle.std.specs.Prelude.{Option, Some, None}
+use Rattle.rules_pool.specs.declared.Run.{Run}
 use mathlib.Core.Path.{◌≡◌, refl, ap, ◌∙◌, sym, subst}
 use mathlib.Core.Bool.{Bool, true, false, not, ◌&&◌, ◌||◌}
 use mathlib.Core.List.{List}
@@ -29,8 +31,6 @@ use Rattle.rules_pool.specs.Session.{is_normal, is_created, is_removing, is_owed
 use Rattle.rules_pool.specs.Sessions.{session_at}
 use Rattle.rules_pool.specs.declared.Way.{Way}
 use Rattle.rules_pool.specs.Changes.{entered, left, failed, went, owes, removing, written, member_dropped, flagged_at}
-use Rattle.rules_pool.specs.declared.Who.{Who}
-use Rattle.rules_pool.specs.declared.Next.{Next}
 use Rattle.rules_pool.specs.declared.Move.{Move}
 use Rattle.rules_pool.specs.Run.{takes}
 use Rattle.rules_pool.specs.Recovery.{with_roster, run_ended, posted, gone_on}
@@ -170,12 +170,12 @@ unfolding check_done went
 check-calm c id =
     either (Calm c) (is_sync c) _ _ (refl, entered-past c.roster id) (refl, tried-calm c (with_roster c (went c.roster id State.Reconnecting)) refl)
 
-run-calm : (n : Next) (w : Who) (p : Pool) → (gone_on n (with_roster p (entered_by w p.roster))).pool.roster.past ≡ p.roster.past
+run-calm : (n : Option Run) (w : Option ℕ) (p : Pool) → (gone_on n (with_roster p (entered_by w p.roster))).pool.roster.past ≡ p.roster.past
 unfolding posted
-run-calm Next.Over Who.Nobody p = refl
-run-calm Next.Over (Who.One id) p = entered-past p.roster id
-run-calm (Next.On r) Who.Nobody p = refl
-run-calm (Next.On r) (Who.One id) p = entered-past p.roster id
+run-calm None None p = refl
+run-calm None (Some id) p = entered-past p.roster id
+run-calm (Some r) None p = refl
+run-calm (Some r) (Some id) p = entered-past p.roster id
 
 -- ---- the two events that remember
 

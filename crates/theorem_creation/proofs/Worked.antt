@@ -1,4 +1,5 @@
 -- The customer's story, and what clears the past: worked histories.
+use Rattle.std.specs.Prelude.{None}
 use mathlib.Core.Path.{◌≡◌, refl}
 use mathlib.Core.Bool.{Bool, true, false, ◌&&◌}
 use mathlib.Core.List.{List, [], ◌∷◌, ◌++◌}
@@ -8,7 +9,6 @@ use Rattle.laws_words.specs.Words.{bit}
 use Rattle.rules_base.specs.Sets.{has, with, without, size, lowest}
 use Rattle.rules_base.specs.Map.{sound, clean_from, spare, room}
 use Rattle.rules_pool.specs.declared.Mode.{Mode}
-use Rattle.rules_pool.specs.declared.Brought.{Brought}
 use Rattle.rules_pool.specs.declared.Reply.{Reply}
 use Rattle.rules_pool.specs.declared.Answer.{Answer}
 use Rattle.rules_pool.specs.declared.Kind.{Kind}
@@ -46,7 +46,7 @@ abbrev pool : Pool
 pool = fresh_pool false 4096
 
 abbrev good : ℕ → Event
-good number = Event.answer zeros number (Reply.Good Brought.Nothing)
+good number = Event.answer zeros number (Reply.Good None)
 
 abbrev normals : List Event → ℕ
 normals es = ids_of Kind.Normals (after es pool).roster

@@ -1,9 +1,8 @@
 -- The premises of document 02's C-15, each a clause.
-use Rattle.std.specs.Prelude.{◌≡◌, true, false, List, ◌≢◌, ℕ}
+use Rattle.std.specs.Prelude.{◌≡◌, true, false, List, ◌≢◌, ℕ, Option}
 use Rattle.rules_base.specs.Sets.{has}
 use Rattle.rules_base.specs.Map.{sound}
 use Rattle.rules_pool.specs.declared.Mode.{Mode}
-use Rattle.rules_pool.specs.declared.Brought.{Brought}
 use Rattle.rules_pool.specs.declared.Reply.{Reply}
 use Rattle.rules_pool.specs.Session.{is_free, is_created, is_normal, is_removing}
 use Rattle.rules_pool.specs.Jobs.{is_idle, is_running}
@@ -43,7 +42,7 @@ pub record Keeps {w : World} (h : History w) (x : Happening) : Type 0 where
   pub deletes : (xs : List ℕ) (j got : ℕ) → x ≡ Happening.client (Event.remove xs j Mode.Delete) got → accepts w (Event.remove xs j Mode.Delete) ≡ true → is_removing (state_in w j) ≡ false
       → (k : ℕ) × (k ≢ j) × (is_normal (state_in w k) ≡ true)
   -- added: a good answer in a run is what the node answered; a failed one says nothing
-  pub answers : (xs : List ℕ) (number got : ℕ) (b : Brought) → x ≡ Happening.client (Event.answer xs number (Reply.Good b)) got → accepts w (Event.answer xs number (Reply.Good b)) ≡ true
+  pub answers : (xs : List ℕ) (number got : ℕ) (b : Option ℕ) → x ≡ Happening.client (Event.answer xs number (Reply.Good b)) got → accepts w (Event.answer xs number (Reply.Good b)) ≡ true
       → is_running w.pool.job ≡ true → w.fate ≡ Fate.came (Reply.Good b)
   -- C-20: "its node, registered for adding with version 0"
   pub new : (xs : List ℕ) (got : ℕ) → x ≡ Happening.client (Event.extend xs) got → accepts w (Event.extend xs) ≡ true

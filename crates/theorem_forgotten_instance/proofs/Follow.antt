@@ -1,5 +1,6 @@
 -- A history followed by computing. Of the world: the pool, the states of the nodes 0, 1 and 2, what is awaited. Of the history: who joined, and what is owed of chunk 3. The nodes' bytes are not computed;
 -- that they stay sound is a law. The pool has twelve chunks.
+use Rattle.std.specs.Prelude.{Option, Some, None}
 use mathlib.Core.Bool.{Bool, true, false, ◌&&◌, ◌||◌, not}
 use mathlib.Core.List.{List, [], ◌∷◌}
 use Prim.Native.Nat.{ℕ, zero, suc, ◌+◌}
@@ -8,7 +9,6 @@ use Rattle.laws_words.specs.Words.{pick}
 use Rattle.rules_base.specs.Sets.{has}
 use Rattle.rules_pool.specs.declared.Mode.{Mode}
 use Rattle.rules_pool.specs.declared.Message.{Message}
-use Rattle.rules_pool.specs.declared.Brought.{Brought}
 use Rattle.rules_pool.specs.declared.Reply.{Reply}
 use Rattle.rules_pool.specs.declared.Answer.{Answer}
 use Rattle.rules_pool.specs.declared.Pool.{Pool}
@@ -28,7 +28,6 @@ use Rattle.rules_client.specs.Answers.{answer}
 use Rattle.rules_pool.specs.Breaking.{is_accepted, acknowledges}
 use Rattle.rules_client.specs.Events.{Event}
 use Rattle.rules_node.specs.declared.Node.{Node}
-use Rattle.rules_node.specs.declared.Transfer.{Transfer}
 use Rattle.rules_node.specs.States.{is_serving}
 use Rattle.rules_node.specs.Change.{fresh}
 use Rattle.rules_node.specs.Events as storage
@@ -253,7 +252,7 @@ abbrev pub arrived : Message → View → View
 arrived Message.Nothing v = v
 arrived (Message.GetVersion to) v = one_heard v to storage.Event.map_get_ver
 arrived (Message.Ready to keep) v = one_heard v to (storage.Event.map_ready keep)
-arrived (Message.Send from to) v = heard v (with v.nodes to (map_taken (at v.nodes to))) (Reply.Good Brought.Nothing)
+arrived (Message.Send from to) v = heard v (with v.nodes to (map_taken (at v.nodes to))) (Reply.Good None)
 arrived (Message.Done to enable version members) v = one_heard v to (storage.Event.map_done enable version members)
 arrived (Message.LastIo to chosen) v = one_heard v to (storage.Event.last_io_to_map chosen)
 arrived (Message.Enable to version members) v = one_heard v to (storage.Event.enable1 version members)
@@ -310,9 +309,9 @@ abbrev pub is_under_way : Fate → Bool
 is_under_way Fate.under_way = true
 is_under_way (Fate.came r) = false
 
-abbrev pub is_begun : Transfer → Bool
-is_begun Transfer.Nothing = false
-is_begun (Transfer.InHand n) = eqb n 0
+abbrev pub is_begun : Option ℕ → Bool
+is_begun None = false
+is_begun (Some n) = eqb n 0
 
 -- a whole map can be given and taken
 abbrev pub carries_to : Message → View → Bool

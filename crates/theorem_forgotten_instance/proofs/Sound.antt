@@ -1,4 +1,5 @@
 -- What is followed is so: of each item that keeps the premises by the tests, the premises hold of what happens, and the world goes on as computed.
+use Rattle.std.specs.Prelude.{Option, Some, None}
 use mathlib.Core.Path.{◌≡◌, refl, sym, ap, ◌∙◌, subst}
 use mathlib.Core.Bool.{Bool, true, false, ◌&&◌, ◌||◌, not}
 use mathlib.Core.List.{List, [], ◌∷◌}
@@ -15,7 +16,6 @@ use Rattle.rules_base.proofs.Sets.{has-none, has-below}
 use Rattle.rules_base.specs.Map.{sound}
 use Rattle.rules_pool.specs.declared.Mode.{Mode}
 use Rattle.rules_pool.specs.declared.Message.{Message}
-use Rattle.rules_pool.specs.declared.Brought.{Brought}
 use Rattle.rules_pool.specs.declared.Reply.{Reply}
 use Rattle.rules_pool.specs.declared.Answer.{Answer}
 use Rattle.rules_pool.specs.declared.Run.{Run}
@@ -38,7 +38,6 @@ use Rattle.rules_pool.specs.Breaking as breaking
 use Rattle.rules_client.specs.Client.{extend_turn, remove_turn, write_turn, answer_turn}
 use Rattle.rules_client.specs.Events.{Event, turn_of}
 use Rattle.rules_node.specs.declared.Node.{Node}
-use Rattle.rules_node.specs.declared.Transfer.{Transfer}
 use Rattle.rules_node.specs.States.{is_serving}
 use Rattle.rules_node.specs.Change.{fresh}
 use Rattle.rules_node.specs.Events as storage
@@ -402,9 +401,9 @@ module _ (v : View) (w : World) (h : History w) (a : At v w h) where
         (put to (does (w.nodes to) e).station (node_after e (at v.nodes to)) (went to b e))
         (ap reply_of (answer-of w.pool.chunks to (w.nodes to) (sane to) e ∙ ap (λ (n : Node). (storage.turn_of e n 0).answer) (a.nodes to b)))
 
-    begun-is : (t : Transfer) → is_begun t ≡ true → t ≡ Transfer.InHand 0
-    begun-is Transfer.Nothing e = clash e refl
-    begun-is (Transfer.InHand n) e = ap Transfer.InHand (eqb-true n 0 e)
+    begun-is : (t : Option ℕ) → is_begun t ≡ true → t ≡ Some 0
+    begun-is None e = clash e refl
+    begun-is (Some n) e = ap Some (eqb-true n 0 e)
 
     fine-at : (j : ℕ) → j < 3 → is_serving (at v.nodes j) ≡ true → Fine w.pool.chunks j (w.nodes j)
     fine-at j b e =
@@ -420,9 +419,9 @@ module _ (v : View) (w : World) (h : History w) (a : At v w h) where
         let g' = and_right (not (eqb from to)) _ g in
         let g'' = and_right (is_serving (at v.nodes from)) _ g' in
         let ne : from ≢ to = eqb-false from to (false_of (eqb from to) (and_left (not (eqb from to)) _ g)) in
-        let tr : (w.nodes to).node.transfer ≡ Transfer.InHand 0 = ap (λ (n : Node). n.transfer) (a.nodes to bt) ∙ begun-is (at v.nodes to).transfer (and_right (is_serving (at v.nodes to)) _ g'') in
+        let tr : (w.nodes to).node.transfer ≡ Some 0 = ap (λ (n : Node). n.transfer) (a.nodes to bt) ∙ begun-is (at v.nodes to).transfer (and_right (is_serving (at v.nodes to)) _ g'') in
         let d = sent-law w.pool.chunks from to (cuts 0) w.nodes (whole-cuts 0) ne (fine-at from bf (and_left (is_serving (at v.nodes from)) _ g')) (fine-at to bt (and_left (is_serving (at v.nodes to)) _ g'')) tr in
-        heard-at (record { nodes = upd w.nodes to (took_in (w.nodes from).map (w.nodes to)); reply = Reply.Good Brought.Nothing }) _ _ (ap (λ (x : Message). deliver (cuts 0) x w.nodes) (a.awaited ∙ q) ∙ d)
+        heard-at (record { nodes = upd w.nodes to (took_in (w.nodes from).map (w.nodes to)); reply = Reply.Good None }) _ _ (ap (λ (x : Message). deliver (cuts 0) x w.nodes) (a.awaited ∙ q) ∙ d)
         (put to (took_in (w.nodes from).map (w.nodes to)) (map_taken (at v.nodes to)) (ap map_taken (a.nodes to bt)))
         refl
 

@@ -1,4 +1,5 @@
 -- Which run begins in each case, and that none begins in a sync pool or above the version limit.
+use Rattle.std.specs.Prelude.{Option, Some, None}
 use mathlib.Core.Path.{◌≡◌, refl}
 use mathlib.Core.Bool.{Bool, true, false, not, ◌||◌}
 use mathlib.Core.Logic.{◌≢◌}
@@ -19,7 +20,6 @@ use Rattle.rules_pool.specs.declared.Roster.{Roster}
 use Rattle.rules_pool.specs.Session.{is_reconnecting}
 use Rattle.rules_pool.specs.declared.Kind.{Kind}
 use Rattle.rules_pool.specs.Sessions.{session_at, misplaced, unsynced, odd, ids_of}
-use Rattle.rules_pool.specs.declared.Next.{Next}
 use Rattle.rules_pool.specs.Cases.{case_of, begun}
 use Rattle.laws_client.proofs.Ids.{none-ids}
 use Rattle.laws_client.proofs.Rosters.{Ok}
@@ -27,7 +27,7 @@ use Rattle.theorem_honest.proofs.Course.{at}
 
 -- ---- which run begins
 
-over-on {ℓ} : {A : Type ℓ} (r : Run) → Next.Over ≡ Next.On r → A
+over-on {ℓ} : {A : Type ℓ} (r : Run) → None ≡ Some r → A
 over-on r e = absurd (let z : ◌≡◌ {A = ℕ} 0 1 = cc in let y : ⊥ = omega arith in y)
 
 pub some-lowest : (l : ℕ) → l < 65536 → l ≢ 0 → lowest l < 16
@@ -36,17 +36,17 @@ some-lowest l h n =
     (λ e. let q : lowest l ≢ 16 = eqb-false (lowest l) 16 e in omega (arith, lowest-le l, q))
 
 -- what picks gives a run: the test does not hold, and the rest gives it
-not-over : (b : Bool) (n : Next) (r : Run) → pick b Next.Over n ≡ Next.On r → (b ≡ false) × (n ≡ Next.On r)
+not-over : (b : Bool) (n : Option Run) (r : Run) → pick b None n ≡ Some r → (b ≡ false) × (n ≡ Some r)
 not-over true n r e = over-on r e
 not-over false n r e = (refl, e)
 
-does-begin : (b : Bool) (n : Next) (r : Run) → pick b n Next.Over ≡ Next.On r → (b ≡ true) × (n ≡ Next.On r)
+does-begin : (b : Bool) (n : Option Run) (r : Run) → pick b n None ≡ Some r → (b ≡ true) × (n ≡ Some r)
 does-begin true n r e = (refl, e)
 does-begin false n r e = over-on r e
 
-module _ (ro : Roster) (r : Run) (e : begun ro ≡ Next.On r) where
+module _ (ro : Roster) (r : Run) (e : begun ro ≡ Some r) where
   begun-parts : (ltb version_limit ro.version ≡ false)
-      × (case_of (ids_of Kind.Normals ro) (ids_of Kind.Candidates ro) (ids_of Kind.Marked ro) (ids_of (Kind.Strays ro.members) ro) ro.members ≡ Next.On r)
+      × (case_of (ids_of Kind.Normals ro) (ids_of Kind.Candidates ro) (ids_of Kind.Marked ro) (ids_of (Kind.Strays ro.members) ro) ro.members ≡ Some r)
   unfolding begun
   begun-parts = not-over _ _ r e
 
@@ -93,7 +93,7 @@ synced-plain true members j s e h =
     (c.0, (or-none s.maintenance _ c.1).1)
 synced-plain false members j s e h = clash e refl
 
-pub begun-plain : (ro : Roster) (r : Run) → begun ro ≡ Next.On r → Ok ro → ro.sync ≡ false
+pub begun-plain : (ro : Roster) (r : Run) → begun ro ≡ Some r → Ok ro → ro.sync ≡ false
 begun-plain ro r e v = by_cases ro.sync (λ s. absurd (never s)) (λ s. s)
   where
     never : ro.sync ≡ true → ⊥

@@ -1,4 +1,5 @@
 -- The three cases: which run begins in each, and what it comes to among honest nodes.
+use Rattle.std.specs.Prelude.{Option, Some}
 use mathlib.Core.Path.{◌≡◌, refl, sym, ap, ◌∙◌}
 use mathlib.Core.Bool.{Bool, true, false, not, ◌&&◌, ◌||◌}
 use mathlib.Core.Logic.{◌≢◌}
@@ -24,7 +25,6 @@ use Rattle.rules_pool.specs.declared.Pool.{Pool}
 use Rattle.rules_pool.specs.Session.{candidate}
 use Rattle.rules_pool.specs.declared.Kind.{Kind}
 use Rattle.rules_pool.specs.Sessions.{session_at, ids_of}
-use Rattle.rules_pool.specs.declared.Next.{Next}
 use Rattle.laws_client.proofs.Ids.{ids-has, ids-lt}
 use Rattle.laws_client.proofs.Rosters.{Ok}
 use Rattle.laws_client.proofs.Pools as pools
@@ -117,13 +117,13 @@ case-1 p w normals h =
     }
 
     c₀ : Course
-    c₀ = course ro (Next.On h.begins.run) 0 w.nodes
+    c₀ = course ro (Some h.begins.run) 0 w.nodes
 
     sim : Sim cut p.roster.members p.roster.version w c₀
     sim = sim-begins p w h.begins h.cuts
 
     starts : course ro (spread_head src l 0) 0 w.nodes ≡ c₀
-    starts = ap (λ (n : Next). course ro n 0 w.nodes) (head-some spread 0 src l 0 low ∙ ap Next.On run)
+    starts = ap (λ (n : Option Run). course ro n 0 w.nodes) (head-some spread 0 src l 0 low ∙ ap Some run)
 
     ends : Spreads p.roster.members p.roster.version p.chunks src l 0 ro w.nodes (steps cut p.roster.members p.roster.version (3 * size l) c₀)
     ends = rw starts at (spreads cut p.roster.members p.roster.version p.chunks (begun-limit p.roster h.begins.run h.begins.began) v.ok.small src l small ro 0 w.nodes v.ok.long (omega (arith, size-le l)) can)
@@ -206,13 +206,13 @@ case-2 p w normals marked h =
     }
 
     c₀ : Course
-    c₀ = course ro (Next.On h.begins.run) 0 w.nodes
+    c₀ = course ro (Some h.begins.run) 0 w.nodes
 
     sim : Sim cut p.roster.members p.roster.version w c₀
     sim = sim-begins p w h.begins h.cuts
 
-    starts : course ro (Next.On (at (Phase.Enable false) src l 0)) 0 w.nodes ≡ c₀
-    starts = ap (λ (r : Run). course ro (Next.On r) 0 w.nodes) b.1
+    starts : course ro (Some (at (Phase.Enable false) src l 0)) 0 w.nodes ≡ c₀
+    starts = ap (λ (r : Run). course ro (Some r) 0 w.nodes) b.1
 
     ends : Enabled p.roster.members p.roster.version p.chunks src l 0 ro w.nodes (steps cut p.roster.members p.roster.version (3 * size l + 1) c₀)
     ends = rw starts at (enable-spread cut p.roster.members p.roster.version p.chunks hv v.ok.small src own false ro l 0 w.nodes v.ok.long small (omega (arith, size-le l)) can)
@@ -316,10 +316,10 @@ case-3 p w normals marked h =
     fs = λ j q. fine p.chunks j (w.nodes j) (has-below m j q) (h.able j q)
 
     c₀ : Course
-    c₀ = course ro (Next.On h.begins.run) 0 w.nodes
+    c₀ = course ro (Some h.begins.run) 0 w.nodes
 
     starts : course ro (versions_head m 0 (lowest m) m 0) 0 w.nodes ≡ c₀
-    starts = rw (some m low) (ap (λ (r : Run). course ro (Next.On r) 0 w.nodes) b.1)
+    starts = rw (some m low) (ap (λ (r : Run). course ro (Some r) 0 w.nodes) b.1)
 
     choice : Chose cut p.roster.members p.roster.version ro w.nodes (size p.roster.members) 0 (course ro (versions_head m 0 (lowest m) m 0) 0 w.nodes)
     choice = choosing cut m p.roster.version p.chunks ro w.nodes fs h.versions 0 hm low (omega (arith, size-le m))
@@ -339,7 +339,7 @@ case-3 p w normals marked h =
     n₂ : ℕ
     n₂ = 3 * size o + (k + 3 * size o)
 
-    mid : Passed cut p.roster.members p.roster.version p.chunks ro (λ q. Next.On (at (Phase.Enable true) src o q)) n₂ (0 + k) (course ro (base_head m src o (0 + k)) (0 + k) w.nodes) (Prepared p.roster.members src w.nodes)
+    mid : Passed cut p.roster.members p.roster.version p.chunks ro (λ q. Some (at (Phase.Enable true) src o q)) n₂ (0 + k) (course ro (base_head m src o (0 + k)) (0 + k) w.nodes) (Prepared p.roster.members src w.nodes)
     mid = middle cut m p.roster.version p.chunks hv hm src own ro (0 + k) w.nodes (omega (arith, size-le m, fewer)) fs
 
     can : CanSpread p.roster.members p.chunks src o mid.nodes
@@ -354,7 +354,7 @@ case-3 p w normals marked h =
     total = omega (arith, fewer)
 
     reach : steps cut p.roster.members p.roster.version (11 * k - 8) c₀
-        ≡ steps cut p.roster.members p.roster.version (3 * size o + 1) (course ro (Next.On (at (Phase.Enable true) src o (0 + k + n₂))) (0 + k + n₂) mid.nodes)
+        ≡ steps cut p.roster.members p.roster.version (3 * size o + 1) (course ro (Some (at (Phase.Enable true) src o (0 + k + n₂))) (0 + k + n₂) mid.nodes)
     reach =
         ap (steps cut m p.roster.version (11 * k - 8)) (sym starts)
         ∙ (ap (λ (q : ℕ). steps cut m p.roster.version q (course ro (versions_head m 0 (lowest m) m 0) 0 w.nodes)) split

@@ -1,4 +1,5 @@
 -- Case 3: the versions asked in turn, lowest id first. The chosen has the highest version, and of those that have it the lowest id.
+use Rattle.std.specs.Prelude.{Some}
 use mathlib.Core.Path.{◌≡◌, refl, sym, ap, ◌∙◌}
 use mathlib.Core.Bool.{true, false}
 use Prim.Native.Nat.{ℕ, ◌+◌, ◌≤◌, ◌<◌}
@@ -13,7 +14,6 @@ use Rattle.rules_base.specs.Sets.{has, without, size, lowest}
 use Rattle.rules_base.proofs.Sets.{has-none, has-without-same, has-without-other, still, lowest-in, lowest-first, size-zero}
 use Rattle.rules_pool.specs.declared.Phase.{Phase}
 use Rattle.rules_pool.specs.declared.Roster.{Roster}
-use Rattle.rules_pool.specs.declared.Next.{Next}
 use Rattle.rules_pool.specs.Run.{awaited_in, good}
 use Rattle.rules_world.specs.Station.{Station}
 use Rattle.theorem_honest.specs.Demand.{Chosen}
@@ -97,7 +97,7 @@ module _ (cut : Cutting) (m v c : ℕ) (ro : Roster) (f : ℕ → Station) (fs :
   ver j = (f j).node.version
 
   ask-step : (best src l t u : ℕ) → t < answer_limit → has m (lowest l) ≡ true
-      → step cut m v (course ro (Next.On (at (Phase.Versions best) src l t)) u f)
+      → step cut m v (course ro (Some (at (Phase.Versions best) src l t)) u f)
       ≡ course ro (versions_head m (pick (ltb best (f (lowest l)).node.version) (f (lowest l)).node.version best) (pick (ltb best (f (lowest l)).node.version) (lowest l) src) (without l (lowest l)) (t + 1)) (t + 1) f
   unfolding step awaited_in good
   ask-step best src l t u h q = rw (asked-law c (lowest l) (f (lowest l)) (fs (lowest l) q), le-ltb v (f (lowest l)).node.version (few (lowest l) q), upd-back f (lowest l), counted-one t h)

@@ -1,5 +1,6 @@
 -- The course of a run without message numbers and refusals: each exchange is what the run's own rules say of the answer that the nodes give. Sim shows
 -- that the client's events follow it.
+use Rattle.std.specs.Prelude.{Option, Some, None}
 use mathlib.Core.Path.{◌≡◌}
 use mathlib.Core.Bool.{Bool, true, false}
 use mathlib.Core.Logic.{◌≢◌}
@@ -15,12 +16,10 @@ use Rattle.rules_pool.specs.declared.Phase.{Phase}
 use Rattle.rules_pool.specs.declared.Run.{Run}
 use Rattle.rules_pool.specs.declared.Roster.{Roster}
 use Rattle.rules_pool.specs.Changes.{entered}
-use Rattle.rules_pool.specs.declared.Next.{Next}
 use Rattle.rules_pool.specs.declared.Move.{Move}
 use Rattle.rules_pool.specs.Run.{takes, good, awaited_in}
 use Rattle.laws_client.proofs.RunBound.{counted-one}
 use Rattle.rules_client.specs.Answers.{entered_by}
-use Rattle.rules_node.specs.declared.Transfer.{Transfer}
 use Rattle.rules_node.specs.Cuts.{Cuts}
 use Rattle.rules_world.specs.Station.{Station}
 use Rattle.rules_pool.specs.Recovery.{disabling}
@@ -37,11 +36,11 @@ pub record Cutting : Type 0 where
 -- the sessions, how the run goes on, the answers taken, the nodes
 pub record Course : Type 0 where
   pub roster : Roster
-  pub next : Next
+  pub next : Option Run
   pub taken : ℕ
   pub nodes : ℕ → Station
 
-abbrev pub course : Roster → Next → ℕ → (ℕ → Station) → Course
+abbrev pub course : Roster → Option Run → ℕ → (ℕ → Station) → Course
 course ro n t f = record { roster = ro; next = n; taken = t; nodes = f }
 
 abbrev pub moved_on : Roster → (ℕ → Station) → Move → Course
@@ -51,9 +50,9 @@ moved_on ro f m = course (entered_by m.normal ro) m.next m.taken (tell (disablin
 abbrev pub step_in : ℕ → ℕ → Run → Roster → Delivered → Course
 step_in members version r ro d = moved_on ro d.nodes (takes members version r d.reply)
 
-abbrev pub step_at : Next → Cutting → ℕ → ℕ → Course → Course
-step_at Next.Over cut members version c = c
-step_at (Next.On r) cut members version c = step_in members version r c.roster (deliver (cut.lengths r.taken) (awaited_in members version r) c.nodes)
+abbrev pub step_at : Option Run → Cutting → ℕ → ℕ → Course → Course
+step_at None cut members version c = c
+step_at (Some r) cut members version c = step_in members version r c.roster (deliver (cut.lengths r.taken) (awaited_in members version r) c.nodes)
 
 unfoldable pub step : Cutting → ℕ → ℕ → Course → Course
 step cut members version c = step_at c.next cut members version c
@@ -80,20 +79,20 @@ steps-three cut m v n c = let e : 3 * (n + 1) ≡ suc (suc (suc (3 * n))) = omeg
 abbrev pub at : Phase → ℕ → ℕ → ℕ → Run
 at p src l t = record { phase = p; source = src; left = l; taken = t }
 
-abbrev pub spread_head : ℕ → ℕ → ℕ → Next
-spread_head src l t = pick (eqb l 0) Next.Over (Next.On (at (Phase.Spread Step.Ready) src l t))
+abbrev pub spread_head : ℕ → ℕ → ℕ → Option Run
+spread_head src l t = pick (eqb l 0) None (Some (at (Phase.Spread Step.Ready) src l t))
 
-abbrev pub gather_head : ℕ → ℕ → ℕ → ℕ → Next
-gather_head m src l t = pick (eqb l 0) (Next.On (at (Phase.Enable true) src (without m src) t)) (Next.On (at (Phase.Gather Step.Ready) src l t))
+abbrev pub gather_head : ℕ → ℕ → ℕ → ℕ → Option Run
+gather_head m src l t = pick (eqb l 0) (Some (at (Phase.Enable true) src (without m src) t)) (Some (at (Phase.Gather Step.Ready) src l t))
 
-abbrev pub last_head : ℕ → ℕ → ℕ → ℕ → Next
-last_head m src l t = pick (eqb l 0) (gather_head m src (without m src) t) (Next.On (at Phase.LastIo src l t))
+abbrev pub last_head : ℕ → ℕ → ℕ → ℕ → Option Run
+last_head m src l t = pick (eqb l 0) (gather_head m src (without m src) t) (Some (at Phase.LastIo src l t))
 
-abbrev pub base_head : ℕ → ℕ → ℕ → ℕ → Next
-base_head m src l t = pick (eqb l 0) (last_head m src m t) (Next.On (at (Phase.Base Step.Ready) src l t))
+abbrev pub base_head : ℕ → ℕ → ℕ → ℕ → Option Run
+base_head m src l t = pick (eqb l 0) (last_head m src m t) (Some (at (Phase.Base Step.Ready) src l t))
 
-abbrev pub versions_head : ℕ → ℕ → ℕ → ℕ → ℕ → Next
-versions_head m best src l t = pick (eqb l 0) (base_head m src (without m src) t) (Next.On (at (Phase.Versions best) src l t))
+abbrev pub versions_head : ℕ → ℕ → ℕ → ℕ → ℕ → Option Run
+versions_head m best src l t = pick (eqb l 0) (base_head m src (without m src) t) (Some (at (Phase.Versions best) src l t))
 
 -- ---- the three spreads
 
@@ -132,12 +131,12 @@ ups base ro x = ro
 ups gather ro x = ro
 ups spread ro x = entered ro x
 
-abbrev pub head_of : Kind → ℕ → ℕ → ℕ → ℕ → Next
+abbrev pub head_of : Kind → ℕ → ℕ → ℕ → ℕ → Option Run
 head_of base m src l t = base_head m src l t
 head_of gather m src l t = gather_head m src l t
 head_of spread m src l t = spread_head src l t
 
-pub head-some : (k : Kind) (m src l t : ℕ) → lowest l < 16 → head_of k m src l t ≡ Next.On (at (phase_of k Step.Ready) src l t)
+pub head-some : (k : Kind) (m src l t : ℕ) → lowest l < 16 → head_of k m src l t ≡ Some (at (phase_of k Step.Ready) src l t)
 head-some base m src l t h = rw (some l h)
 head-some gather m src l t h = rw (some l h)
 head-some spread m src l t h = rw (some l h)
@@ -150,8 +149,8 @@ spread_to k m v a b = done_to (on k) v m (took_in a.map (ready_to (keep k) b))
 
 module _ (cut : Cutting) (m v c : ℕ) where
   ready : (k : Kind) (ro : Roster) (src l t u : ℕ) (f : ℕ → Station) → t < answer_limit → Fine c (to k src (lowest l)) (f (to k src (lowest l)))
-      → step cut m v (course ro (Next.On (at (phase_of k Step.Ready) src l t)) u f)
-      ≡ course ro (Next.On (at (phase_of k Step.Send) src l (t + 1))) (t + 1) (upd f (to k src (lowest l)) (ready_to (keep k) (f (to k src (lowest l)))))
+      → step cut m v (course ro (Some (at (phase_of k Step.Ready) src l t)) u f)
+      ≡ course ro (Some (at (phase_of k Step.Send) src l (t + 1))) (t + 1) (upd f (to k src (lowest l)) (ready_to (keep k) (f (to k src (lowest l)))))
   unfolding step awaited_in good
   ready base ro src l t u f h a = rw (readies-law c (lowest l) false (f (lowest l)) a, counted-one t h)
   ready gather ro src l t u f h a = rw (readies-law c src true (f src) a, counted-one t h)
@@ -160,9 +159,9 @@ module _ (cut : Cutting) (m v c : ℕ) where
   send : (k : Kind) (ro : Roster) (src l t u : ℕ) (f : ℕ → Station) → t < answer_limit
       → from k src (lowest l) ≢ to k src (lowest l)
       → Fine c (from k src (lowest l)) (f (from k src (lowest l))) → Fine c (to k src (lowest l)) (f (to k src (lowest l)))
-      → (f (to k src (lowest l))).node.transfer ≡ Transfer.InHand 0
-      → step cut m v (course ro (Next.On (at (phase_of k Step.Send) src l t)) u f)
-      ≡ course ro (Next.On (at (phase_of k Step.Done) src l (t + 1))) (t + 1) (upd f (to k src (lowest l)) (took_in (f (from k src (lowest l))).map (f (to k src (lowest l)))))
+      → (f (to k src (lowest l))).node.transfer ≡ Some 0
+      → step cut m v (course ro (Some (at (phase_of k Step.Send) src l t)) u f)
+      ≡ course ro (Some (at (phase_of k Step.Done) src l (t + 1))) (t + 1) (upd f (to k src (lowest l)) (took_in (f (from k src (lowest l))).map (f (to k src (lowest l)))))
   unfolding step awaited_in good
   send base ro src l t u f h ne a b i = rw (sent-law c src (lowest l) (cut.lengths t) f (cut.cuts t) ne a b i, counted-one t h)
   send gather ro src l t u f h ne a b i = rw (sent-law c (lowest l) src (cut.lengths t) f (cut.cuts t) ne a b i, counted-one t h)
@@ -171,7 +170,7 @@ module _ (cut : Cutting) (m v c : ℕ) where
   module _ (hv : v ≤ version_limit) (hm : m < 65536) where
     finish : (k : Kind) (ro : Roster) (src l t u : ℕ) (f : ℕ → Station) → t < answer_limit → Fine c (to k src (lowest l)) (f (to k src (lowest l)))
         → Rattle.rules_node.specs.States.is_whole (f (to k src (lowest l))).node.transfer ≡ true → has m (to k src (lowest l)) ≡ true
-        → step cut m v (course ro (Next.On (at (phase_of k Step.Done) src l t)) u f)
+        → step cut m v (course ro (Some (at (phase_of k Step.Done) src l t)) u f)
         ≡ course (ups k ro (lowest l)) (head_of k m src (without l (lowest l)) (t + 1)) (t + 1) (upd f (to k src (lowest l)) (done_to (on k) v m (f (to k src (lowest l)))))
     unfolding step awaited_in good
     finish base ro src l t u f h a i own = rw (commits-law c (lowest l) false v m (f (lowest l)) a i hv hm own, counted-one t h)
@@ -182,7 +181,7 @@ module _ (cut : Cutting) (m v c : ℕ) where
     pub three : (k : Kind) (ro : Roster) (src l t u : ℕ) (f : ℕ → Station) → t + 2 < answer_limit
         → Fine c (from k src (lowest l)) (f (from k src (lowest l))) → Fine c (to k src (lowest l)) (f (to k src (lowest l)))
         → from k src (lowest l) ≢ to k src (lowest l) → has m (to k src (lowest l)) ≡ true
-        → step cut m v (step cut m v (step cut m v (course ro (Next.On (at (phase_of k Step.Ready) src l t)) u f)))
+        → step cut m v (step cut m v (step cut m v (course ro (Some (at (phase_of k Step.Ready) src l t)) u f)))
         ≡ course (ups k ro (lowest l)) (head_of k m src (without l (lowest l)) (t + 3)) (t + 3)
         (upd f (to k src (lowest l)) (spread_to k m v (f (from k src (lowest l))) (f (to k src (lowest l)))))
     three k ro src l t u f h hf ht ne own =

@@ -1,4 +1,5 @@
 -- ENABLE_POOL to the source and the enabling spread after it: the end of cases 2 and 3.
+use Rattle.std.specs.Prelude.{Some}
 use mathlib.Core.Path.{◌≡◌, refl, ap, ◌∙◌}
 use mathlib.Core.Bool.{Bool, true}
 use mathlib.Core.Logic.{◌≢◌}
@@ -13,7 +14,6 @@ use Rattle.rules_pool.specs.declared.Roster.{Roster}
 use Rattle.rules_node.specs.Change as change
 use Rattle.rules_pool.specs.Sessions.{session_at}
 use Rattle.rules_pool.specs.Changes.{entered}
-use Rattle.rules_pool.specs.declared.Next.{Next}
 use Rattle.rules_pool.specs.Run.{awaited_in, good}
 use Rattle.laws_client.proofs.Ids.{Long}
 use Rattle.rules_node.specs.Enable.{enabled}
@@ -33,7 +33,7 @@ pub record Enabled (m v c src l t : ℕ) (ro : Roster) (f : ℕ → Station) (e 
 
 module _ (cut : Cutting) (m v c : ℕ) (hv : v ≤ version_limit) (hm : m < 65536) (src : ℕ) (own : has m src ≡ true) where
   enable-step : (every : Bool) (ro : Roster) (l t u : ℕ) (f : ℕ → Station) → t < answer_limit → Fine c src (f src)
-      → step cut m v (course ro (Next.On (at (Phase.Enable every) src l t)) u f) ≡ course (entered ro src) (spread_head src l (t + 1)) (t + 1) (upd f src (enabled_to v m (f src)))
+      → step cut m v (course ro (Some (at (Phase.Enable every) src l t)) u f) ≡ course (entered ro src) (spread_head src l (t + 1)) (t + 1) (upd f src (enabled_to v m (f src)))
   unfolding step awaited_in good
   enable-step every ro l t u f h a = rw (enables-law c src v m (f src) a hv hm own, counted-one t h)
 
@@ -53,9 +53,9 @@ module _ (cut : Cutting) (m v c : ℕ) (hv : v ≤ version_limit) (hm : m < 6553
       apart j q p = clash q (ap (λ (k : ℕ). has l k) p ∙ can.apart)
 
   pub enable-spread : (every : Bool) (ro : Roster) (l t : ℕ) (f : ℕ → Station) → Long ro → l < 65536 → t + (3 * size l + 1) ≤ answer_limit → CanSpread m c src l f
-      → Enabled m v c src l t ro f (steps cut m v (3 * size l + 1) (course ro (Next.On (at (Phase.Enable every) src l t)) t f))
+      → Enabled m v c src l t ro f (steps cut m v (3 * size l + 1) (course ro (Some (at (Phase.Enable every) src l t)) t f))
   enable-spread every ro l t f long small few can =
-      rw (steps-one cut m v (3 * size l) (course ro (Next.On (at (Phase.Enable every) src l t)) t f), enable-step every ro l t t f (omega arith) can.source)
+      rw (steps-one cut m v (3 * size l) (course ro (Some (at (Phase.Enable every) src l t)) t f), enable-step every ro l t t f (omega arith) can.source)
       (ends _ (spreads cut m v c hv hm src l small (entered ro src) (t + 1) (upd f src (enabled_to v m (f src))) (entered-long ro src long) (omega arith) (can-after l f can)))
     where
       ends : (e : Course) → Spreads m v c src l (t + 1) (entered ro src) (upd f src (enabled_to v m (f src))) e → Enabled m v c src l t ro f e

@@ -1,4 +1,5 @@
 -- From the course of a run to the client's and the nodes' states: how a world begins a run, and what its end says.
+use Rattle.std.specs.Prelude.{Option, Some, None}
 use mathlib.Core.Path.{◌≡◌, refl, sym, ap, ◌∙◌}
 use mathlib.Core.Bool.{true, false}
 use mathlib.Core.List.{List}
@@ -16,7 +17,6 @@ use Rattle.rules_pool.specs.declared.Pool.{Pool}
 use Rattle.rules_pool.specs.declared.Outcome.{Outcome}
 use Rattle.rules_pool.specs.Sessions.{session_at}
 use Rattle.rules_pool.specs.Changes.{more}
-use Rattle.rules_pool.specs.declared.Next.{Next}
 use Rattle.rules_pool.specs.Run.{awaited_in}
 use Rattle.rules_pool.specs.StateRules.{valid_pool}
 use Rattle.rules_pool.specs.Jobs.{is_running}
@@ -48,13 +48,13 @@ keeps p b n a h =
 
 -- ---- the beginning
 
-tried-on : (p : Pool) (r : Run) → begun p.roster ≡ Next.On r
-    → tried p ≡ record { pool = pool_of (next_number p.number) p.chunks p.roster (Next.On r); awaited = awaited_in p.roster.members p.roster.version r }
+tried-on : (p : Pool) (r : Run) → begun p.roster ≡ Some r
+    → tried p ≡ record { pool = pool_of (next_number p.number) p.chunks p.roster (Some r); awaited = awaited_in p.roster.members p.roster.version r }
 unfolding tried posted
 tried-on p r e = rw e
 
 -- the first message of a run carries its number
-pub tried-number : (p : Pool) (r : Run) → begun p.roster ≡ Next.On r → number_of (tried p).awaited (tried p).pool.number ≡ (tried p).pool.number
+pub tried-number : (p : Pool) (r : Run) → begun p.roster ≡ Some r → number_of (tried p).awaited (tried p).pool.number ≡ (tried p).pool.number
 tried-number p r e = rw (tried-on p r e) (run-numbered p.roster.members p.roster.version r (next_number p.number))
 
 -- the cuts of a world, which are whole maps
@@ -62,7 +62,7 @@ abbrev pub cutting : (w : World) → ((t : ℕ) → Cuts (w.cuts t)) → Cutting
 cutting w k = record { lengths = w.cuts; cuts = k }
 
 -- a world in which a run began follows the course of that run
-pub sim-begins : (p : Pool) (w : World) (b : Begins p w) (k : (t : ℕ) → Cuts (w.cuts t)) → Sim (cutting w k) p.roster.members p.roster.version w (course p.roster (Next.On b.run) 0 w.nodes)
+pub sim-begins : (p : Pool) (w : World) (b : Begins p w) (k : (t : ℕ) → Cuts (w.cuts t)) → Sim (cutting w k) p.roster.members p.roster.version w (course p.roster (Some b.run) 0 w.nodes)
 sim-begins p w b k =
     record {
       num = next_number p.number;
@@ -84,10 +84,10 @@ sim-begins p w b k =
       version = refl;
     }
   where
-    t : tried p ≡ record { pool = pool_of (next_number p.number) p.chunks p.roster (Next.On b.run); awaited = awaited_in p.roster.members p.roster.version b.run }
+    t : tried p ≡ record { pool = pool_of (next_number p.number) p.chunks p.roster (Some b.run); awaited = awaited_in p.roster.members p.roster.version b.run }
     t = tried-on p b.run b.began
 
-    pool-is : w.pool ≡ pool_of (next_number p.number) p.chunks p.roster (Next.On b.run)
+    pool-is : w.pool ≡ pool_of (next_number p.number) p.chunks p.roster (Some b.run)
     pool-is = b.pool ∙ ap (λ (q : Posted). q.pool) t
 
     awaited-is : w.sent.awaited ≡ awaited_in p.roster.members p.roster.version b.run
@@ -104,9 +104,9 @@ sim-begins p w b k =
 
 -- ---- the end
 
-running-on : (n : Next) → (n ≡ Next.Over → ⊥) → is_running (job_of n) ≡ true
-running-on Next.Over h = absurd (h refl)
-running-on (Next.On r) h = refl
+running-on : (n : Option Run) → (n ≡ None → ⊥) → is_running (job_of n) ≡ true
+running-on None h = absurd (h refl)
+running-on (Some r) h = refl
 
 module _ (cut : Cutting) (p : Pool) (w : World) (c₀ : Course) (s : Sim cut p.roster.members p.roster.version w c₀) where
   -- after i exchanges
@@ -145,7 +145,7 @@ module _ (cut : Cutting) (p : Pool) (w : World) (c₀ : Course) (s : Sim cut p.r
         over = job_is n ∙ ap job_of e.over;
         count = ap (λ (w : World). w.sent.outcome) (after n).is ∙ ((after n).outcome (let z : 0 < (steps cut p.roster.members p.roster.version n c₀).taken = rw taken-n some in z) ∙ ap Outcome.Taken taken-n);
         raised = ap (λ (ro : Roster). ro.version) (roster-is n)
-            ∙ (ap (λ (q : Next). version_at q (steps cut p.roster.members p.roster.version n c₀).roster.version) e.over ∙ (ap more (after n).version ∙ below_top p.roster.version (omega (arith, low))));
+            ∙ (ap (λ (q : Option Run). version_at q (steps cut p.roster.members p.roster.version n c₀).roster.version) e.over ∙ (ap more (after n).version ∙ below_top p.roster.version (omega (arith, low))));
         up = λ j h. up_of n j (f src).map (e.entered j h) (e.served j h);
         map = λ j h. copied j (e.served j h);
       }

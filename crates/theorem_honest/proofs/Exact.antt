@@ -1,4 +1,5 @@
 -- The count is exact: an exchange takes one answer, and none once the run is over. So a run that has taken n answers after n exchanges was not over before.
+use Rattle.std.specs.Prelude.{Option, Some, None}
 use mathlib.Core.Path.{◌≡◌, refl, sym, ap, ◌∙◌}
 use mathlib.Core.Bool.{Bool, true, false}
 use Prim.Native.Nat.{ℕ, zero, suc, ◌+◌, ◌-◌, ◌≤◌, ◌<◌}
@@ -11,9 +12,7 @@ use Rattle.rules_pool.specs.declared.Step.{Step}
 use Rattle.rules_pool.specs.declared.Phase.{Phase}
 use Rattle.rules_pool.specs.declared.Run.{Run}
 use Rattle.rules_pool.specs.declared.Roster.{Roster}
-use Rattle.rules_pool.specs.declared.Brought.{Brought}
 use Rattle.rules_pool.specs.declared.Reply.{Reply}
-use Rattle.rules_pool.specs.declared.Next.{Next}
 use Rattle.rules_pool.specs.declared.Move.{Move}
 use Rattle.rules_pool.specs.Run.{hand, rest, counted, to_spread, to_gather, to_last, to_base, to_versions, went_on, failed_at, failed_answer, version_brought, good_at, good, takes, awaited_in}
 use Rattle.laws_client.proofs.RunBound.{counted-most, Carries}
@@ -52,16 +51,16 @@ failed-raised (Phase.Gather s) m r = record { count = refl; carries = tt }
 failed-raised (Phase.Enable every) m r = record { count = refl; carries = tt }
 failed-raised (Phase.Spread s) m r = record { count = refl; carries = spread-carries m r (rest r) }
 
-brought-raised : (m v best : ℕ) (r : Run) (b : Brought) → Raised r (version_brought m v best r b)
+brought-raised : (m v best : ℕ) (r : Run) (b : Option ℕ) → Raised r (version_brought m v best r b)
 unfolding failed_answer
-brought-raised m v best r Brought.Nothing = failed-raised r.phase m r
-brought-raised m v best r (Brought.Version x) = at (ltb v x)
+brought-raised m v best r None = failed-raised r.phase m r
+brought-raised m v best r (Some x) = at (ltb v x)
   where
     at : (b : Bool) → Raised r (pick b (failed_answer r) (went_on r (to_versions m r (pick (ltb best x) x best) (pick (ltb best x) (hand r) r.source) (rest r))))
     at true = failed-raised r.phase m r
     at false = record { count = refl; carries = versions-carries m r (pick (ltb best x) x best) (pick (ltb best x) (hand r) r.source) (rest r) }
 
-good-raised : (p : Phase) (m v : ℕ) (r : Run) (b : Brought) → Raised r (good_at p m v r b)
+good-raised : (p : Phase) (m v : ℕ) (r : Run) (b : Option ℕ) → Raised r (good_at p m v r b)
 good-raised (Phase.Versions best) m v r b = brought-raised m v best r b
 good-raised (Phase.Base Step.Ready) m v r b = record { count = refl; carries = refl }
 good-raised (Phase.Base Step.Send) m v r b = record { count = refl; carries = refl }
@@ -90,13 +89,13 @@ record Counts (c e : Course) : Type 0 where
   most : e.taken ≤ c.taken + 1
   tied : Tied e
 
-carry : (n : Next) (a b : ℕ) → a ≡ b → Carries a n → Carries b n
+carry : (n : Option Run) (a b : ℕ) → a ≡ b → Carries a n → Carries b n
 carry n a b e h = rw e at h
 
-step-at : (cut : Cutting) (m v : ℕ) (ro : Roster) (n : Next) (t : ℕ) (f : ℕ → Station) → Carries t n → Counts (course ro n t f) (step cut m v (course ro n t f))
+step-at : (cut : Cutting) (m v : ℕ) (ro : Roster) (n : Option Run) (t : ℕ) (f : ℕ → Station) → Carries t n → Counts (course ro n t f) (step cut m v (course ro n t f))
 unfolding step
-step-at cut m v ro Next.Over t f h = record { most = omega arith; tied = tt }
-step-at cut m v ro (Next.On r) t f h =
+step-at cut m v ro None t f h = record { most = omega arith; tied = tt }
+step-at cut m v ro (Some r) t f h =
     let a = takes-raised m v r (deliver (cut.lengths r.taken) (awaited_in m v r) f).reply in
     record {
       most = omega (arith, a.count, counted-most r.taken, h);
@@ -110,17 +109,17 @@ counts cut m v (suc n) c h =
     let s = step-at cut m v c.roster c.next c.taken c.nodes h in
     omega (arith, s.most, counts cut m v n (step cut m v c) s.tied)
 
-stays_at : (cut : Cutting) (m v : ℕ) (ro : Roster) (n : Next) (t : ℕ) (f : ℕ → Station) → n ≡ Next.Over → step cut m v (course ro n t f) ≡ course ro n t f
+stays_at : (cut : Cutting) (m v : ℕ) (ro : Roster) (n : Option Run) (t : ℕ) (f : ℕ → Station) → n ≡ None → step cut m v (course ro n t f) ≡ course ro n t f
 unfolding step
 stays_at cut m v ro n t f e = rw e
 
-stays : (cut : Cutting) (m v n : ℕ) (c : Course) → c.next ≡ Next.Over → steps cut m v n c ≡ c
+stays : (cut : Cutting) (m v n : ℕ) (c : Course) → c.next ≡ None → steps cut m v n c ≡ c
 unfolding steps
 stays cut m v zero c e = refl
 stays cut m v (suc n) c e = ap (steps cut m v n) (stays_at cut m v c.roster c.next c.taken c.nodes e) ∙ stays cut m v n c e
 
 -- n answers taken after n exchanges: before that the run is not over
-pub not-before : (cut : Cutting) (m v i n : ℕ) (c : Course) → Tied c → c.taken ≡ 0 → (steps cut m v n c).taken ≡ n → i < n → (steps cut m v i c).next ≡ Next.Over → ⊥
+pub not-before : (cut : Cutting) (m v i n : ℕ) (c : Course) → Tied c → c.taken ≡ 0 → (steps cut m v n c).taken ≡ n → i < n → (steps cut m v i c).next ≡ None → ⊥
 not-before cut m v i n c tied zero-taken all l e =
     let k : n ≡ i + (n - i) = omega arith in
     let s : steps cut m v n c ≡ steps cut m v i c = ap (λ (q : ℕ). steps cut m v q c) k ∙ (steps-add cut m v i (n - i) c ∙ stays cut m v (n - i) (steps cut m v i c) e) in

@@ -1,6 +1,7 @@
 -- The hypotheses are needed: where one does not hold, an awaited answer is a failed one or is refused, and nobody becomes NORMAL by it.
 -- Of the client and of the versions these are facts about the whole run: it is never over, or over at once. Of a node they are facts about one message,
 -- MAP_READY, MAP_SEND or MAP_DONE: not shown is what the rest of the run then comes to.
+use Rattle.std.specs.Prelude.{Some, None}
 use mathlib.Core.Path.{◌≡◌, refl, ap, ◌∙◌}
 use mathlib.Core.Bool.{Bool, true, false, ◌&&◌}
 use Prim.Native.Nat.{ℕ, zero, suc, ◌<◌}
@@ -13,11 +14,8 @@ use Rattle.rules_base.proofs.Summaries.{one-summary}
 use Rattle.rules_pool.specs.declared.Phase.{Phase}
 use Rattle.rules_pool.specs.declared.Run.{Run}
 use Rattle.rules_pool.specs.declared.Pool.{Pool}
-use Rattle.rules_pool.specs.declared.Brought.{Brought}
 use Rattle.rules_pool.specs.declared.Reply.{Reply}
 use Rattle.rules_pool.specs.declared.Effect.{Effect}
-use Rattle.rules_pool.specs.declared.Who.{Who}
-use Rattle.rules_pool.specs.declared.Next.{Next}
 use Rattle.rules_pool.specs.Run.{failed_at, failed_answer, good, takes}
 use Rattle.rules_pool.specs.StateRules.{valid_pool}
 use Rattle.rules_pool.specs.Exit as exits
@@ -68,7 +66,7 @@ needs-itself s on v m h e i l j = rw (h, e, one-summary.agrees s.map, i, l, j)
 
 -- ---- a failed answer makes nobody NORMAL
 
-failed-nobody : (p : Phase) (r : Run) → (failed_at p r).normal ≡ Who.Nobody
+failed-nobody : (p : Phase) (r : Run) → (failed_at p r).normal ≡ None
 failed-nobody (Phase.Versions best) r = refl
 failed-nobody (Phase.Base s) r = refl
 failed-nobody Phase.LastIo r = refl
@@ -76,13 +74,13 @@ failed-nobody (Phase.Gather s) r = refl
 failed-nobody (Phase.Enable every) r = refl
 failed-nobody (Phase.Spread s) r = refl
 
-pub failed-answer : (m v : ℕ) (r : Run) → (takes m v r Reply.Failed).normal ≡ Who.Nobody
+pub failed-answer : (m v : ℕ) (r : Run) → (takes m v r Reply.Failed).normal ≡ None
 unfolding failed_answer
 failed-answer m v r = failed-nobody r.phase r
 
 -- ---- in case 3, no version above the pool's: the run ends
 
-pub needs-version : (m v best x : ℕ) (r : Run) → r.phase ≡ Phase.Versions best → v < x → (takes m v r (Reply.Good (Brought.Version x))).next ≡ Next.Over
+pub needs-version : (m v best x : ℕ) (r : Run) → r.phase ≡ Phase.Versions best → v < x → (takes m v r (Reply.Good (Some x))).next ≡ None
 unfolding good failed_answer
 needs-version m v best x r e h = rw (e, lt-ltb v x h)
 

@@ -1,5 +1,7 @@
 -- The phases of case 3 between the choice of the source and its enabling, among honest nodes: each comes to its end and leaves every member's node honest,
 -- and they leave the chosen's map as it is to be.
+use Rattle.std.specs.Prelude.{Option, Some, None}
+use Rattle.rules_pool.specs.declared.Run.{Run}
 use mathlib.Core.Path.{◌≡◌, refl, sym, ap, ◌∙◌}
 use mathlib.Core.Bool.{true}
 use mathlib.Core.Logic.{◌≢◌}
@@ -12,7 +14,6 @@ use Rattle.rules_base.specs.Sets.{has, without, size, lowest}
 use Rattle.rules_base.proofs.Sets.{has-below, has-without-same, still, without-lt, lowest-in, size-zero}
 use Rattle.rules_pool.specs.declared.Phase.{Phase}
 use Rattle.rules_pool.specs.declared.Roster.{Roster}
-use Rattle.rules_pool.specs.declared.Next.{Next}
 use Rattle.rules_pool.specs.Run.{awaited_in, good}
 use Rattle.rules_world.specs.Station.{Station}
 use Rattle.rules_world.specs.Together.{upd}
@@ -23,14 +24,14 @@ use Rattle.theorem_honest.proofs.Course.{Cutting, Course, course, step, steps, s
 use Rattle.theorem_honest.proofs.Maps.{Round, Fines, Each, each_none, each_more, Gathered, gathered_none, gathered-more, Prepared, prepared}
 
 -- n exchanges on from a course that has taken t answers, the sessions as they were: the run is at `next`, the members' nodes are honest and as `Left` says
-pub record Passed (cut : Cutting) (m v c : ℕ) (ro : Roster) (next : ℕ → Next) (n t : ℕ) (start : Course) (Left : (ℕ → Station) → Type 0) : Type 0 where
+pub record Passed (cut : Cutting) (m v c : ℕ) (ro : Roster) (next : ℕ → Option Run) (n t : ℕ) (start : Course) (Left : (ℕ → Station) → Type 0) : Type 0 where
   pub nodes : ℕ → Station
   pub fines : Fines m c nodes
   pub left : Left nodes
   pub reach : steps cut m v n start ≡ course ro (next (t + n)) (t + n) nodes
 
 -- one phase after another
-pub both : (cut : Cutting) (m v c : ℕ) (ro : Roster) (one two : ℕ → Next) (a b t : ℕ) (start : Course) (One Two : (ℕ → Station) → Type 0) → Passed cut m v c ro one a t start One
+pub both : (cut : Cutting) (m v c : ℕ) (ro : Roster) (one two : ℕ → Option Run) (a b t : ℕ) (start : Course) (One Two : (ℕ → Station) → Type 0) → Passed cut m v c ro one a t start One
     → ((f : ℕ → Station) → Fines m c f → One f → Passed cut m v c ro two b (t + a) (course ro (one (t + a)) (t + a) f) Two) → Passed cut m v c ro two (a + b) t start Two
 both cut m v c ro one two a b t start One Two p q =
     let r = q p.nodes p.fines p.left in
@@ -38,7 +39,7 @@ both cut m v c ro one two a b t start One Two p q =
     record { nodes = r.nodes; fines = r.fines; left = r.left; reach = steps-add cut m v a b start ∙ (ap (steps cut m v b) p.reach ∙ (r.reach ∙ ap (λ (k : ℕ). course ro (two k) k r.nodes) e)) }
 
 -- no exchange
-pub at_once : (cut : Cutting) (m v c : ℕ) (ro : Roster) (next : ℕ → Next) (t : ℕ) (f : ℕ → Station) (start : Course) (Left : (ℕ → Station) → Type 0) → Fines m c f → Left f → start ≡ course ro (next t) t f → Passed cut m v c ro next 0 t start Left
+pub at_once : (cut : Cutting) (m v c : ℕ) (ro : Roster) (next : ℕ → Option Run) (t : ℕ) (f : ℕ → Station) (start : Course) (Left : (ℕ → Station) → Type 0) → Fines m c f → Left f → start ≡ course ro (next t) t f → Passed cut m v c ro next 0 t start Left
 unfolding steps
 at_once cut m v c ro next t f start Left h l e =
     let z : t + 0 ≡ t = omega arith in
@@ -53,10 +54,10 @@ upd-fines m c f k s h a j q = go (ℕ_discrete j k)
     go (no e) = rw (upd_other f k j s e) (h j q)
 
 -- what comes after a spread
-abbrev pub next_of : Kind → ℕ → ℕ → ℕ → Next
+abbrev pub next_of : Kind → ℕ → ℕ → ℕ → Option Run
 next_of base m src t = last_head m src m t
-next_of gather m src t = Next.On (at (Phase.Enable true) src (without m src) t)
-next_of spread m src t = Next.Over
+next_of gather m src t = Some (at (Phase.Enable true) src (without m src) t)
+next_of spread m src t = None
 
 to_in : (k : Kind) (m src x : ℕ) → has m src ≡ true → has m x ≡ true → has m (to k src x) ≡ true
 to_in base m src x a b = b
@@ -87,7 +88,7 @@ module _ (cut : Cutting) (m v c : ℕ) (hv : v ≤ version_limit) (hm : m < 6553
     loop-none : Looping 0
     loop-none t f few r h =
         let z : 3 * size 0 ≡ 0 = omega (arith, size-zero) in
-        rw z (at_once cut m v c ro (next_of k m src) t f (course ro (head_of k m src 0 t) t f) (Left 0 f) h (left-none f) (ap (λ (n : Next). course ro n t f) (last t)))
+        rw z (at_once cut m v c ro (next_of k m src) t f (course ro (head_of k m src 0 t) t f) (Left 0 f) h (left-none f) (ap (λ (n : Option Run). course ro n t f) (last t)))
 
     loop-more : (l : ℕ) → l < 65536 → lowest l < 16 → Looping (without l (lowest l)) → Looping l
     loop-more l b h rec t f few r fs =
@@ -138,7 +139,7 @@ module _ (cut : Cutting) (m v c : ℕ) (hv : v ≤ version_limit) (hm : m < 6553
 
   -- ---- LAST_IO_TO_MAP: one exchange for each
   mark-step : (l t u : ℕ) (f : ℕ → Station) → t < answer_limit → src < 16 → Fine c (lowest l) (f (lowest l))
-      → step cut m v (course ro (Next.On (at Phase.LastIo src l t)) u f) ≡ course ro (last_head m src (without l (lowest l)) (t + 1)) (t + 1) (upd f (lowest l) (last_to src (f (lowest l))))
+      → step cut m v (course ro (Some (at Phase.LastIo src l t)) u f) ≡ course ro (last_head m src (without l (lowest l)) (t + 1)) (t + 1) (upd f (lowest l) (last_to src (f (lowest l))))
   unfolding step awaited_in good
   mark-step l t u f h b a = rw (marks-law c (lowest l) src (f (lowest l)) a b, counted-one t h)
 
@@ -200,11 +201,11 @@ module _ (cut : Cutting) (m v c : ℕ) (hv : v ≤ version_limit) (hm : m < 6553
       same j q = rw (upd_other f (lowest l) src (spread_to base m v (f src) (f (lowest l))) apart, upd_other f (lowest l) j (spread_to base m v (f src) (f (lowest l))) (still l (lowest l) j q).1)
 
   pub middle : (t : ℕ) (f : ℕ → Station) → t + (3 * size (without m src) + (size m + 3 * size (without m src))) ≤ answer_limit → Fines m c f
-      → Passed cut m v c ro (λ q. Next.On (at (Phase.Enable true) src (without m src) q)) (3 * size (without m src) + (size m + 3 * size (without m src))) t (course ro (base_head m src (without m src) t) t f) (Prepared m src f)
+      → Passed cut m v c ro (λ q. Some (at (Phase.Enable true) src (without m src) q)) (3 * size (without m src) + (size m + 3 * size (without m src))) t (course ro (base_head m src (without m src) t) t f) (Prepared m src f)
   middle t f few fs =
-      both cut m v c ro (λ q. last_head m src m q) (λ q. Next.On (at (Phase.Enable true) src (without m src) q)) (3 * size o) (size m + 3 * size o) t (course ro (base_head m src o t) t f) (Given o f) (Prepared m src f)
+      both cut m v c ro (λ q. last_head m src m q) (λ q. Some (at (Phase.Enable true) src (without m src) q)) (3 * size o) (size m + 3 * size o) t (course ro (base_head m src o t) t f) (Given o f) (Prepared m src f)
       (loop base (λ x. refl) (λ q. refl) Given given-none given-more o small t f (omega arith) round fs)
-      (λ f₁ fs₁ given. both cut m v c ro (gather_head m src o) (λ q. Next.On (at (Phase.Enable true) src (without m src) q)) (size m) (3 * size o) (t + 3 * size o) (course ro (last_head m src m (t + 3 * size o)) (t + 3 * size o) f₁)
+      (λ f₁ fs₁ given. both cut m v c ro (gather_head m src o) (λ q. Some (at (Phase.Enable true) src (without m src) q)) (size m) (3 * size o) (t + 3 * size o) (course ro (last_head m src m (t + 3 * size o)) (t + 3 * size o) f₁)
       (Each m (λ j. last_to src (f₁ j)) f₁) (Prepared m src f)
       (marking m hm (t + 3 * size o) f₁ (omega arith) (λ j q. q) fs₁)
       (λ f₂ fs₂ marked. seen f₁ fs₁ given f₂ marked _ _ _ _ (loop gather (λ x. refl) (λ q. refl) (Gathered m src) (gathered_none m src) (λ l f g h r fs i. gathered-more c m v src l f g h own r fs i) o small (t + 3 * size o + size m) f₂ (omega arith) round fs₂)))
@@ -218,7 +219,7 @@ module _ (cut : Cutting) (m v c : ℕ) (hv : v ≤ version_limit) (hm : m < 6553
       round : Round m src o
       round = record { inside = λ j q. (still m src j q).0; apart = has-without-same m src }
 
-      seen : (f₁ : ℕ → Station) → Fines m c f₁ → Given o f f₁ → (f₂ : ℕ → Station) → Each m (λ j. last_to src (f₁ j)) f₁ f₂ → (next : ℕ → Next) (n t : ℕ) (start : Course)
+      seen : (f₁ : ℕ → Station) → Fines m c f₁ → Given o f f₁ → (f₂ : ℕ → Station) → Each m (λ j. last_to src (f₁ j)) f₁ f₂ → (next : ℕ → Option Run) (n t : ℕ) (start : Course)
           → Passed cut m v c ro next n t start (Gathered m src o f₂) → Passed cut m v c ro next n t start (Prepared m src f)
       seen f₁ fs₁ given f₂ marked next n t start p =
           record { nodes = p.nodes; fines = p.fines; left = prepared m v c src own f f₁ f₂ p.nodes fs fs₁ given marked p.left; reach = p.reach }

@@ -1,4 +1,5 @@
 -- MAP_SEND among honest nodes: in whatever parts it goes, the receiver has taken the source's map. Assumes nothing.
+use Rattle.std.specs.Prelude.{Some, None}
 use mathlib.Core.Path.{◌≡◌, refl, sym, ap, ◌∙◌}
 use mathlib.Core.Logic.{◌≢◌}
 use mathlib.Core.Bool.{true}
@@ -7,9 +8,7 @@ use Prim.Native.Nat.{ℕ, ◌+◌, ◌≤◌}
 use native.Mathlib.Nat.{add-zero, add_assoc}
 use native.Mathlib.Omega.{arith}
 use Rattle.rules_base.proofs.Joined.{parts_none, parts_whole}
-use Rattle.rules_pool.specs.declared.Brought.{Brought}
 use Rattle.rules_pool.specs.declared.Reply.{Reply}
-use Rattle.rules_node.specs.declared.Transfer.{Transfer}
 use Rattle.rules_node.specs.Change.{transferred}
 use Rattle.rules_node.specs.Cuts.{sized, total, Cuts}
 use Rattle.laws_node.proofs.Cuts.{next-part, later-parts}
@@ -19,7 +18,7 @@ use Rattle.theorem_honest.proofs.Ground.{upd_same, upd_other, upd-upd, upd-back}
 use Rattle.theorem_honest.proofs.Stations.{Fine, partly, map_taken, took_in, gives-law, takes-law, fine-partly}
 
 abbrev all-good : (ℕ → Station) → Delivered
-all-good f = record { nodes = f; reply = Reply.Good Brought.Nothing }
+all-good f = record { nodes = f; reply = Reply.Good None }
 
 module _ (c x y : ℕ) (f : ℕ → Station) (ne : x ≢ y) (fx : Fine c x (f x)) (s : Station) where
   -- the parts from byte a on
@@ -33,12 +32,12 @@ module _ (c x y : ℕ) (f : ℕ → Station) (ne : x ≢ y) (fx : Fine c x (f x)
       (parts-law ls (a + l) (later-parts l ls z) (omega arith) (fine-partly c y a l (f x).map s fy fx.map (omega arith)) ∙ rw (add_assoc a l (total ls)) refl)
 
 -- nothing has come
-at-start : (zs : List ℕ) (s : Station) → s.node.transfer ≡ Transfer.InHand 0 → partly zs 0 s ≡ s
+at-start : (zs : List ℕ) (s : Station) → s.node.transfer ≡ Some 0 → partly zs 0 s ≡ s
 unfolding transferred
 at-start zs s e = rw (parts_none s.staging zs, ← e) refl
 
 -- the whole map, with any cuts
-pub sent-law : (c x y : ℕ) (ls : List ℕ) (f : ℕ → Station) → Cuts ls → x ≢ y → Fine c x (f x) → Fine c y (f y) → (f y).node.transfer ≡ Transfer.InHand 0
+pub sent-law : (c x y : ℕ) (ls : List ℕ) (f : ℕ → Station) → Cuts ls → x ≢ y → Fine c x (f x) → Fine c y (f y) → (f y).node.transfer ≡ Some 0
     → send ls 0 x y f ≡ all-good (upd f y (took_in (f x).map (f y)))
 unfolding map_taken
 sent-law c x y ls f k ne fx fy e =

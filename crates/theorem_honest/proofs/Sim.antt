@@ -1,4 +1,5 @@
 -- The client's events follow the course of a run: no answer of an honest run is refused.
+use Rattle.std.specs.Prelude.{Option, Some, None}
 use mathlib.Core.Path.{◌≡◌, refl, sym, ap, ◌∙◌}
 use mathlib.Core.Bool.{Bool, true}
 use mathlib.Core.List.{List}
@@ -16,8 +17,6 @@ use Rattle.rules_pool.specs.declared.Told.{Told}
 use Rattle.rules_pool.specs.declared.Outcome.{Outcome}
 use Rattle.rules_pool.specs.declared.Reply.{Reply}
 use Rattle.rules_pool.specs.Changes.{more, numbered}
-use Rattle.rules_pool.specs.declared.Who.{Who}
-use Rattle.rules_pool.specs.declared.Next.{Next}
 use Rattle.rules_pool.specs.declared.Move.{Move}
 use Rattle.rules_pool.specs.Run.{takes, awaited_in, awaited_at}
 use Rattle.rules_pool.specs.StateRules.{valid_pool}
@@ -33,26 +32,26 @@ use Rattle.theorem_honest.proofs.Course.{Cutting, Course, course, step, steps}
 
 -- ---- a world that follows a course
 
-abbrev pub job_of : Next → Job
-job_of Next.Over = Job.Idle
-job_of (Next.On r) = Job.Running r
+abbrev pub job_of : Option Run → Job
+job_of None = Job.Idle
+job_of (Some r) = Job.Running r
 
-abbrev pub awaited_of : Roster → Next → Message
-awaited_of ro Next.Over = Message.Nothing
-awaited_of ro (Next.On r) = awaited_in ro.members ro.version r
+abbrev pub awaited_of : Roster → Option Run → Message
+awaited_of ro None = Message.Nothing
+awaited_of ro (Some r) = awaited_in ro.members ro.version r
 
 -- the version of the pool: the run's, and one more once it is over
-abbrev pub version_at : Next → ℕ → ℕ
-version_at Next.Over v = more v
-version_at (Next.On r) v = v
+abbrev pub version_at : Option Run → ℕ → ℕ
+version_at None v = more v
+version_at (Some r) v = v
 
-abbrev pub roster_of : Roster → Next → Roster
+abbrev pub roster_of : Roster → Option Run → Roster
 roster_of ro n = numbered ro ro.count (version_at n ro.version)
 
-abbrev pub pool_of : ℕ → ℕ → Roster → Next → Pool
+abbrev pub pool_of : ℕ → ℕ → Roster → Option Run → Pool
 pool_of num chunks ro n = record { roster = roster_of ro n; job = job_of n; number = num; chunks = chunks }
 
-abbrev pub world_of : (ℕ → List ℕ) → ℕ → ℕ → List ℕ → Outcome → Told → Roster → Next → (ℕ → Station) → World
+abbrev pub world_of : (ℕ → List ℕ) → ℕ → ℕ → List ℕ → Outcome → Told → Roster → Option Run → (ℕ → Station) → World
 world_of cuts num chunks map out told ro n f =
     record {
       pool = pool_of num chunks ro n;
@@ -85,46 +84,46 @@ pub run-numbered : (m v : ℕ) (r : Run) (n : ℕ) → number_of (awaited_in m v
 unfolding awaited_in
 run-numbered m v r n = at-numbered r.phase m v r n
 
-abbrev num_after : Next → ℕ → ℕ
-num_after Next.Over n = n
-num_after (Next.On r) n = next_number n
+abbrev num_after : Option Run → ℕ → ℕ
+num_after None n = n
+num_after (Some r) n = next_number n
 
 -- what an answer did to the run, done to the pool
-moves : (num chunks : ℕ) (map : List ℕ) (ro : Roster) (j : Job) (f : ℕ → Station) (w : World) (n : Next) (t : ℕ) (a b : Who) → w.map ≡ map
+moves : (num chunks : ℕ) (map : List ℕ) (ro : Roster) (j : Job) (f : ℕ → Station) (w : World) (n : Option Run) (t : ℕ) (a b : Option ℕ) → w.map ≡ map
     → heard w f (answers.reported (record { roster = ro; job = j; number = num; chunks = chunks }) (record { next = n; taken = t; normal = a; disable = b }))
     ≡ world_of w.cuts (num_after n num) chunks map (Outcome.Taken t) (disabling b) (answers.entered_by a ro) n (tell (disabling b) f)
 unfolding answers.moved_on posted
-moves num chunks map ro j f w Next.Over t a b e = rw e
-moves num chunks map ro j f w (Next.On r) t a b e = rw e
+moves num chunks map ro j f w None t a b e = rw e
+moves num chunks map ro j f w (Some r) t a b e = rw e
 
 -- one exchange of a run in a pool that keeps its state rules
 exchange-on : (cuts : ℕ → List ℕ) (num chunks : ℕ) (map : List ℕ) (out : Outcome) (told : Told) (ro : Roster) (r : Run) (f : ℕ → Station)
-    → valid_pool (pool_of num chunks ro (Next.On r)) ≡ true → sound chunks map ≡ true
+    → valid_pool (pool_of num chunks ro (Some r)) ≡ true → sound chunks map ≡ true
     → (d : Delivered) → deliver (cuts r.taken) (awaited_in ro.members ro.version r) f ≡ d
     → (m : Move) → takes ro.members ro.version r d.reply ≡ m
-    → exchange (world_of cuts num chunks map out told ro (Next.On r) f)
+    → exchange (world_of cuts num chunks map out told ro (Some r) f)
     ≡ world_of cuts (num_after m.next num) chunks map (Outcome.Taken m.taken) (disabling m.disable) (answers.entered_by m.normal ro) m.next (tell (disabling m.disable) d.nodes)
 unfolding exchange answer_turn answers.answer answers.answer_refusal
 exchange-on cuts num chunks map out told ro r f valid snd d ed m em =
     rw (ed, valid, snd, run-numbered ro.members ro.version r num, eq-eqb num num refl, em)
-    (moves num chunks map ro (Job.Running r) d.nodes (world_of cuts num chunks map out told ro (Next.On r) f) m.next m.taken m.normal m.disable refl)
+    (moves num chunks map ro (Job.Running r) d.nodes (world_of cuts num chunks map out told ro (Some r) f) m.next m.taken m.normal m.disable refl)
 
 -- with nothing awaited an answer is refused, and nothing changes
 exchange-over : (cuts : ℕ → List ℕ) (num chunks : ℕ) (map : List ℕ) (out : Outcome) (told : Told) (ro : Roster) (f : ℕ → Station)
-    → valid_pool (pool_of num chunks ro Next.Over) ≡ true → sound chunks map ≡ true
-    → exchange (world_of cuts num chunks map out told ro Next.Over f) ≡ world_of cuts num chunks map out told ro Next.Over f
+    → valid_pool (pool_of num chunks ro None) ≡ true → sound chunks map ≡ true
+    → exchange (world_of cuts num chunks map out told ro None f) ≡ world_of cuts num chunks map out told ro None f
 unfolding exchange answer_turn answers.answer answers.answer_refusal
 exchange-over cuts num chunks map out told ro f valid snd = rw (valid, snd)
 
 -- ---- entering NORMAL changes neither membership nor version
 
-by_members : (w : Who) (ro : Roster) → (answers.entered_by w ro).members ≡ ro.members
-by_members Who.Nobody ro = refl
-by_members (Who.One x) ro = entered-members ro x
+by_members : (w : Option ℕ) (ro : Roster) → (answers.entered_by w ro).members ≡ ro.members
+by_members None ro = refl
+by_members (Some x) ro = entered-members ro x
 
-by-version : (w : Who) (ro : Roster) → (answers.entered_by w ro).version ≡ ro.version
-by-version Who.Nobody ro = refl
-by-version (Who.One x) ro = entered-version ro x
+by-version : (w : Option ℕ) (ro : Roster) → (answers.entered_by w ro).version ≡ ro.version
+by-version None ro = refl
+by-version (Some x) ro = entered-version ro x
 
 -- ---- worlds follow their course
 
@@ -150,9 +149,9 @@ module _ (keeps : Keeps) (cut : Cutting) (m v : ℕ) where
   unfolding exchange answer_turn
   exchange-whole w h = keeps w.pool _ _ _ h
 
-  sim-at : (ro : Roster) (n : Next) (t : ℕ) (f : ℕ → Station) (w : World) → Sim cut m v w (course ro n t f) → Sim cut m v (exchange w) (step cut m v (course ro n t f))
+  sim-at : (ro : Roster) (n : Option Run) (t : ℕ) (f : ℕ → Station) (w : World) → Sim cut m v w (course ro n t f) → Sim cut m v (exchange w) (step cut m v (course ro n t f))
   unfolding step
-  sim-at ro Next.Over t f w s =
+  sim-at ro None t f w s =
       record {
         num = s.num;
         chunks = s.chunks;
@@ -166,7 +165,7 @@ module _ (keeps : Keeps) (cut : Cutting) (m v : ℕ) where
         members = s.members;
         version = s.version;
       }
-  sim-at ro (Next.On r) t f w s =
+  sim-at ro (Some r) t f w s =
       record {
         num = num_after mo.next s.num;
         chunks = s.chunks;

@@ -1,4 +1,5 @@
 -- The enabling spread among honest nodes, whole: those left become NORMAL on both sides with the source's map, all else stays.
+use Rattle.std.specs.Prelude.{None}
 use mathlib.Core.Path.{◌≡◌, refl, sym, ap, ◌∙◌}
 use mathlib.Core.Bool.{Bool, true, false}
 use mathlib.Core.Logic.{◌≢◌}
@@ -20,7 +21,6 @@ use Rattle.rules_node.specs.declared.State as node
 use Rattle.rules_node.specs.Change as change
 use Rattle.rules_pool.specs.Sessions.{session_at, stored}
 use Rattle.rules_pool.specs.Changes.{all_unmarked, numbered, more, entered}
-use Rattle.rules_pool.specs.declared.Next.{Next}
 use Rattle.laws_client.proofs.Ids.{Long, stored-long, stored_same, stored_other, unmarked-long, unmarked-at}
 use Rattle.rules_node.specs.Hand.{committed}
 use Rattle.rules_world.specs.Station.{Station}
@@ -81,7 +81,7 @@ pub record Served (m v : ℕ) (zs : List ℕ) (s : Station) : Type 0 where
   pub map : s.map ≡ rows_kept m zs
 
 pub record Spreads (m v c src l t : ℕ) (ro : Roster) (f : ℕ → Station) (e : Course) : Type 0 where
-  pub over : e.next ≡ Next.Over
+  pub over : e.next ≡ None
   pub taken : e.taken ≡ t + 3 * size l
   pub entered : (j : ℕ) → has l j ≡ true → (session_at e.roster j).state ≡ State.Normal
   pub served : (j : ℕ) → has l j ≡ true → Served m v (f src).map (e.nodes j)

@@ -1,4 +1,5 @@
 -- Laws of one honest node: it takes each message of a run, and is honest after it.
+use Rattle.std.specs.Prelude.{Some}
 use mathlib.Core.Path.{◌≡◌, refl, sym, ◌∙◌, subst}
 use mathlib.Core.Bool.{Bool, true, false, not, ◌&&◌, ◌||◌}
 use mathlib.Core.List.{List}
@@ -21,7 +22,6 @@ use Rattle.rules_base.proofs.Rows.{copied_all, or-into-zero}
 use Rattle.rules_base.specs.Parts.{is_part, part_of}
 use Rattle.rules_base.proofs.Joined.{length-part_of, clean-part, sound-part, parts_more}
 use Rattle.rules_node.specs.declared.State.{State}
-use Rattle.rules_node.specs.declared.Transfer.{Transfer}
 use Rattle.rules_node.specs.declared.Answer.{Answer}
 use Rattle.rules_node.specs.declared.Node.{Node}
 use Rattle.rules_node.specs.States.{is_joined, is_serving, in_hand, taken, is_whole}
@@ -122,11 +122,11 @@ ready_to keep s = record { node = readied s.node; map = s.map; staging = filled 
 
 -- the bytes of the map zs below k taken
 abbrev pub partly : List ℕ → ℕ → Station → Station
-partly zs k s = record { node = transferred s.node (Transfer.InHand k); map = s.map; staging = or_from 0 k s.staging zs }
+partly zs k s = record { node = transferred s.node (Some k); map = s.map; staging = or_from 0 k s.staging zs }
 
 -- the map zs taken
 unfoldable pub map_taken : Node → Node
-map_taken n = transferred n (Transfer.InHand 8192)
+map_taken n = transferred n (Some 8192)
 
 abbrev pub took_in : List ℕ → Station → Station
 took_in zs s = record { node = map_taken s.node; map = s.map; staging = or_in s.staging zs }
@@ -292,20 +292,20 @@ enables-law c j v m s f hv hm own =
 pub fine-ready : (c j : ℕ) (keep : Bool) (s : Station) → Fine c j s → Fine c j (ready_to keep s)
 fine-ready c j keep s f = record { core = core-ready c j s.node f.core; rules = valid-ready c j s.node f.core; map = f.map; staging = sound-filled c keep s f.map f.staging }
 
-pub at_zero : (keep : Bool) (s : Station) → (ready_to keep s).node.transfer ≡ Transfer.InHand 0
+pub at_zero : (keep : Bool) (s : Station) → (ready_to keep s).node.transfer ≡ Some 0
 unfolding readied transferred
 at_zero keep s = refl
 
 -- with a transfer in hand it is honest after each part
-core-partly : (c j k : ℕ) (n : Node) → Core c j n → Core c j (transferred n (Transfer.InHand k))
+core-partly : (c j k : ℕ) (n : Node) → Core c j n → Core c j (transferred n (Some k))
 unfolding transferred kept_ok
 core-partly c j k n f = record { id = f.id; below = f.below; chunks = f.chunks; some = f.some; few = f.few; own = f.own; plain = f.plain; store = f.store; joined = f.joined; ids = f.ids; top = f.top; keeps = f.keeps }
 
-valid-partly : (k : ℕ) (n : Node) → valid n ≡ true → in_hand n.transfer ≡ true → k ≤ 8192 → valid (transferred n (Transfer.InHand k)) ≡ true
+valid-partly : (k : ℕ) (n : Node) → valid n ≡ true → in_hand n.transfer ≡ true → k ≤ 8192 → valid (transferred n (Some k)) ≡ true
 unfolding transferred kept_ok
 valid-partly k n e i h =
     let v = valid-facts n e in
-    valid-of (transferred n (Transfer.InHand k)) (record { some = v.some; few = v.few; stand = given _ _ (at-node (λ s store create hand own. gives (standing s store create hand own && hand) (standing s store create true own)) refl n) (and_both v.stand i); ids = v.ids; top = v.top; keeps = v.keeps; part = h })
+    valid-of (transferred n (Some k)) (record { some = v.some; few = v.few; stand = given _ _ (at-node (λ s store create hand own. gives (standing s store create hand own && hand) (standing s store create true own)) refl n) (and_both v.stand i); ids = v.ids; top = v.top; keeps = v.keeps; part = h })
 
 pub fine-partly : (c j a l : ℕ) (zs : List ℕ) (s : Station) → Fine c j (partly zs a s) → Sound c zs → a + l ≤ 8192 → Fine c j (partly zs (a + l) s)
 unfolding transferred

@@ -1,5 +1,5 @@
 -- Demand 3, second half: what is asked of the pool and its nodes, and what the run comes to.
-use Rattle.std.specs.Prelude.{◌≡◌, Bool, true, false, not, ◌&&◌, ◌||◌, List, ◌≢◌, ℕ, zero, suc, ◌+◌, ◌-◌, ◌*◌, ◌/◌, ◌≤◌, ◌<◌, eqb, length, get_or}
+use Rattle.std.specs.Prelude.{◌≡◌, Bool, true, false, not, ◌&&◌, ◌||◌, List, ◌≢◌, ℕ, zero, suc, ◌+◌, ◌-◌, ◌*◌, ◌/◌, ◌≤◌, ◌<◌, eqb, length, get_or, Some}
 use Rattle.laws_words.specs.Words.{pick}
 use Rattle.rules_base.specs.Sets.{has, without, size, lowest}
 use Rattle.rules_base.specs.Chunk.{dirty}
@@ -14,7 +14,6 @@ use Rattle.rules_pool.specs.declared.Kind.{Kind}
 use Rattle.rules_pool.specs.Sessions.{session_at, ids_of}
 use Rattle.rules_pool.specs.StateRules.{valid_pool}
 use Rattle.rules_pool.specs.Jobs.{is_running}
-use Rattle.rules_pool.specs.declared.Next.{Next}
 use Rattle.rules_pool.specs.Cases.{begun}
 use Rattle.rules_pool.specs.Recovery.{tried}
 use Rattle.rules_pool.specs.Exit.{tried_after}
@@ -43,7 +42,7 @@ pub record Begins (p : Pool) (w : World) : Type 0 where
   pub array : length p.roster.sessions ≡ 16
   pub rules : valid_pool p ≡ true
   pub run : Run
-  pub began : begun p.roster ≡ Next.On run
+  pub began : begun p.roster ≡ Some run
   pub pool : w.pool ≡ (tried p).pool
   pub awaited : w.sent.awaited ≡ (tried p).awaited
   pub number : w.sent.number ≡ (tried p).pool.number
@@ -199,5 +198,5 @@ ChosenUnmarked =
 abbrev pub BeginsAfter : Type 0
 BeginsAfter =
     (before after : Pool) (outcome : Outcome) (told : Told) (w : World) (r : Run) → length after.roster.sessions ≡ 16 → valid_pool after ≡ true
-    → begun after.roster ≡ Next.On r → sound after.chunks w.map ≡ true
+    → begun after.roster ≡ Some r → sound after.chunks w.map ≡ true
     → Begins after (heard w w.nodes (tried_after before after outcome told))

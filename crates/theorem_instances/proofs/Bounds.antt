@@ -1,4 +1,5 @@
 -- The hypotheses of demand 3's first half can be met, and what is said is not said of nothing: a run that begins, what comes while it lasts, the link down that ends it.
+use Rattle.std.specs.Prelude.{None}
 use mathlib.Core.Path.{◌≡◌, refl}
 use mathlib.Core.Bool.{true, false}
 use mathlib.Core.List.{List, [], ◌∷◌, ◌++◌}
@@ -11,7 +12,6 @@ use Rattle.rules_base.specs.Map.{sound, clean_from, spare, room}
 use Rattle.rules_pool.specs.declared.Step.{Step}
 use Rattle.rules_pool.specs.declared.Phase.{Phase}
 use Rattle.rules_pool.specs.declared.Run.{Run}
-use Rattle.rules_pool.specs.declared.Brought.{Brought}
 use Rattle.rules_pool.specs.declared.Reply.{Reply}
 use Rattle.rules_pool.specs.Sessions.{ids_of}
 use Rattle.rules_pool.specs.Changes.{entered, left, failed, went}
@@ -55,10 +55,10 @@ abbrev bytes : List ℕ
 bytes = replicate 8192 0
 
 abbrev early : List Event
-early = Event.try_run ∷ Event.answer bytes 7 Reply.Failed ∷ Event.answer bytes 1 (Reply.Good Brought.Nothing) ∷ []
+early = Event.try_run ∷ Event.answer bytes 7 Reply.Failed ∷ Event.answer bytes 1 (Reply.Good None) ∷ []
 
 abbrev late : List Event
-late = Event.link_down 2 ∷ Event.answer bytes 2 (Reply.Good Brought.Nothing) ∷ []
+late = Event.link_down 2 ∷ Event.answer bytes 2 (Reply.Good None) ∷ []
 
 abbrev then : List Event
 then = during (early ++ late) (next (Event.store_check 1) three)

@@ -1,4 +1,5 @@
 -- Histories of three members in which every hypothesis of the theorems is met, by computation.
+use Rattle.std.specs.Prelude.{None}
 use mathlib.Core.Path.{◌≡◌, refl, sym, ◌∙◌}
 use mathlib.Core.Bool.{Bool, true, false, ◌&&◌}
 use mathlib.Core.List.{List, [], ◌∷◌, ◌++◌}
@@ -11,7 +12,6 @@ use Rattle.rules_base.specs.Sets.{has, with, without, size, lowest}
 use Rattle.rules_base.specs.Map.{sound, clean_from, spare, room}
 use Rattle.rules_pool.specs.declared.Mode.{Mode}
 use Rattle.rules_pool.specs.declared.Answer.{Answer}
-use Rattle.rules_pool.specs.declared.Brought.{Brought}
 use Rattle.rules_pool.specs.declared.Reply.{Reply}
 use Rattle.rules_pool.specs.declared.Outcome.{Outcome}
 use Rattle.rules_pool.specs.declared.Kind.{Kind}
@@ -64,7 +64,7 @@ abbrev pool : Pool
 pool = fresh_pool false 4096
 
 abbrev good : ℕ → Event
-good number = Event.answer zeros number (Reply.Good Brought.Nothing)
+good number = Event.answer zeros number (Reply.Good None)
 
 -- 0, 1 and 2 created and enabled
 abbrev three : List Event

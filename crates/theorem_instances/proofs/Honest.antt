@@ -1,5 +1,6 @@
 -- The hypotheses can be met, and what the theorems then say of single chunks: a pool of three members and twelve chunks, in each of the three cases. The nodes
 -- are CREATED, NORMAL and NO_IO and have different maps, versions, member sets and kept chunks.
+use Rattle.std.specs.Prelude.{Some, None}
 use mathlib.Core.Path.{◌≡◌, refl, ap, ◌∙◌}
 use mathlib.Core.Bool.{Bool, true, false}
 use mathlib.Core.Logic.{◌≢◌}
@@ -27,13 +28,11 @@ use Rattle.rules_pool.specs.Session.{free, new_session}
 use Rattle.rules_pool.specs.Session as session
 use Rattle.rules_pool.specs.declared.Kind.{Kind}
 use Rattle.rules_pool.specs.Sessions.{ids_of}
-use Rattle.rules_pool.specs.declared.Next.{Next}
 use Rattle.rules_pool.specs.Still.{possible}
 use Rattle.rules_pool.specs.StateRules.{roster_ok, run_ok, valid_pool}
 use Rattle.rules_pool.specs.Cases.{case_of, begun}
 use Rattle.rules_pool.specs.Recovery.{tried}
 use Rattle.rules_node.specs.declared.State as node
-use Rattle.rules_node.specs.declared.Transfer.{Transfer}
 use Rattle.rules_node.specs.States.{is_serving}
 use Rattle.rules_node.specs.StateRules.{kept_ok, valid}
 use Rattle.rules_node.specs.Change as change
@@ -83,7 +82,7 @@ made id state members version held chunks bits =
         version = version;
         kept = chunks;
         held = held;
-        transfer = Transfer.Nothing;
+        transfer = None;
       };
       map = bits;
       staging = bytes;
@@ -147,7 +146,7 @@ world p =
       cuts = cuts;
     }
 
-begins : (a b c : Session) (count : ℕ) (r : Run) → valid_pool (pool a b c count) ≡ true → begun (pool a b c count).roster ≡ Next.On r
+begins : (a b c : Session) (count : ℕ) (r : Run) → valid_pool (pool a b c count) ≡ true → begun (pool a b c count).roster ≡ Some r
     → Begins (pool a b c count) (world (pool a b c count))
 unfolding pool world
 begins a b c count r rules began =

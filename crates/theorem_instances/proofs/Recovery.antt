@@ -1,5 +1,6 @@
 -- The hypotheses of demand 3 can be met from a fresh pool: a history of events for each of the three cases, and one whose last event is a link down that ended a run,
 -- all with three members; the nodes are those of honest's instance, CREATED, NORMAL and NO_IO, with different maps, versions, member sets and kept chunks.
+use Rattle.std.specs.Prelude.{None}
 use mathlib.Core.Path.{◌≡◌, refl}
 use mathlib.Core.Bool.{true, false}
 use mathlib.Core.Logic.{◌≢◌}
@@ -16,7 +17,6 @@ use Rattle.rules_pool.specs.declared.Step.{Step}
 use Rattle.rules_pool.specs.declared.Phase.{Phase}
 use Rattle.rules_pool.specs.declared.Run.{Run}
 use Rattle.rules_pool.specs.declared.Pool.{Pool}
-use Rattle.rules_pool.specs.declared.Brought.{Brought}
 use Rattle.rules_pool.specs.declared.Reply.{Reply}
 use Rattle.rules_pool.specs.declared.Message.{Message}
 use Rattle.rules_pool.specs.declared.Told.{Told}
@@ -173,7 +173,7 @@ instance-3 = third-case (tried_in (Event.join_assemble 2 7 3) (after history-3))
 abbrev history-4 : List Event
 history-4 =
     Event.join_create 0 ∷ (Event.join_create 1 ∷ (Event.join_create 2 ∷ (Event.enable 1
-    ∷ (Event.store_check 0 ∷ (Event.answer bytes 1 (Reply.Good Brought.Nothing) ∷ [])))))
+    ∷ (Event.store_check 0 ∷ (Event.answer bytes 1 (Reply.Good None) ∷ [])))))
 
 abbrev run-4 : Run
 run-4 = record { phase = Phase.Spread Step.Ready; source = 1; left = 1; taken = 0 }

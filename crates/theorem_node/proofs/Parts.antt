@@ -1,4 +1,5 @@
 -- Which parts are taken and given, and that a part which is not taken changes nothing.
+use Rattle.std.specs.Prelude.{Option, Some, None}
 use mathlib.Core.Path.{◌≡◌, refl, sym, ap}
 use mathlib.Core.Bool.{true}
 use Prim.Native.Nat.{ℕ, ◌+◌, ◌*◌, ◌%◌, ◌≤◌}
@@ -8,7 +9,6 @@ use Rattle.laws_words.specs.Tests.{clash}
 use Rattle.rules_base.specs.Map.{room, clean_from}
 use Rattle.rules_base.proofs.Maps.{clean_from-at}
 use Rattle.rules_base.proofs.Sound.{spare-lt, bit_past}
-use Rattle.rules_node.specs.declared.Transfer.{Transfer}
 use Rattle.rules_node.specs.States.{in_hand, taken}
 use Rattle.rules_node.specs.Serve.{give_part_refusal}
 use Rattle.laws_node.proofs.ServeKeeps.{give_part-passed}
@@ -23,9 +23,9 @@ use Rattle.theorem_node.proofs.Demand1.{demand-1}
 use Rattle.theorem_node.proofs.Said.{known}
 
 -- a transfer in hand at this byte
-at_byte : (t : Transfer) (a : ℕ) → in_hand t ≡ true → a ≡ taken t → t ≡ Transfer.InHand a
-at_byte Transfer.Nothing a h e = clash h refl
-at_byte (Transfer.InHand bytes) a h e = ap (λ (k : ℕ). Transfer.InHand k) (sym e)
+at_byte : (t : Option ℕ) (a : ℕ) → in_hand t ≡ true → a ≡ taken t → t ≡ Some a
+at_byte None a h e = clash h refl
+at_byte (Some bytes) a h e = ap (λ (k : ℕ). Some k) (sym e)
 
 -- a bit past the chunk count has no room
 no_room : (n k j : ℕ) → n ≤ 8 * (k % 512) + j → room n (k % 512) ≤ j

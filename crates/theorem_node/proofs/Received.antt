@@ -1,4 +1,5 @@
 -- A map received: MAP_READY, consecutive parts of a map, MAP_DONE, one right after the other. What is left follows from what each is said to leave.
+use Rattle.std.specs.Prelude.{Option, Some, None}
 use mathlib.Core.Path.{◌≡◌, refl, sym, ap, ◌∙◌, subst}
 use mathlib.Core.Bool.{Bool, true, false, not, ◌&&◌}
 use mathlib.Core.List.{List, [], ◌∷◌}
@@ -24,7 +25,6 @@ use Rattle.rules_base.proofs.Rows.{zeroed-all, or-into-zero}
 use Rattle.rules_base.proofs.Sound.{Sound, sound-fact}
 use Rattle.rules_base.specs.Parts.{is_part, part_of}
 use Rattle.rules_base.proofs.Joined.{length-part_of, clean-part, parts_none, parts_more, parts_whole}
-use Rattle.rules_node.specs.declared.Transfer.{Transfer}
 use Rattle.rules_node.specs.declared.Node.{Node}
 use Rattle.rules_node.specs.declared.Turn.{Turn}
 use Rattle.rules_node.specs.Change.{went_to, transferred}
@@ -51,7 +51,7 @@ use Rattle.theorem_node.proofs.Said.{known, ors, each-bit, staging-as-said, tran
 -- ---- the bytes below a have come
 
 abbrev partly : List ℕ → ℕ → Held → Held
-partly zs a w = record { at = record { node = transferred w.at.node (Transfer.InHand a); summaries = w.at.summaries }; map = w.map; staging = or_from 0 a w.staging zs }
+partly zs a w = record { at = record { node = transferred w.at.node (Some a); summaries = w.at.summaries }; map = w.map; staging = or_from 0 a w.staging zs }
 
 -- the next part comes
 took-part : (zs : List ℕ) (a l : ℕ) (w : Held) → a + l ≤ length zs → Accepts (Event.take_part a (part_of a l zs)) (partly zs a w) → next (Event.take_part a (part_of a l zs)) (partly zs a w) ≡ partly zs (a + l) w
@@ -144,7 +144,7 @@ ready-leaves : (keep : Bool) (w : Held) → Accepts (Event.map_ready keep) w →
 unfolding law readied went_to transferred
 ready-leaves keep w a = let q = (known (Event.map_ready keep) w a).turn in record { id = ap (λ (t : Turn). t.node.id) q; count = ap (λ (t : Turn). t.node.chunks) q }
 
-at-start : (zs : List ℕ) (v : Held) → v.at.node.transfer ≡ Transfer.InHand 0 → v ≡ partly zs 0 v
+at-start : (zs : List ℕ) (v : Held) → v.at.node.transfer ≡ Some 0 → v ≡ partly zs 0 v
 unfolding transferred
 at-start zs v e = rw (parts_none v.staging zs, ← e) refl
 
@@ -306,6 +306,6 @@ not-before enabling version set w a =
     let d = known (Event.map_done enabling version set) w a in
     at w.at.node.transfer (map_done-passed w.at.node (lent_at w) version set d.none).0.from d.rules.part
   where
-    at : (t : Transfer) → is_whole t ≡ true → taken t ≤ 8192 → t ≡ Transfer.InHand 8192
-    at Transfer.Nothing e h = absurd (let q : 8192 ≤ 0 = leb-true 8192 0 e in omega arith)
-    at (Transfer.InHand bytes) e h = let l : 8192 ≤ bytes = leb-true 8192 bytes e in let q : bytes ≡ 8192 = omega arith in ap (λ (k : ℕ). Transfer.InHand k) q
+    at : (t : Option ℕ) → is_whole t ≡ true → taken t ≤ 8192 → t ≡ Some 8192
+    at None e h = absurd (let q : 8192 ≤ 0 = leb-true 8192 0 e in omega arith)
+    at (Some bytes) e h = let l : 8192 ≤ bytes = leb-true 8192 bytes e in let q : bytes ≡ 8192 = omega arith in ap (λ (k : ℕ). Some k) q

@@ -1,12 +1,11 @@
 -- Marks commute. A write is a mark, a synced is a clear, a fill marks every chunk of one member; the transport may bring them in another order than they were sent in. What is the same then, and where the order is
 -- seen. Where a theorem says so, the node's array has its sixteen places (true of every value of the type).
-use Rattle.std.specs.Prelude.{◌≡◌, ◌≢◌, Bool, true, false, List, [], ◌∷◌, ◌++◌, ℕ, ◌≤◌, ◌<◌, max, length, replicate}
+use Rattle.std.specs.Prelude.{◌≡◌, ◌≢◌, Bool, true, false, List, [], ◌∷◌, ◌++◌, ℕ, ◌≤◌, ◌<◌, max, length, replicate, None}
 use Rattle.rules_base.specs.Limits.{version_limit}
 use Rattle.rules_base.specs.Sets.{has}
 use Rattle.rules_base.specs.Chunk.{dirty}
 use Rattle.rules_base.specs.Map.{sound, or_in}
 use Rattle.rules_node.specs.declared.State.{State}
-use Rattle.rules_node.specs.declared.Transfer.{Transfer}
 use Rattle.rules_node.specs.declared.Node.{Node}
 use Rattle.rules_node.specs.Change.{forgotten}
 use Rattle.rules_node.specs.Events.{Event}
@@ -236,7 +235,7 @@ node1 =
       version = 1;
       kept = replicate 16 0;
       held = 0;
-      transfer = Transfer.Nothing;
+      transfer = None;
     }
 
 abbrev pub here : Held

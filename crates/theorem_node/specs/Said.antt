@@ -1,6 +1,6 @@
 -- What an accepted event leaves of a node's map, staging and kept chunks, sentence by sentence as document 01 has it ("Node"), over bytes and single chunks:
 -- byte k of a map is in row k / 512. None of the events' own definitions is cited, so that a rule misread in definition and code alike does not meet this.
-use Rattle.std.specs.Prelude.{◌≡◌, ◌≢◌, Bool, true, false, List, [], ◌∷◌, ◌++◌, ℕ, ◌+◌, ◌-◌, ◌*◌, ◌/◌, ◌%◌, ◌≤◌, ◌<◌, max, length, get_or, drop, replicate}
+use Rattle.std.specs.Prelude.{◌≡◌, ◌≢◌, Bool, true, false, List, [], ◌∷◌, ◌++◌, ℕ, ◌+◌, ◌-◌, ◌*◌, ◌/◌, ◌%◌, ◌≤◌, ◌<◌, max, length, get_or, drop, replicate, Option, Some, None}
 use Rattle.std.specs.Int.Bits.{bit_or}
 use Rattle.laws_words.specs.Words.{pick, bit}
 use Rattle.rules_base.specs.Limits.{map_bytes, version_limit}
@@ -10,7 +10,6 @@ use Rattle.rules_base.specs.Map.{sound}
 use Rattle.rules_base.specs.Summary.{agree}
 use Rattle.rules_base.specs.declared.Op.{Op}
 use Rattle.rules_node.specs.declared.State.{State}
-use Rattle.rules_node.specs.declared.Transfer.{Transfer}
 use Rattle.rules_node.specs.declared.Node.{Node}
 use Rattle.rules_node.specs.States.{is_serving}
 use Rattle.rules_node.specs.StateRules.{valid}
@@ -89,7 +88,7 @@ pub record LastIos (n : Node) (chosen : ℕ) (from left : List ℕ) : Type 0 whe
 -- of what it leaves: of staging, of the transfer in hand, of the map, of the kept chunks
 pub record Sentence : Type 1 where
   pub staging : List ℕ → Type 0
-  pub transfer : Transfer → Type 0
+  pub transfer : Option ℕ → Type 0
   pub map : List ℕ → Type 0
   pub kept : List ℕ → Type 0
 
@@ -97,7 +96,7 @@ pub record Sentence : Type 1 where
 abbrev pub StagingStays : Held → List ℕ → Type 0
 StagingStays w left = left ≡ w.staging
 
-abbrev pub TransferStays : Held → Transfer → Type 0
+abbrev pub TransferStays : Held → Option ℕ → Type 0
 TransferStays w left = left ≡ w.at.node.transfer
 
 abbrev pub MapStays : Held → List ℕ → Type 0
@@ -107,8 +106,8 @@ abbrev pub KeptStays : Held → List ℕ → Type 0
 KeptStays w left = left ≡ kept_chunks w.at.node
 
 -- the transfer is gone with staging, dropped or committed
-abbrev pub Gone : Transfer → Type 0
-Gone left = left ≡ Transfer.Nothing
+abbrev pub Gone : Option ℕ → Type 0
+Gone left = left ≡ None
 
 -- its own row; the rows of a set
 abbrev pub Own : Held → ℕ → Type 0
@@ -139,7 +138,7 @@ said_of (Event.register_add set version) w = record { staging = StagingStays w; 
 said_of (Event.unregister delete) w =
     record {
       staging = λ left. (w.at.node.state ≡ State.NoIo → Zeroed left) × (w.at.node.state ≢ State.NoIo → left ≡ w.staging);
-      transfer = λ left. (w.at.node.state ≡ State.NoIo → left ≡ Transfer.Nothing) × (w.at.node.state ≢ State.NoIo → left ≡ w.at.node.transfer);
+      transfer = λ left. (w.at.node.state ≡ State.NoIo → left ≡ None) × (w.at.node.state ≢ State.NoIo → left ≡ w.at.node.transfer);
       map = λ left. pick delete (Zeroed left) (left ≡ w.map);
       kept = KeptStays w;
     }
@@ -170,9 +169,9 @@ said_of (Event.pool_info op member) w =
       map = λ left. pick (zeroes_row op) (Rows (λ m. m ≢ member) w.map left) (left ≡ w.map);
       kept = KeptStays w;
     }
-said_of (Event.map_ready keep) w = record { staging = λ left. pick keep (left ≡ w.map) (Zeroed left); transfer = λ left. left ≡ Transfer.InHand 0; map = MapStays w; kept = KeptStays w }
+said_of (Event.map_ready keep) w = record { staging = λ left. pick keep (left ≡ w.map) (Zeroed left); transfer = λ left. left ≡ Some 0; map = MapStays w; kept = KeptStays w }
 said_of (Event.give_part offset size) w = record { staging = StagingStays w; transfer = TransferStays w; map = MapStays w; kept = KeptStays w }
-said_of (Event.take_part offset part) w = record { staging = PartOred offset part w.staging; transfer = λ left. left ≡ Transfer.InHand (offset + length part); map = MapStays w; kept = KeptStays w }
+said_of (Event.take_part offset part) w = record { staging = PartOred offset part w.staging; transfer = λ left. left ≡ Some (offset + length part); map = MapStays w; kept = KeptStays w }
 said_of (Event.map_done enabling version set) w = record { staging = Zeroed; transfer = Gone; map = Rows (In set) w.staging; kept = KeptStays w }
 said_of Event.map_disable w = record { staging = Zeroed; transfer = Gone; map = MapStays w; kept = KeptStays w }
 said_of Event.map_get_ver w = record { staging = StagingStays w; transfer = TransferStays w; map = MapStays w; kept = KeptStays w }
@@ -199,7 +198,7 @@ KeptAsSaid = (e : Event) (w : Held) → length w.at.node.kept ≡ 16 → Accepts
 pub record TakenPart (offset : ℕ) (part : List ℕ) (n : Node) : Type 0 where
   pub some : 1 ≤ length part
   pub few : length part ≤ 1024
-  pub here : n.transfer ≡ Transfer.InHand offset
+  pub here : n.transfer ≡ Some offset
   pub within : offset + length part ≤ 8192
   pub none : (i j : ℕ) → i < length part → n.chunks ≤ 8 * ((offset + i) % 512) + j → bit (get_or part i 0) j ≡ 0
 
@@ -251,7 +250,7 @@ pub record Came (n : ℕ) (zs from left : List ℕ) : Type 0 where
 pub record Took (keep : Bool) (zs lengths : List ℕ) (w : Held) : Type 0 where
   pub readies : Accepts (Event.map_ready keep) w
   pub takes : AllAccepted (takes zs 0 lengths) (ready keep w)
-  pub transfer : (took keep zs lengths w).at.node.transfer ≡ Transfer.InHand (total lengths)
+  pub transfer : (took keep zs lengths w).at.node.transfer ≡ Some (total lengths)
   pub staging : Came (total lengths) zs (ready keep w).staging (took keep zs lengths w).staging
 
 -- After MAP_READY any list of consecutive parts of a sound map, 1 to 1,024 bytes each, is accepted, also one that is cut short. Staging is then the OR with the bytes
@@ -302,4 +301,4 @@ OldMarksKept = (zs lengths : List ℕ) (enabling : Bool) (version set : ℕ) (w 
 
 -- Before byte 8,192 MAP_DONE is refused, with 15 at the latest.
 abbrev pub NotBefore : Type 0
-NotBefore = (enabling : Bool) (version set : ℕ) (w : Held) → Accepts (Event.map_done enabling version set) w → w.at.node.transfer ≡ Transfer.InHand map_bytes
+NotBefore = (enabling : Bool) (version set : ℕ) (w : Held) → Accepts (Event.map_done enabling version set) w → w.at.node.transfer ≡ Some map_bytes

@@ -1,4 +1,5 @@
 -- What is done to a node's maps and kept chunks, in the words of the statements.
+use Rattle.std.specs.Prelude.{Option, Some, None}
 use mathlib.Core.Path.{◌≡◌, refl, sym, ap, ◌∙◌}
 use mathlib.Core.Logic.{◌≢◌}
 use mathlib.Core.Bool.{Bool, true, false, ◌&&◌}
@@ -26,7 +27,6 @@ use Rattle.rules_base.specs.Parts.{or_part}
 use Rattle.rules_base.proofs.Joined.{part-in, part-before, part-past, sound-part}
 use Rattle.rules_node.specs.declared.State.{State}
 use Rattle.rules_node.specs.declared.OnMap.{OnMap}
-use Rattle.rules_node.specs.declared.Transfer.{Transfer}
 use Rattle.rules_node.specs.declared.Node.{Node}
 use Rattle.rules_node.specs.States.{is_no_io, in_hand}
 use Rattle.rules_node.specs.StateRules.{standing}
@@ -233,9 +233,9 @@ in-no-io : (n : Node) → Valid n → in_hand n.transfer ≡ true → n.state �
 in-no-io n v h =
     is-no-io n.state (given _ _ (at-node (λ s store create hand own. gives (standing s store create hand own && hand) (is_no_io s)) refl n) (and_both v.stand h))
 
-pub none-else : (n : Node) → Valid n → n.state ≢ State.NoIo → Transfer.Nothing ≡ n.transfer
+pub none-else : (n : Node) → Valid n → n.state ≢ State.NoIo → None ≡ n.transfer
 none-else n v d = at n.transfer refl
   where
-    at : (t : Transfer) → n.transfer ≡ t → Transfer.Nothing ≡ n.transfer
-    at Transfer.Nothing e = sym e
-    at (Transfer.InHand bytes) e = absurd (d (in-no-io n v (ap in_hand e)))
+    at : (t : Option ℕ) → n.transfer ≡ t → None ≡ n.transfer
+    at None e = sym e
+    at (Some bytes) e = absurd (d (in-no-io n v (ap in_hand e)))

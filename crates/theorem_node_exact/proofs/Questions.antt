@@ -1,4 +1,5 @@
 -- The two questions.
+use Rattle.std.specs.Prelude.{Option, Some, None}
 use mathlib.Core.Path.{◌≡◌, refl, sym, ap, ◌∙◌}
 use mathlib.Core.Bool.{Bool, true, false, ◌&&◌, ◌||◌}
 use mathlib.Core.List.{List}
@@ -13,7 +14,6 @@ use Rattle.rules_base.specs.Chunk.{dirty}
 use Rattle.rules_base.specs.Empty.{row_empty}
 use Rattle.rules_base.proofs.EmptyRows.{empty-clean, clean-empty}
 use Rattle.rules_base.specs.Search.{first_dirty}
-use Rattle.rules_base.specs.declared.Found.{Found}
 use Rattle.rules_base.proofs.Searching.{reads, as-reading-chunks}
 use Rattle.rules_node.specs.declared.State.{State}
 use Rattle.rules_node.specs.declared.Checked.{Checked}
@@ -116,13 +116,13 @@ number (Next.Is f) = 0
 
 abbrev place : Next → ℕ
 place (Next.Refused k) = 0
-place (Next.Is Found.Nothing) = 0
-place (Next.Is (Found.At c)) = c
+place (Next.Is None) = 0
+place (Next.Is (Some c)) = c
 
 abbrev is-there : Next → Bool
 is-there (Next.Refused k) = false
-is-there (Next.Is Found.Nothing) = false
-is-there (Next.Is (Found.At c)) = true
+is-there (Next.Is None) = false
+is-there (Next.Is (Some c)) = true
 
 pub next-dirty-chunk : NextDirtyChunk
 next-dirty-chunk member start w g =
@@ -148,7 +148,7 @@ next-dirty-chunk member start w g =
     late : ltb start w.at.node.chunks ≡ false → w.at.node.chunks ≤ start
     late e = ltb-false start w.at.node.chunks e
 
-    at : (b c : Bool) (f : Found) → (ltb 15 w.at.node.id || ltb 15 member) ≡ b → ltb start w.at.node.chunks ≡ c → first_dirty w.map member start w.at.node.chunks ≡ f
+    at : (b c : Bool) (f : Option ℕ) → (ltb 15 w.at.node.id || ltb 15 member) ≡ b → ltb start w.at.node.chunks ≡ c → first_dirty w.map member start w.at.node.chunks ≡ f
         → (next_at w.at w.map w.staging member start).answer ≡ pick b (Next.Refused 3) (pick c (Next.Is (first_dirty w.map member start w.at.node.chunks)) (Next.Refused 4))
         → NextSaid member start w
     at true c f e _ _ v =
@@ -168,10 +168,10 @@ next-dirty-chunk member start w g =
           nothing = (λ q. absurd (let z : ◌≡◌ {A = ℕ} 4 0 = ap number (sym v ∙ q) in let y : ⊥ = omega (arith, z) in y), λ (_, _, a, _). absurd (let h : w.at.node.chunks ≤ start = late l in let y : ⊥ = omega arith in y));
           stays = refl;
         }
-    at false true Found.Nothing e l r v =
+    at false true None e l r v =
         let (i, m) = ids e in
         let s : start < w.at.node.chunks = ltb-true start w.at.node.chunks l in
-        let u : (next_at w.at w.map w.staging member start).answer ≡ Next.Is Found.Nothing = v ∙ ap Next.Is r in
+        let u : (next_at w.at w.map w.staging member start).answer ≡ Next.Is None = v ∙ ap Next.Is r in
         record {
           three = (λ q. absurd (let z : ◌≡◌ {A = ℕ} 0 3 = ap number (sym u ∙ q) in let y : ⊥ = omega (arith, z) in y), λ d. absurd (d (i, m)));
           four = (λ q. absurd (let z : ◌≡◌ {A = ℕ} 0 4 = ap number (sym u ∙ q) in let y : ⊥ = omega (arith, z) in y), λ (_, _, h). absurd (let y : ⊥ = omega arith in y));
@@ -179,15 +179,15 @@ next-dirty-chunk member start w g =
           nothing = (λ q. (i, m, s, λ k a b. reads.nothing w.map member start w.at.node.chunks r k a b), λ _. u);
           stays = refl;
         }
-    at false true (Found.At c) e l r v =
+    at false true (Some c) e l r v =
         let (i, m) = ids e in
         let s : start < w.at.node.chunks = ltb-true start w.at.node.chunks l in
-        let u : (next_at w.at w.map w.staging member start).answer ≡ Next.Is (Found.At c) = v ∙ ap Next.Is r in
+        let u : (next_at w.at w.map w.staging member start).answer ≡ Next.Is (Some c) = v ∙ ap Next.Is r in
         let p = reads.at w.map member start w.at.node.chunks c r in
         record {
           three = (λ q. absurd (let z : ◌≡◌ {A = ℕ} 0 3 = ap number (sym u ∙ q) in let y : ⊥ = omega (arith, z) in y), λ d. absurd (d (i, m)));
           four = (λ q. absurd (let z : ◌≡◌ {A = ℕ} 0 4 = ap number (sym u ∙ q) in let y : ⊥ = omega (arith, z) in y), λ (_, _, h). absurd (let y : ⊥ = omega arith in y));
-          found = λ k. (λ q. let z : c ≡ k = ap place (sym u ∙ q) in rw (← z) (i, m, p.0, p.1.0, p.1.1.0, p.1.1.1), λ (_, _, a, b, d, f). u ∙ ap (λ (j : ℕ). Next.Is (Found.At j)) (first c k p.0 p.1.1.0 p.1.1.1 a d f));
+          found = λ k. (λ q. let z : c ≡ k = ap place (sym u ∙ q) in rw (← z) (i, m, p.0, p.1.0, p.1.1.0, p.1.1.1), λ (_, _, a, b, d, f). u ∙ ap (λ (j : ℕ). Next.Is (Some j)) (first c k p.0 p.1.1.0 p.1.1.1 a d f));
           nothing = (λ q. clash refl (ap is-there (sym u ∙ q)), λ (_, _, _, f). absurd (let z = f c p.0 p.1.0 in let y : ⊥ = omega (arith, z, p.1.1.0) in y));
           stays = refl;
         }

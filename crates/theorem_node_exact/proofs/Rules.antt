@@ -1,4 +1,5 @@
 -- A node in order, by the rules' own tests and in the documents' words.
+use Rattle.std.specs.Prelude.{Option, Some, None}
 use mathlib.Core.Path.{◌≡◌, refl, sym, ap, ◌∙◌}
 use mathlib.Core.Logic.{◌≢◌}
 use mathlib.Core.Bool.{Bool, true, false, not, ◌&&◌, ◌||◌}
@@ -21,7 +22,6 @@ use Rattle.rules_base.specs.Map.{room, spare, clean_from, sound}
 use Rattle.rules_base.proofs.Maps.{clean_from-yes, clean_from-at}
 use Rattle.rules_base.proofs.Sound.{sound-fact, sound-test, spare-lt, sound-byte, bit_past, sound-past, sound-of-chunks}
 use Rattle.rules_node.specs.declared.State.{State}
-use Rattle.rules_node.specs.declared.Transfer.{Transfer}
 use Rattle.rules_node.specs.declared.Node.{Node}
 use Rattle.rules_node.specs.States.{is_empty, is_registered, is_no_io, in_hand, taken}
 use Rattle.rules_node.specs.StateRules.{is_kept, place_ok, kept_ok, store_ok, standing, valid}
@@ -60,15 +60,15 @@ not-no-io State.Created d = refl
 not-no-io State.Normal d = refl
 not-no-io State.NoIo d = absurd (d refl)
 
-so-far : (t : Transfer) → so_far t ≡ taken t
-so-far Transfer.Nothing = refl
-so-far (Transfer.InHand bytes) = refl
+so-far : (t : Option ℕ) → so_far t ≡ taken t
+so-far None = refl
+so-far (Some bytes) = refl
 
-hand-some : (t : Transfer) → t ≢ Transfer.Nothing → in_hand t ≡ true
-hand-some Transfer.Nothing d = absurd (d refl)
-hand-some (Transfer.InHand bytes) d = refl
+hand-some : (t : Option ℕ) → t ≢ None → in_hand t ≡ true
+hand-some None d = absurd (d refl)
+hand-some (Some bytes) d = refl
 
-some-hand : (t : Transfer) → in_hand t ≡ true → t ≢ Transfer.Nothing
+some-hand : (t : Option ℕ) → in_hand t ≡ true → t ≢ None
 some-hand t h q = clash h (ap in_hand q)
 
 pub few-held : (n : Node) → Valid n → n.held ≤ 16

@@ -1,4 +1,5 @@
 -- What each test of an event says, in the documents' words: the test does not hold exactly where the event has what it needs.
+use Rattle.std.specs.Prelude.{Option, Some, None}
 use mathlib.Core.Path.{◌≡◌, refl, sym, ap, ◌∙◌}
 use mathlib.Core.Logic.{◌≢◌, ◌⊎◌, inl, inr}
 use mathlib.Core.Bool.{Bool, true, false, not, ◌&&◌, ◌||◌}
@@ -15,7 +16,6 @@ use Rattle.rules_base.specs.Parts.{is_part}
 use Rattle.rules_base.specs.Sets.{has}
 use Rattle.rules_base.specs.declared.Op.{Op}
 use Rattle.rules_node.specs.declared.State.{State}
-use Rattle.rules_node.specs.declared.Transfer.{Transfer}
 use Rattle.rules_node.specs.declared.Node.{Node}
 use Rattle.rules_node.specs.States.{is_empty, is_registered, is_normal, is_joined, is_serving, in_hand, is_whole, taken}
 use Rattle.rules_node.specs.Register.{takes_store, gives_store}
@@ -195,18 +195,18 @@ demands-it Op.RemoveDisassemble member = (λ e q. clash (ap is-add q) refl, λ f
 
 -- ---- the transfer in hand
 
-in-hand : (t : Transfer) → Tied (not (in_hand t)) (t ≢ Transfer.Nothing)
-in-hand Transfer.Nothing = guard (λ e. clash e refl) (λ d. absurd (d refl))
-in-hand (Transfer.InHand bytes) = guard (λ e q. clash refl (ap in_hand q)) (λ d. refl)
+in-hand : (t : Option ℕ) → Tied (not (in_hand t)) (t ≢ None)
+in-hand None = guard (λ e. clash e refl) (λ d. absurd (d refl))
+in-hand (Some bytes) = guard (λ e q. clash refl (ap in_hand q)) (λ d. refl)
 
-whole : (t : Transfer) → taken t ≤ 8192 → Tied (not (is_whole t)) (t ≡ Transfer.InHand 8192)
-whole Transfer.Nothing l = guard (λ e. clash e refl) (λ q. clash (ap in_hand q) refl)
-whole (Transfer.InHand bytes) l =
-    guard (λ e. let h : 8192 ≤ bytes = leb-true 8192 bytes e in let q : bytes ≡ 8192 = omega arith in ap (λ (b : ℕ). Transfer.InHand b) q) (λ q. ap is_whole q)
+whole : (t : Option ℕ) → taken t ≤ 8192 → Tied (not (is_whole t)) (t ≡ Some 8192)
+whole None l = guard (λ e. clash e refl) (λ q. clash (ap in_hand q) refl)
+whole (Some bytes) l =
+    guard (λ e. let h : 8192 ≤ bytes = leb-true 8192 bytes e in let q : bytes ≡ 8192 = omega arith in ap (λ (b : ℕ). Some b) q) (λ q. ap is_whole q)
 
-so-far : (t : Transfer) → so_far t ≡ taken t
-so-far Transfer.Nothing = refl
-so-far (Transfer.InHand bytes) = refl
+so-far : (t : Option ℕ) → so_far t ≡ taken t
+so-far None = refl
+so-far (Some bytes) = refl
 
 a-size : (offset size : ℕ) → Tied (not (is_part offset size)) ((1 ≤ size) × (size ≤ 1024) × (offset + size ≤ 8192))
 a-size offset size =

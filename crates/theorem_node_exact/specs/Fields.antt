@@ -1,11 +1,10 @@
 -- What becomes of a node's fields, its map and its staging by an accepted event, sentence by sentence as documents 01 ("Node") and 02 have it. One line a field, one clause an event: a clause
 -- names what the event changes, and the rest stays.
-use Rattle.std.specs.Prelude.{◌≡◌, ◌≢◌, ◌⊎◌, Bool, true, false, List, [], ◌∷◌, ◌++◌, ℕ, ◌+◌, max, length}
+use Rattle.std.specs.Prelude.{◌≡◌, ◌≢◌, ◌⊎◌, Bool, true, false, List, [], ◌∷◌, ◌++◌, ℕ, ◌+◌, max, length, Option, Some, None}
 use Rattle.laws_words.specs.Words.{pick}
 use Rattle.rules_base.specs.Summary.{agree}
 use Rattle.rules_base.specs.declared.Op.{Op}
 use Rattle.rules_node.specs.declared.State.{State}
-use Rattle.rules_node.specs.declared.Transfer.{Transfer}
 use Rattle.rules_node.specs.declared.Answer.{Answer}
 use Rattle.rules_node.specs.Events.{Event}
 use Rattle.rules_node.specs.Face.{answers}
@@ -20,7 +19,7 @@ pub record Left : Type 1 where
   pub create : Bool
   pub members : ℕ → Type 0
   pub version : ℕ
-  pub transfer : Transfer
+  pub transfer : Option ℕ
   pub kept : List ℕ
   pub map : List ℕ → Type 0
   pub staging : List ℕ → Type 0
@@ -60,7 +59,7 @@ members m l = record { answer = l.answer; state = l.state; store = l.store; crea
 abbrev pub version : ℕ → Left → Left
 version v l = record { answer = l.answer; state = l.state; store = l.store; create = l.create; members = l.members; version = v; transfer = l.transfer; kept = l.kept; map = l.map; staging = l.staging }
 
-abbrev pub transfer : Transfer → Left → Left
+abbrev pub transfer : Option ℕ → Left → Left
 transfer t l = record { answer = l.answer; state = l.state; store = l.store; create = l.create; members = l.members; version = l.version; transfer = t; kept = l.kept; map = l.map; staging = l.staging }
 
 abbrev pub kept : List ℕ → Left → Left
@@ -74,7 +73,7 @@ staging s l = record { answer = l.answer; state = l.state; store = l.store; crea
 
 -- "dropped or committed, it is zeroed", and no transfer is in hand
 abbrev pub dropped : Left → Left
-dropped l = transfer Transfer.Nothing (staging Zeroed l)
+dropped l = transfer None (staging Zeroed l)
 
 -- its own row
 abbrev pub Own : Held → ℕ → Type 0
@@ -127,10 +126,10 @@ leaves (Event.pool_info Op.AddAssemble member) w = stays w
 leaves (Event.pool_info Op.RemoveDelete member) w = members (λ m. (m ≢ member) × In w.at.node.members m) (map (Rows (λ m. m ≢ member) w.map) (stays w))
 leaves (Event.pool_info Op.RemoveDisassemble member) w = stays w
 -- "MAP_READY gives NO_IO and fills staging (zero, or the map)."; "MAP_READY starts again at offset 0." (C-11)
-leaves (Event.map_ready keep) w = to State.NoIo (transfer (Transfer.InHand 0) (staging (λ left. pick keep (left ≡ w.map) (Zeroed left)) (stays w)))
+leaves (Event.map_ready keep) w = to State.NoIo (transfer (Some 0) (staging (λ left. pick keep (left ≡ w.map) (Zeroed left)) (stays w)))
 leaves (Event.give_part offset size) w = stays w
 -- "Taking a map ORs it in.", as "consecutive parts .. each with its offset" (C-11)
-leaves (Event.take_part offset part) w = transfer (Transfer.InHand (offset + length part)) (staging (PartOred offset part w.staging) (stays w))
+leaves (Event.take_part offset part) w = transfer (Some (offset + length part)) (staging (PartOred offset part w.staging) (stays w))
 -- "MAP_DONE commits, NORMAL if enabling."
 leaves (Event.map_done enabling v set) w =
     to (pick enabling State.Normal w.at.node.state) (members (In set) (version v (map (Rows (In set) w.staging) (dropped (stays w)))))

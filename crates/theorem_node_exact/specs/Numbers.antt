@@ -1,8 +1,7 @@
 -- Which number is given, by the sentence of the table of refusals: "The first that applies, in this order." The order is 1, 2, 18, 3, 4, 9, 10, 14, 15, 16; what each event needs is in When.
-use Rattle.std.specs.Prelude.{◌≡◌, Bool, true, false, List, [], ◌∷◌, ℕ, ◌-◌, ◌^◌, ◌≤◌}
+use Rattle.std.specs.Prelude.{◌≡◌, Bool, true, false, List, [], ◌∷◌, ℕ, ◌-◌, ◌^◌, ◌≤◌, None}
 use Rattle.rules_base.specs.Refusals.{has_place}
 use Rattle.rules_base.specs.Summary.{agree}
-use Rattle.rules_node.specs.declared.Transfer.{Transfer}
 use Rattle.rules_node.specs.Events.{Event}
 use Rattle.rules_node.specs.Held.{Held, next}
 use Rattle.theorem_node_exact.specs.Words.{Iff, Refuses, AnId, ASet, In, KeepsRules, AMap, InOrder}
@@ -87,4 +86,4 @@ pub record FifteenThen (w : Held) : Type 0 where
   pub disable : Refuses 15 Event.map_disable w
 
 abbrev pub NothingInHand : Type 0
-NothingInHand = (w : Held) → InOrder w → AnId w.at.node.id → w.at.node.transfer ≡ Transfer.Nothing → FifteenThen w
+NothingInHand = (w : Held) → InOrder w → AnId w.at.node.id → w.at.node.transfer ≡ None → FifteenThen w

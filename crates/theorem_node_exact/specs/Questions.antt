@@ -1,7 +1,6 @@
 -- The two questions to a node, map check (C-17) and the next dirty chunk (C-18): what is answered, which number is given. Neither changes anything: what is handed back holds the same node.
-use Rattle.std.specs.Prelude.{◌≡◌, true, false, ℕ, ◌≤◌, ◌<◌}
+use Rattle.std.specs.Prelude.{◌≡◌, true, false, ℕ, ◌≤◌, ◌<◌, Some, None}
 use Rattle.rules_base.specs.Chunk.{dirty}
-use Rattle.rules_base.specs.declared.Found.{Found}
 use Rattle.rules_node.specs.declared.State.{State}
 use Rattle.rules_node.specs.declared.Checked.{Checked}
 use Rattle.rules_node.specs.declared.Next.{Next}
@@ -42,9 +41,9 @@ pub record NextSaid (member start : ℕ) (w : Held) : Type 0 where
   pub three : Iff (NextIs (Next.Refused 3) member start w) (¬ (AnId w.at.node.id × AnId member))
   pub four : Iff (NextIs (Next.Refused 4) member start w) (AnId w.at.node.id × AnId member × (w.at.node.chunks ≤ start))
   pub found : (c : ℕ)
-      → Iff (NextIs (Next.Is (Found.At c)) member start w)
+      → Iff (NextIs (Next.Is (Some c)) member start w)
       (AnId w.at.node.id × AnId member × (start ≤ c) × (c < w.at.node.chunks) × (dirty w.map member c ≡ 1) × CleanFrom member start c w)
-  pub nothing : Iff (NextIs (Next.Is Found.Nothing) member start w)
+  pub nothing : Iff (NextIs (Next.Is None) member start w)
       (AnId w.at.node.id × AnId member × (start < w.at.node.chunks) × CleanFrom member start w.at.node.chunks w)
   pub stays : (next_at w.at w.map w.staging member start).node ≡ w.at
 

@@ -1,8 +1,7 @@
 -- When a node takes an event: what must hold, each with the number that is given where it does not ("Node", the table of refusals; C-11, C-13, C-20).
-use Rattle.std.specs.Prelude.{◌≡◌, ◌≢◌, ◌⊎◌, true, false, ◌+◌, ◌-◌, ◌^◌, ◌≤◌, ◌<◌, length}
+use Rattle.std.specs.Prelude.{◌≡◌, ◌≢◌, ◌⊎◌, true, false, ◌+◌, ◌-◌, ◌^◌, ◌≤◌, ◌<◌, length, Some, None}
 use Rattle.rules_base.specs.declared.Op.{Op}
 use Rattle.rules_node.specs.declared.State.{State}
-use Rattle.rules_node.specs.declared.Transfer.{Transfer}
 use Rattle.rules_node.specs.declared.Node.{Node}
 use Rattle.rules_node.specs.Events.{Event}
 use Rattle.rules_node.specs.Held.{Held}
@@ -77,12 +76,12 @@ needs (Event.give_part offset size) n = else9 (Serving n) (else16 ((1 ≤ size) 
 -- "Taking a map, MAP_DONE and MAP_DISABLE give 15, never 9, with nothing in hand." "A part of length 0 or above 1,024, a taken one that does not start where the last ended, one past byte
 -- 8,192 or one with a bit past the chunk count is refused with a new number 16, checked last"
 needs (Event.take_part offset part) n =
-    else15 (n.transfer ≢ Transfer.Nothing)
+    else15 (n.transfer ≢ None)
     (else16 ((1 ≤ length part) × (length part ≤ 1024) × (offset + length part ≤ 8192) × (offset ≡ so_far n.transfer) × APart n.chunks offset part) (nothing n))
 -- "Enable 1 and MAP_DONE store version and member set (holding itself, else 10)"; "MAP_DONE before byte 8,192 stays refusal 15."
 needs (Event.map_done enabling version set) n =
-    else3 (ASet set) (else10 (In set n.id) (else14 (version ≤ 2 ^ 63 - 34) (else15 (n.transfer ≡ Transfer.InHand 8192) (nothing n))))
-needs Event.map_disable n = else15 (n.transfer ≢ Transfer.Nothing) (nothing n)
+    else3 (ASet set) (else10 (In set n.id) (else14 (version ≤ 2 ^ 63 - 34) (else15 (n.transfer ≡ Some 8192) (nothing n))))
+needs Event.map_disable n = else15 (n.transfer ≢ None) (nothing n)
 needs Event.map_get_ver n = else9 (Serving n) (nothing n)
 needs (Event.last_io_to_map chosen) n = else3 (AnId chosen) (else9 (Serving n) (nothing n))
 -- Fill: "taken in CREATED, NORMAL and NO_IO, for a member of the node's set, else 10; it also stores the pool's version as a write does, refusal 14 as there"

@@ -1,13 +1,12 @@
 -- The words that the statements about a node's events are made of, over the node's fields, bytes and single chunks: byte k of a map is in row k / 512. None of the events' own tests,
 -- guards and changes is cited, here or in the statements, so that a rule misread in definition and code alike makes them false.
-use Rattle.std.specs.Prelude.{◌≡◌, ◌≢◌, ◌⊎◌, true, false, List, ℕ, ◌+◌, ◌-◌, ◌*◌, ◌/◌, ◌%◌, ◌^◌, ◌≤◌, ◌<◌, length, get_or, drop, replicate}
+use Rattle.std.specs.Prelude.{◌≡◌, ◌≢◌, ◌⊎◌, true, false, List, ℕ, ◌+◌, ◌-◌, ◌*◌, ◌/◌, ◌%◌, ◌^◌, ◌≤◌, ◌<◌, length, get_or, drop, replicate, Option, Some, None}
 use Rattle.std.specs.Int.Bits.{bit_or}
 use Rattle.laws_words.specs.Words.{bit}
 use Rattle.rules_base.specs.Sets.{has}
 use Rattle.rules_base.specs.Chunk.{dirty}
 use Rattle.rules_base.specs.Summary.{agree}
 use Rattle.rules_node.specs.declared.State.{State}
-use Rattle.rules_node.specs.declared.Transfer.{Transfer}
 use Rattle.rules_node.specs.declared.Answer.{Answer}
 use Rattle.rules_node.specs.declared.Node.{Node}
 use Rattle.rules_node.specs.Events.{Event}
@@ -47,9 +46,9 @@ abbrev pub Serving : Node → Type 0
 Serving n = Joined n.state × (n.store ≡ true)
 
 -- the bytes of the map that were taken so far
-abbrev pub so_far : Transfer → ℕ
-so_far Transfer.Nothing = 0
-so_far (Transfer.InHand bytes) = bytes
+abbrev pub so_far : Option ℕ → ℕ
+so_far None = 0
+so_far (Some bytes) = bytes
 
 -- ---- kept chunks
 
@@ -123,7 +122,7 @@ pub record KeepsRules (n : Node) : Type 0 where
   pub mark : n.create ≡ true → n.state ≡ State.Registered
   pub none : n.state ≡ State.Empty → n.store ≡ false
   pub store : n.state ≢ State.Empty → n.state ≢ State.NoIo → n.store ≡ true
-  pub hand : n.transfer ≢ Transfer.Nothing → (n.state ≡ State.NoIo) × (n.store ≡ true)
+  pub hand : n.transfer ≢ None → (n.state ≡ State.NoIo) × (n.store ≡ true)
   pub set : ASet n.members
   pub version : n.version ≤ 2 ^ 63 - 17
   pub sixteen : n.held ≤ 16

@@ -1,4 +1,5 @@
 -- The leg that extend adds, with honest nodes.
+use Rattle.std.specs.Prelude.{Some, None}
 use mathlib.Core.Path.{◌≡◌, refl, sym, ap, ◌∙◌, subst}
 use mathlib.Core.Logic.{◌≢◌}
 use mathlib.Core.Bool.{Bool, true, false, not, ◌||◌}
@@ -27,7 +28,6 @@ use Rattle.rules_pool.specs.Session.{is_free, is_normal, is_told, candidate, new
 use Rattle.rules_pool.specs.declared.Kind.{Kind}
 use Rattle.rules_pool.specs.Sessions.{session_at, ids_of}
 use Rattle.rules_pool.specs.Jobs.{is_idle, is_running}
-use Rattle.rules_pool.specs.declared.Next.{Next}
 use Rattle.rules_pool.specs.Cases.{start, case2, case3, case_of, begun}
 use Rattle.laws_client.proofs.Ids.{Long, stored-long, ids-has, ids-lt, ids-same}
 use Rattle.laws_client.proofs.Pools.{Valid}
@@ -81,25 +81,25 @@ idle-job (Job.Removing m) e = clash e refl
 
 -- case 1 begins where some session is NORMAL and a candidate exists
 case-one-of : (normals candidates marked strays members : ℕ) → eqb normals 0 ≡ false → eqb candidates 0 ≡ false
-    → case_of normals candidates marked strays members ≡ Next.On (record { phase = Phase.Spread Step.Ready; source = lowest normals; left = candidates; taken = 0 })
+    → case_of normals candidates marked strays members ≡ Some (record { phase = Phase.Spread Step.Ready; source = lowest normals; left = candidates; taken = 0 })
 unfolding case_of
 case-one-of normals candidates marked strays members = at (eqb normals 0) (eqb candidates 0)
   where
     at : (a b : Bool) → a ≡ false → b ≡ false
-        → pick (not a) (pick b Next.Over (start (Phase.Spread Step.Ready) (lowest normals) candidates)) (pick (not (eqb marked 0)) (case2 marked candidates) (case3 members strays))
-        ≡ Next.On (record { phase = Phase.Spread Step.Ready; source = lowest normals; left = candidates; taken = 0 })
+        → pick (not a) (pick b None (start (Phase.Spread Step.Ready) (lowest normals) candidates)) (pick (not (eqb marked 0)) (case2 marked candidates) (case3 members strays))
+        ≡ Some (record { phase = Phase.Spread Step.Ready; source = lowest normals; left = candidates; taken = 0 })
     at false false e f = refl
     at false true e f = clash refl f
     at true b e f = clash refl e
 
 begun-one : (ro : Roster) → ro.version ≤ version_limit → ids_of Kind.Normals ro ≢ 0 → ids_of Kind.Candidates ro ≢ 0
-    → begun ro ≡ Next.On (record { phase = Phase.Spread Step.Ready; source = lowest (ids_of Kind.Normals ro); left = ids_of Kind.Candidates ro; taken = 0 })
+    → begun ro ≡ Some (record { phase = Phase.Spread Step.Ready; source = lowest (ids_of Kind.Normals ro); left = ids_of Kind.Candidates ro; taken = 0 })
 unfolding begun
 begun-one ro low n m = at (ltb version_limit ro.version) (le-ltb version_limit ro.version low)
   where
     at : (b : Bool) → b ≡ false
-        → pick b Next.Over (case_of (ids_of Kind.Normals ro) (ids_of Kind.Candidates ro) (ids_of Kind.Marked ro) (ids_of (Kind.Strays ro.members) ro) ro.members)
-        ≡ Next.On (record { phase = Phase.Spread Step.Ready; source = lowest (ids_of Kind.Normals ro); left = ids_of Kind.Candidates ro; taken = 0 })
+        → pick b None (case_of (ids_of Kind.Normals ro) (ids_of Kind.Candidates ro) (ids_of Kind.Marked ro) (ids_of (Kind.Strays ro.members) ro) ro.members)
+        ≡ Some (record { phase = Phase.Spread Step.Ready; source = lowest (ids_of Kind.Normals ro); left = ids_of Kind.Candidates ro; taken = 0 })
     at false e = case-one-of (ids_of Kind.Normals ro) (ids_of Kind.Candidates ro) _ _ _ (ne_eqb (ids_of Kind.Normals ro) 0 n) (ne_eqb (ids_of Kind.Candidates ro) 0 m)
     at true e = clash refl e
 

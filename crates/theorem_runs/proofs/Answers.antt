@@ -1,4 +1,5 @@
 -- Which message comes after which answer: proofs.
+use Rattle.std.specs.Prelude.{Option, Some, None}
 use mathlib.Core.Path.{◌≡◌, refl, sym, ap, ◌∙◌, subst}
 use mathlib.Core.Logic.{◌≢◌}
 use mathlib.Core.Bool.{Bool, true, false}
@@ -22,13 +23,10 @@ use Rattle.rules_pool.specs.declared.Pool.{Pool}
 use Rattle.rules_pool.specs.declared.Message.{Message}
 use Rattle.rules_pool.specs.declared.Told.{Told}
 use Rattle.rules_pool.specs.declared.Outcome.{Outcome}
-use Rattle.rules_pool.specs.declared.Brought.{Brought}
 use Rattle.rules_pool.specs.declared.Reply.{Reply}
 use Rattle.rules_pool.specs.declared.Sent.{Sent}
 use Rattle.rules_pool.specs.declared.Turn.{Turn}
 use Rattle.rules_pool.specs.declared.Kind.{Kind}
-use Rattle.rules_pool.specs.declared.Next.{Next}
-use Rattle.rules_pool.specs.declared.Who.{Who}
 use Rattle.rules_pool.specs.declared.Move.{Move}
 use Rattle.rules_pool.specs.declared.Posted.{Posted}
 use Rattle.rules_pool.specs.Session.{candidate, moved}
@@ -98,10 +96,10 @@ abbrev hands_back : Posted → ℕ → Told → Sent
 hands_back u taken told = record { outcome = Outcome.Taken taken; told = told; awaited = u.awaited; number = number_of u.awaited u.pool.number }
 
 module _ (c : Pool) (r : Run) (ro : Roster) (taken : ℕ) (told : Told) (one : counted r.taken ≡ r.taken + 1) (vs : ro.version ≡ version_of c) (ms : ro.members ≡ c.roster.members) (room : version_of c < version_top) (small : c.roster.members < 65536) where
-  abbrev then : Next → Posted
+  abbrev then : Option Run → Posted
   then n = gone_on n (with_roster c ro)
 
-  abbrev hands : Next → Sent
+  abbrev hands : Option Run → Sent
   hands n = hands_back (then n) taken told
 
   goes : (p : Phase) (source left : ℕ) (who : ℕ → Type 0) (x : ℕ) → ((id : ℕ) → Iff (In left id) (who id))
@@ -124,13 +122,13 @@ module _ (c : Pool) (r : Run) (ro : Roster) (taken : ℕ) (told : Told) (one : c
         version = vs;
       }
 
-  ends : Ends c (then Next.Over).pool (hands Next.Over)
+  ends : Ends c (then None).pool (hands None)
   ends = record { quiet = record { job = refl; message = refl; number = refl; under = refl }; version = ap more vs ∙ below_top (version_of c) room }
 
   to-spread : (left : ℕ) → left < 65536 → (who : ℕ → Type 0) → ((id : ℕ) → Iff (In left id) (who id)) → ToSpread c (then (to_spread r left)).pool (hands (to_spread r left)) r r.source who
   unfolding awaited_in
   to-spread left s who f =
-      in-turn left s who f Next.Over (go r (Phase.Spread Step.Ready) r.source left)
+      in-turn left s who f None (go r (Phase.Spread Step.Ready) r.source left)
       (λ y n. Goes c (then n).pool (hands n) r (Phase.Spread Step.Ready) r.source who y)
       (λ n. Ends c (then n).pool (hands n))
       (λ e. goes (Phase.Spread Step.Ready) r.source left who (lowest left) f refl)
@@ -188,12 +186,12 @@ after c m = (moved_on c m).pool
 abbrev handed : Pool → Move → Sent
 handed c m = hands_back (moved_on c m) m.taken (disabling m.disable)
 
-enters-as : (c : Pool) (id : ℕ) (n : Next) → (session_at (entered c.roster id) id).state ≡ State.Normal → ((j : ℕ) → j ≢ id → (session_at (entered c.roster id) j).state ≡ state_of c j)
+enters-as : (c : Pool) (id : ℕ) (n : Option Run) → (session_at (entered c.roster id) id).state ≡ State.Normal → ((j : ℕ) → j ≢ id → (session_at (entered c.roster id) j).state ≡ state_of c j)
     → ((j : ℕ) → j ≢ id → (session_at (entered c.roster id) j).maintenance ≡ (record_of c j).maintenance) → ((j : ℕ) → (session_at (entered c.roster id) j).mark ≡ true → ⊥)
     → (entered c.roster id).count ≡ c.roster.count + 1 → Enters c (gone_on n (with_roster c (entered c.roster id))).pool id
 unfolding posted
-enters-as c id Next.Over a b d e f = record { own = a; states = b; flags = d; unmarked = e; count = f }
-enters-as c id (Next.On r) a b d e f = record { own = a; states = b; flags = d; unmarked = e; count = f }
+enters-as c id None a b d e f = record { own = a; states = b; flags = d; unmarked = e; count = f }
+enters-as c id (Some r) a b d e f = record { own = a; states = b; flags = d; unmarked = e; count = f }
 
 module _ (c : Pool) (r : Run) (v : Valid c) (q : RunOk c.roster r) where
   abbrev members : ℕ
@@ -211,13 +209,13 @@ module _ (c : Pool) (r : Run) (v : Valid c) (q : RunOk c.roster r) where
       counted-one r.taken (omega (arith, w, q.most))
 
   -- no session changes
-  stay : (n : Next) → Stay c (gone_on n (with_roster c c.roster)).pool
+  stay : (n : Option Run) → Stay c (gone_on n (with_roster c c.roster)).pool
   unfolding posted
-  stay Next.Over = record { sessions = λ id. refl; count = refl }
-  stay (Next.On r') = record { sessions = λ id. refl; count = refl }
+  stay None = record { sessions = λ id. refl; count = refl }
+  stay (Some r') = record { sessions = λ id. refl; count = refl }
 
   -- one enters NORMAL
-  enters : (n : Next) (id : ℕ) → candidate (session_at c.roster id) ≡ true → Enters c (gone_on n (with_roster c (entered c.roster id))).pool id
+  enters : (n : Option Run) (id : ℕ) → candidate (session_at c.roster id) ≡ true → Enters c (gone_on n (with_roster c (entered c.roster id))).pool id
   enters n id k =
       enters-as c id n (ap (λ (s : Session). s.state) own) (λ j d. ap (λ (s : Session). s.state) (other j d)) (λ j d. ap (λ (s : Session). s.maintenance) (other j d)) (λ j h. clash h (mark j (ℕ_discrete j id))) count
     where
@@ -261,11 +259,11 @@ module _ (c : Pool) (r : Run) (v : Valid c) (q : RunOk c.roster r) where
 
   fails : (p : Phase) (x : ℕ) → r.phase ≡ p → FitAt p members r → Whose p r x → Fails p c (after c (failed_at p r)) (handed c (failed_at p r)) r x
   unfolding moved_on
-  fails (Phase.Versions best) x e f w = record { then = ends c r c.roster _ _ one_more refl refl room v.ok.small; disables = disables (Phase.Versions best) _ f (receiver-is _ e); stay = stay Next.Over }
-  fails (Phase.Base step) x e f w = record { then = ends c r c.roster _ _ one_more refl refl room v.ok.small; disables = disables (Phase.Base step) _ f (receiver-is _ e); stay = stay Next.Over }
-  fails Phase.LastIo x e f w = record { then = ends c r c.roster _ _ one_more refl refl room v.ok.small; disables = disables Phase.LastIo _ f (receiver-is _ e); stay = stay Next.Over }
-  fails (Phase.Gather step) x e f w = record { then = ends c r c.roster _ _ one_more refl refl room v.ok.small; disables = disables (Phase.Gather step) _ f (receiver-is _ e); stay = stay Next.Over }
-  fails (Phase.Enable every) x e f w = record { then = ends c r c.roster _ _ one_more refl refl room v.ok.small; disables = disables (Phase.Enable every) _ f (receiver-is _ e); stay = stay Next.Over }
+  fails (Phase.Versions best) x e f w = record { then = ends c r c.roster _ _ one_more refl refl room v.ok.small; disables = disables (Phase.Versions best) _ f (receiver-is _ e); stay = stay None }
+  fails (Phase.Base step) x e f w = record { then = ends c r c.roster _ _ one_more refl refl room v.ok.small; disables = disables (Phase.Base step) _ f (receiver-is _ e); stay = stay None }
+  fails Phase.LastIo x e f w = record { then = ends c r c.roster _ _ one_more refl refl room v.ok.small; disables = disables Phase.LastIo _ f (receiver-is _ e); stay = stay None }
+  fails (Phase.Gather step) x e f w = record { then = ends c r c.roster _ _ one_more refl refl room v.ok.small; disables = disables (Phase.Gather step) _ f (receiver-is _ e); stay = stay None }
+  fails (Phase.Enable every) x e f w = record { then = ends c r c.roster _ _ one_more refl refl room v.ok.small; disables = disables (Phase.Enable every) _ f (receiver-is _ e); stay = stay None }
   fails (Phase.Spread step) x e f w =
       record {
         then = to-spread c r c.roster _ _ one_more refl refl room v.ok.small (rest r) (rest-small f) (But (Left r) x) (but-x x w);
@@ -274,23 +272,23 @@ module _ (c : Pool) (r : Run) (v : Valid c) (q : RunOk c.roster r) where
       }
 
   -- a good answer
-  plain : (n : Next) (comes : Type 0) → comes → Plain c (after c (went_on r n)) (handed c (went_on r n)) comes
+  plain : (n : Option Run) (comes : Type 0) → comes → Plain c (after c (went_on r n)) (handed c (went_on r n)) comes
   unfolding moved_on
   plain n comes k = record { then = k; told = refl; stay = stay n }
 
-  abbrev Able : Phase → Brought → Type 0
-  Able p b = (id : ℕ) → (good_at p members version r b).normal ≡ Who.One id → candidate (session_at c.roster id) ≡ true
+  abbrev Able : Phase → Option ℕ → Type 0
+  Able p b = (id : ℕ) → (good_at p members version r b).normal ≡ Some id → candidate (session_at c.roster id) ≡ true
 
   failed-is : (best : ℕ) → r.phase ≡ Phase.Versions best → failed_answer r ≡ failed_at (Phase.Versions best) r
   unfolding failed_answer
   failed-is best e = ap (λ (p : Phase). failed_at p r) e
 
-  brings : (best x : ℕ) (b : Brought) → r.phase ≡ Phase.Versions best → FitAt (Phase.Versions best) members r → Lowest (Left r) x
+  brings : (best x : ℕ) (b : Option ℕ) → r.phase ≡ Phase.Versions best → FitAt (Phase.Versions best) members r → Lowest (Left r) x
       → Brings best c (after c (version_brought members version best r b)) (handed c (version_brought members version best r b)) r x b
   unfolding moved_on
-  brings best x Brought.Nothing e f w =
+  brings best x None e f w =
       subst (λ (m : Move). Fails (Phase.Versions best) c (after c m) (handed c m) r x) (sym (failed-is best e)) (fails (Phase.Versions best) x e f w)
-  brings best x (Brought.Version u) e f w = (
+  brings best x (Some u) e f w = (
     (λ h. subst (λ (m : Move). Fails (Phase.Versions best) c (after c m) (handed c m) r x) (sym (above h ∙ failed-is best e)) (fails (Phase.Versions best) x e f w)),
     (λ h k. subst (λ (m : Move). Plain c (after c m) (handed c m) (ToVersions u c (after c m) (handed c m) r x (But (Left r) x))) (sym (higher h k))
         (plain (to_versions members r u x (rest r)) _ (to-versions c r c.roster _ _ one_more refl refl room v.ok.small u x (rest r) (rest-small f.0) (But (Left r) x) (but-x x w)))),
@@ -298,16 +296,16 @@ module _ (c : Pool) (r : Run) (v : Valid c) (q : RunOk c.roster r) where
         (plain (to_versions members r best r.source (rest r)) _ (to-versions c r c.roster _ _ one_more refl refl room v.ok.small best r.source (rest r) (rest-small f.0) (But (Left r) x) (but-x x w))),
   )
     where
-      above : version < u → version_brought members version best r (Brought.Version u) ≡ failed_answer r
+      above : version < u → version_brought members version best r (Some u) ≡ failed_answer r
       above h = rw (lt-ltb version u h) refl
 
-      higher : u ≤ version → best < u → version_brought members version best r (Brought.Version u) ≡ went_on r (to_versions members r u x (rest r))
+      higher : u ≤ version → best < u → version_brought members version best r (Some u) ≡ went_on r (to_versions members r u x (rest r))
       higher h k = rw (le-ltb version u h, lt-ltb best u k) (ap (λ (y : ℕ). went_on r (to_versions members r u y (rest r))) (lowest-is r.left x w))
 
-      lower : u ≤ version → u ≤ best → version_brought members version best r (Brought.Version u) ≡ went_on r (to_versions members r best r.source (rest r))
+      lower : u ≤ version → u ≤ best → version_brought members version best r (Some u) ≡ went_on r (to_versions members r best r.source (rest r))
       lower h k = rw (le-ltb version u h, le-ltb best u k) refl
 
-  good-at : (p : Phase) (x : ℕ) (b : Brought) → r.phase ≡ p → FitAt p members r → Whose p r x → Able p b → Good p c (after c (good_at p members version r b)) (handed c (good_at p members version r b)) r x b
+  good-at : (p : Phase) (x : ℕ) (b : Option ℕ) → r.phase ≡ p → FitAt p members r → Whose p r x → Able p b → Good p c (after c (good_at p members version r b)) (handed c (good_at p members version r b)) r x b
   unfolding moved_on awaited_in
   good-at (Phase.Versions best) x b e f w k = brings best x b e f w
   good-at (Phase.Base Step.Ready) x b e f w k =
@@ -346,12 +344,12 @@ module _ (c : Pool) (r : Run) (v : Valid c) (q : RunOk c.roster r) where
   does Reply.Failed x w = fails r.phase x refl (fit-in c r v q) w
   does (Reply.Good b) x w = good-at r.phase x b refl (fit-in c r v q) w (λ id e. run-able c r (Reply.Good b) v q id e)
 
-  counts-at : (n : Next) (w : Who) (s : Sent) → s.outcome ≡ Outcome.Taken (r.taken + 1) → Counts c (gone_on n (with_roster c (entered_by w c.roster))).pool s r
+  counts-at : (n : Option Run) (w : Option ℕ) (s : Sent) → s.outcome ≡ Outcome.Taken (r.taken + 1) → Counts c (gone_on n (with_roster c (entered_by w c.roster))).pool s r
   unfolding posted entered
-  counts-at Next.Over Who.Nobody s e = record { count = e; members = refl; past = refl; kind = refl; chunks = refl }
-  counts-at (Next.On r') Who.Nobody s e = record { count = e; members = refl; past = refl; kind = refl; chunks = refl }
-  counts-at Next.Over (Who.One id) s e = record { count = e; members = entered-members c.roster id; past = rw q.plain refl; kind = rw q.plain refl; chunks = refl }
-  counts-at (Next.On r') (Who.One id) s e = record { count = e; members = entered-members c.roster id; past = rw q.plain refl; kind = rw q.plain refl; chunks = refl }
+  counts-at None None s e = record { count = e; members = refl; past = refl; kind = refl; chunks = refl }
+  counts-at (Some r') None s e = record { count = e; members = refl; past = refl; kind = refl; chunks = refl }
+  counts-at None (Some id) s e = record { count = e; members = entered-members c.roster id; past = rw q.plain refl; kind = rw q.plain refl; chunks = refl }
+  counts-at (Some r') (Some id) s e = record { count = e; members = entered-members c.roster id; past = rw q.plain refl; kind = rw q.plain refl; chunks = refl }
 
   counts : (a : Reply) → Counts c (after c (takes members version r a)) (handed c (takes members version r a)) r
   unfolding moved_on

@@ -1,4 +1,5 @@
 -- A run begins exactly when, as which case: proofs.
+use Rattle.std.specs.Prelude.{Option, Some, None}
 use mathlib.Core.Path.{◌≡◌, refl, sym, ap, ◌∙◌, subst}
 use mathlib.Core.Logic.{◌⊎◌, inl, inr}
 use mathlib.Core.Bool.{Bool, true, false, not, ◌&&◌, ◌||◌}
@@ -28,7 +29,6 @@ use Rattle.rules_pool.specs.declared.Sent.{Sent}
 use Rattle.rules_pool.specs.declared.Answer.{Answer}
 use Rattle.rules_pool.specs.declared.Turn.{Turn}
 use Rattle.rules_pool.specs.declared.Kind.{Kind}
-use Rattle.rules_pool.specs.declared.Next.{Next}
 use Rattle.rules_pool.specs.Sessions.{session_at, ids_of}
 use Rattle.rules_pool.specs.Jobs.{is_idle, is_running, is_peer}
 use Rattle.rules_pool.specs.Run.{hand, step_message, awaited_at, awaited_in}
@@ -64,9 +64,9 @@ use Rattle.theorem_runs.proofs.Words.{In, lowest-is, lowest-as, some_in, none_in
 
 -- ---- the run of each case
 
-abbrev pub is_over : Next → Bool
-is_over Next.Over = true
-is_over (Next.On r) = false
+abbrev pub is_over : Option Run → Bool
+is_over None = true
+is_over (Some r) = false
 
 abbrev first : Roster → Run
 first ro = record { phase = Phase.Spread Step.Ready; source = lowest (ids_of Kind.Normals ro); left = ids_of Kind.Candidates ro; taken = 0 }
@@ -108,26 +108,26 @@ module _ (c : Pool) (ok : Ok c.roster) where
         absurd (let z : ⊥ = omega (arith, a, b, ok.one-mark) in z)
   ]
 
-  is_one : version_of c ≤ 2 ^ 63 - 34 → (n : ℕ) → Normal c n → (x : ℕ) → Candidate c x → begun c.roster ≡ Next.On (first c.roster)
+  is_one : version_of c ≤ 2 ^ 63 - 34 → (n : ℕ) → Normal c n → (x : ℕ) → Candidate c x → begun c.roster ≡ Some (first c.roster)
   unfolding begun case_of
   is_one low n some x exists =
       rw (low-is low, (some_in _ n ((normals c l n).1 some)).0, (some_in _ x ((candidates c l x).1 exists)).0) refl
 
-  is-two : version_of c ≤ 2 ^ 63 - 34 → None (Normal c) → (source : ℕ) → Marked c source → Candidate c source → begun c.roster ≡ Next.On (second c.roster)
+  is-two : version_of c ≤ 2 ^ 63 - 34 → None (Normal c) → (source : ℕ) → Marked c source → Candidate c source → begun c.roster ≡ Some (second c.roster)
   unfolding begun case_of
   is-two low n source m k =
       let q : has (ids_of Kind.Candidates c.roster) (lowest (ids_of Kind.Marked c.roster)) ≡ true = rw (the-mark source m) ((candidates c l source).1 k) in
       rw (low-is low, no-normal n, (some_in _ source ((marked c l source).1 m)).0, q) refl
 
   is-three : version_of c ≤ 2 ^ 63 - 34 → None (Normal c) → None (Marked c) → (m : ℕ) → Member c m → ((id : ℕ) → Member c id → Candidate c id)
-      → begun c.roster ≡ Next.On (third c.roster)
+      → begun c.roster ≡ Some (third c.roster)
   unfolding begun case_of
   is-three low n u m some every =
       let s : ids_of (Kind.Strays c.roster.members) c.roster ≡ 0 = none-stray c.roster c.roster.members l (λ j h. (candidate-is (session_at c.roster j)).1 (every j h)) in
       rw (low-is low, no-normal n, no-mark u, (some_in _ m some).0, eq-eqb _ 0 s) refl
 
   -- what begins is one of them
-  may : (r : Run) → begun c.roster ≡ Next.On r → MayRun c
+  may : (r : Run) → begun c.roster ≡ Some r → MayRun c
   unfolding begun case_of
   may r =
       at (ltb version_limit (version_of c)) (eqb (ids_of Kind.Normals c.roster) 0) (eqb (ids_of Kind.Candidates c.roster) 0) (eqb (ids_of Kind.Marked c.roster) 0)
@@ -168,10 +168,10 @@ module _ (c : Pool) (ok : Ok c.roster) where
 
       at : (v n k m h e s : Bool) → ltb version_limit (version_of c) ≡ v → eqb (ids_of Kind.Normals c.roster) 0 ≡ n → eqb (ids_of Kind.Candidates c.roster) 0 ≡ k → eqb (ids_of Kind.Marked c.roster) 0 ≡ m
           → has (ids_of Kind.Candidates c.roster) (lowest (ids_of Kind.Marked c.roster)) ≡ h → eqb c.roster.members 0 ≡ e → eqb (ids_of (Kind.Strays c.roster.members) c.roster) 0 ≡ s
-          → pick v Next.Over
-          (pick (not n) (pick k Next.Over (Next.On (first c.roster)))
-          (pick (not m) (pick h (Next.On (second c.roster)) Next.Over)
-          (pick (e || not s) Next.Over (Next.On (third c.roster))))) ≡ Next.On r → MayRun c
+          → pick v None
+          (pick (not n) (pick k None (Some (first c.roster)))
+          (pick (not m) (pick h (Some (second c.roster)) None)
+          (pick (e || not s) None (Some (third c.roster))))) ≡ Some r → MayRun c
       at true n k m h e s qv qn qk qm qh qe qs z = clash refl (ap is_over z)
       at false false true m h e s qv qn qk qm qh qe qs z = clash refl (ap is_over z)
       at false false false m h e s qv qn qk qm qh qe qs z = (ltb-false version_limit (version_of c) qv, inl (one qn qk))
@@ -182,7 +182,7 @@ module _ (c : Pool) (ok : Ok c.roster) where
       at false true k true h false false qv qn qk qm qh qe qs z = clash refl (ap is_over z)
 
   -- where one case holds, a run begins
-  some-run : MayRun c → begun c.roster ≡ Next.Over → ⊥
+  some-run : MayRun c → begun c.roster ≡ None → ⊥
   some-run (low, inl k) z = clash refl (ap is_over (sym z ∙ is_one low k.normal k.some k.candidate k.exists))
   some-run (low, inr (inl k)) z = clash refl (ap is_over (sym z ∙ is-two low k.none k.last k.marked k.candidate))
   some-run (low, inr (inr k)) z = clash refl (ap is_over (sym z ∙ is-three low k.none k.unmarked k.member k.nonempty k.every))
@@ -211,12 +211,12 @@ awaited-some members version r = at r.phase
     at (Phase.Enable every) = refl
     at (Phase.Spread s) = step s r.source (hand r) false true
 
-on-is : (a b : Run) → Next.On a ≡ Next.On b → a ≡ b
+on-is : (a b : Run) → Some a ≡ Some b → a ≡ b
 on-is a b e = cc e
 
 module _ (p q : Pool) (outcome : Outcome) (told : Told) (ok : Ok q.roster) (idle : q.job ≡ Job.Idle) (same : q.number ≡ p.number) where
   -- a run r that began
-  module _ (r : Run) (e : begun q.roster ≡ Next.On r) where
+  module _ (r : Run) (e : begun q.roster ≡ Some r) where
     abbrev c' : Pool
     c' = record { roster = q.roster; job = Job.Running r; number = next_number q.number; chunks = q.chunks }
 
@@ -289,8 +289,8 @@ module _ (p q : Pool) (outcome : Outcome) (told : Told) (ok : Ok q.roster) (idle
   unfolding tried posted
   tried-does = at (begun q.roster) refl
     where
-      at : (n : Next) → begun q.roster ≡ n → Tried p (beginning n q).pool (sent_with (beginning n q).pool (beginning n q).awaited outcome told)
-      at Next.Over e =
+      at : (n : Option Run) → begun q.roster ≡ n → Tried p (beginning n q).pool (sent_with (beginning n q).pool (beginning n q).awaited outcome told)
+      at None e =
           record {
             begins = ((λ k. clash refl (ap is_idle (sym idle ∙ k.job))), λ k. absurd (some-run q ok k e));
             one = λ source x k n m. absurd (some-run q ok k e);
@@ -298,7 +298,7 @@ module _ (p q : Pool) (outcome : Outcome) (told : Told) (ok : Ok q.roster) (idle
             three = λ x k n m h. absurd (some-run q ok k e);
             none = λ n. record { job = idle; message = refl; number = same; under = refl };
           }
-      at (Next.On r) e = ran r e
+      at (Some r) e = ran r e
 
 -- ---- the events that try
 

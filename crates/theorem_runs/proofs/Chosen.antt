@@ -1,4 +1,5 @@
 -- The highest version is chosen, ties to the lowest id: proof, from what the statements say of each answer.
+use Rattle.std.specs.Prelude.{Some}
 use mathlib.Core.Path.{◌≡◌, refl, sym, ap, ◌∙◌, subst}
 use mathlib.Core.Logic.{◌≢◌, ◌⊎◌, inl, inr}
 use mathlib.Core.Bool.{Bool, true, false}
@@ -12,7 +13,6 @@ use Rattle.rules_pool.specs.declared.Phase.{Phase}
 use Rattle.rules_pool.specs.declared.Run.{Run}
 use Rattle.rules_pool.specs.declared.Job.{Job}
 use Rattle.rules_pool.specs.declared.Pool.{Pool}
-use Rattle.rules_pool.specs.declared.Brought.{Brought}
 use Rattle.rules_pool.specs.declared.Reply.{Reply}
 use Rattle.rules_pool.specs.declared.Sent.{Sent}
 use Rattle.rules_pool.specs.declared.Kind.{Kind}
@@ -268,7 +268,7 @@ whose r x best z w = subst (λ (p : Phase). Whose p r x) (sym z) w
 
 -- what the statement says of the version that x brought
 brought : (version : ℕ → ℕ) (c c' : Pool) (s : Sent) (r : Run) (best x : ℕ) → InOrder c' → c'.roster.members ≡ c.roster.members → Poll version c (Left r) r.source best → Lowest (Left r) x
-    → Brings best c c' s r x (Brought.Version (version x)) → Known version c'
+    → Brings best c c' s r x (Some (version x)) → Known version c'
 brought version c c' s r best x o m p w (fails, more, less) = elim (dec_lt (version_of c) (version x)) [
   | yes l ↦ over version c' o (fails l).then.quiet.job
   | no g ↦ elim (dec_lt best (version x)) [
@@ -289,10 +289,10 @@ known : (version : ℕ → ℕ) (c : Pool) → Asked version c → Known version
 known version _ (Asked.begins c e s r o h t q z) = began version c (next e c) s r (order-kept.1 c e o) (begins-when c e s o h t) q z
 known version _ (Asked.brings c xs number s r best x a q z w h) =
     let k = known version c a in
-    let e = Event.answer xs number (Reply.Good (Brought.Version (version x))) in
-    let d = run-answered c xs number (Reply.Good (Brought.Version (version x))) s r x k.order q h (whose r x best z w) in
+    let e = Event.answer xs number (Reply.Good (Some (version x))) in
+    let d = run-answered c xs number (Reply.Good (Some (version x))) s r x k.order q h (whose r x best z w) in
     brought version c (next e c) s r best x (order-kept.1 c e k.order) d.1.members (k.asking r best q z) w
-    (subst (λ (p : Phase). Good p c (next e c) s r x (Brought.Version (version x))) z d.0)
+    (subst (λ (p : Phase). Good p c (next e c) s r x (Some (version x))) z d.0)
 
 pub highest-chosen : HighestChosen
 highest-chosen version c r a e n = (known version c a).done r e (not-versions r.phase n)

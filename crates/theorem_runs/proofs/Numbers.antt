@@ -1,4 +1,6 @@
 -- How awaited messages are numbered, and that one is awaited at a time: proofs.
+use Rattle.std.specs.Prelude.{Option, Some, None}
+use Rattle.rules_pool.specs.declared.Run.{Run}
 use mathlib.Core.Path.{◌≡◌, refl, sym, ap, ◌∙◌, subst}
 use mathlib.Core.Logic.{◌≢◌}
 use mathlib.Core.Bool.{Bool, true, false, not, ◌&&◌}
@@ -18,7 +20,6 @@ use Rattle.rules_pool.specs.declared.Effect.{Effect}
 use Rattle.rules_pool.specs.declared.Reply.{Reply}
 use Rattle.rules_pool.specs.declared.Sent.{Sent}
 use Rattle.rules_pool.specs.declared.Answer.{Answer}
-use Rattle.rules_pool.specs.declared.Next.{Next}
 use Rattle.rules_pool.specs.declared.Posted.{Posted}
 use Rattle.rules_pool.specs.declared.Turn.{Turn}
 use Rattle.rules_pool.specs.Session.{is_created, is_deleting, is_nothing, is_owed}
@@ -59,17 +60,17 @@ posted-ok : (n : ℕ) (p : Pool) (j : Job) (m : Message) → p.number ≡ n → 
 unfolding posted
 posted-ok n p j m e f = record { some = λ z. ap (λ (k : ℕ). (k + 1) % 2 ^ 32) e; none = λ z. clash z f }
 
-begun_ok : (n : ℕ) (p : Pool) (k : Next) → p.number ≡ n → Ok n (beginning k p)
-begun_ok n p Next.Over e = quiet_ok n p e
-begun_ok n p (Next.On r) e = posted-ok n p (Job.Running r) _ e (awaited-some p.roster.members p.roster.version r)
+begun_ok : (n : ℕ) (p : Pool) (k : Option Run) → p.number ≡ n → Ok n (beginning k p)
+begun_ok n p None e = quiet_ok n p e
+begun_ok n p (Some r) e = posted-ok n p (Job.Running r) _ e (awaited-some p.roster.members p.roster.version r)
 
 tried-ok : (n : ℕ) (p : Pool) → p.number ≡ n → Ok n (tried p)
 unfolding tried
 tried-ok n p e = begun_ok n p (begun p.roster) e
 
-gone-ok : (n : ℕ) (p : Pool) (k : Next) → p.number ≡ n → Ok n (gone_on k p)
-gone-ok n p Next.Over e = quiet_ok n (run_ended p) e
-gone-ok n p (Next.On r) e = posted-ok n p (Job.Running r) _ e (awaited-some p.roster.members p.roster.version r)
+gone-ok : (n : ℕ) (p : Pool) (k : Option Run) → p.number ≡ n → Ok n (gone_on k p)
+gone-ok n p None e = quiet_ok n (run_ended p) e
+gone-ok n p (Some r) e = posted-ok n p (Job.Running r) _ e (awaited-some p.roster.members p.roster.version r)
 
 onward-ok : (n : ℕ) (p : Pool) (id : ℕ) (st : Stage) (ef : Effect) → p.number ≡ n → Ok n (removal.onward p id st ef).posted
 unfolding removal.onward removal.freed_from

@@ -1,4 +1,6 @@
 -- Laws of the words: the lowest of a set, the sets that the rules read off the sessions, pools in order.
+use Rattle.std.specs.Prelude.{Option}
+use Rattle.rules_pool.specs.declared.Run.{Run}
 use mathlib.Core.Path.{◌≡◌, refl, sym, ap, ◌∙◌, subst}
 use mathlib.Core.Bool.{Bool, true, false, not}
 use mathlib.Core.List.{List}
@@ -14,7 +16,6 @@ use Rattle.rules_base.proofs.Sets.{has-below, has-none, has-without-other, still
 use Rattle.rules_pool.specs.declared.State.{State}
 use Rattle.rules_pool.specs.declared.Session.{Session}
 use Rattle.rules_pool.specs.declared.Roster.{Roster}
-use Rattle.rules_pool.specs.declared.Next.{Next}
 use Rattle.rules_pool.specs.declared.Pool.{Pool}
 use Rattle.rules_pool.specs.declared.Message.{Message}
 use Rattle.rules_pool.specs.declared.Told.{Told}
@@ -86,7 +87,7 @@ pub but_in : (s x : ℕ) (who : ℕ → Type 0) → ((id : ℕ) → Iff (In s id
 but_in s x who f id = ((λ h. let k = still s x id h in ((f id).0 k.0, k.1)), λ (h, d). has-without-other s x id d ∙ (f id).1 h)
 
 -- The one in turn: what comes, by the set's lowest or where it is empty.
-pub in-turn : (s : ℕ) → s < 65536 → (who : ℕ → Type 0) → ((id : ℕ) → Iff (In s id) (who id)) → (n₀ n₁ : Next) (A : ℕ → Next → Type 0) (B : Next → Type 0)
+pub in-turn : (s : ℕ) → s < 65536 → (who : ℕ → Type 0) → ((id : ℕ) → Iff (In s id) (who id)) → (n₀ n₁ : Option Run) (A : ℕ → Option Run → Type 0) (B : Option Run → Type 0)
     → (eqb s 0 ≡ false → A (lowest s) n₁) → (eqb s 0 ≡ true → B n₀) → InTurn who (λ y. A y (pick (eqb s 0) n₀ n₁)) (B (pick (eqb s 0) n₀ n₁))
 in-turn s small who f n₀ n₁ A B a b = (λ y l. this y (lowest-as who (In s) y (λ id. ((f id).1, (f id).0)) l), λ n. that (none_in s small (λ id h. n id ((f id).0 h))))
   where

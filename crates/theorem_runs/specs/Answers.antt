@@ -1,5 +1,5 @@
 -- Which message comes after which answer, good or failed, phase by phase; what a link down leaves of a run (document 01, "Recovery runs").
-use Rattle.std.specs.Prelude.{◌≡◌, ◌≢◌, true, List, ℕ, ◌+◌, ◌≤◌, ◌<◌}
+use Rattle.std.specs.Prelude.{◌≡◌, ◌≢◌, true, List, ℕ, ◌+◌, ◌≤◌, ◌<◌, Option, Some, None}
 use Rattle.rules_pool.specs.declared.Cause.{Cause}
 use Rattle.rules_pool.specs.declared.State.{State}
 use Rattle.rules_pool.specs.declared.Step.{Step}
@@ -9,7 +9,6 @@ use Rattle.rules_pool.specs.declared.Job.{Job}
 use Rattle.rules_pool.specs.declared.Pool.{Pool}
 use Rattle.rules_pool.specs.declared.Told.{Told}
 use Rattle.rules_pool.specs.declared.Outcome.{Outcome}
-use Rattle.rules_pool.specs.declared.Brought.{Brought}
 use Rattle.rules_pool.specs.declared.Reply.{Reply}
 use Rattle.rules_pool.specs.declared.Sent.{Sent}
 use Rattle.rules_client.specs.Events.{Event, next, Lent, map_left, record_of, state_of, is_sync}
@@ -118,15 +117,15 @@ pub record Enabling (c c' : Pool) (s : Sent) (x : ℕ) (comes : Type 0) : Type 0
 
 -- "Success without a version, or with one above the pool's, is a failed answer to MAP_GET_VER"; "highest chosen, ties to the lowest id": a version above the highest so far makes its bringer the chosen, and
 -- they are asked ascending
-abbrev pub Brings : ℕ → Pool → Pool → Sent → Run → ℕ → Brought → Type 0
-Brings best c c' s r x Brought.Nothing = Fails (Phase.Versions best) c c' s r x
-Brings best c c' s r x (Brought.Version v) =
+abbrev pub Brings : ℕ → Pool → Pool → Sent → Run → ℕ → Option ℕ → Type 0
+Brings best c c' s r x None = Fails (Phase.Versions best) c c' s r x
+Brings best c c' s r x (Some v) =
     (version_of c < v → Fails (Phase.Versions best) c c' s r x)
     × (v ≤ version_of c → best < v → Plain c c' s (ToVersions v c c' s r x (But (Left r) x)))
     × (v ≤ version_of c → v ≤ best → Plain c c' s (ToVersions best c c' s r r.source (But (Left r) x)))
 
 -- "elsewhere a version in a good answer is passed over": what is brought is looked at in no other phase
-abbrev pub Good : Phase → Pool → Pool → Sent → Run → ℕ → Brought → Type 0
+abbrev pub Good : Phase → Pool → Pool → Sent → Run → ℕ → Option ℕ → Type 0
 Good (Phase.Versions best) c c' s r x b = Brings best c c' s r x b
 -- "A spread to r is MAP_READY .., MAP_SEND .., MAP_DONE .., receivers ascending"
 Good (Phase.Base Step.Ready) c c' s r x b = Plain c c' s (Goes c c' s r (Phase.Base Step.Send) r.source (Left r) x)

@@ -1,5 +1,5 @@
 -- The starred rows of the tester's table: one list of rows, and what it says that each holds.
-use Rattle.std.specs.Prelude.{◌≡◌, true, false, List, [], ◌∷◌, ◌++◌, ℕ, zero, suc, get_or, replicate}
+use Rattle.std.specs.Prelude.{◌≡◌, true, false, List, [], ◌∷◌, ◌++◌, ℕ, zero, suc, get_or, replicate, Some, None}
 use Rattle.rules_pool.specs.declared.Cause.{Cause}
 use Rattle.rules_pool.specs.declared.State.{State}
 use Rattle.rules_pool.specs.declared.Job.{Job}
@@ -8,7 +8,6 @@ use Rattle.rules_pool.specs.declared.Message.{Message}
 use Rattle.rules_pool.specs.declared.Told.{Told}
 use Rattle.rules_pool.specs.declared.Outcome.{Outcome}
 use Rattle.rules_pool.specs.declared.Answer.{Answer}
-use Rattle.rules_pool.specs.declared.Brought.{Brought}
 use Rattle.rules_pool.specs.declared.Reply.{Reply}
 use Rattle.rules_pool.specs.declared.Kind.{Kind}
 use Rattle.rules_pool.specs.Sessions.{session_at, ids_of}
@@ -133,10 +132,10 @@ sent o t = Answer.Done (record { outcome = o; told = t; awaited = Message.Nothin
 
 -- good answers: without a version, and with one
 abbrev pub well : Reply
-well = Reply.Good Brought.Nothing
+well = Reply.Good None
 
 abbrev pub has : ℕ → Reply
-has v = Reply.Good (Brought.Version v)
+has v = Reply.Good (Some v)
 
 abbrev pub wells : ℕ → List Reply → List Reply
 wells zero rs = rs

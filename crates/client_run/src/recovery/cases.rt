@@ -2,12 +2,12 @@
 ghost use Rattle.std.specs.Prelude.{◌≡◌};
 ghost use Rattle.rules_pool.specs.Cases.{start, case1, case2, case3, case_of, begun};
 
-use rules_pool::{Kind, Next, Phase, Roster, Run, Step};
+use rules_pool::{Kind, Phase, Roster, Run, Step};
 
-fn start(p: Phase, source: u64, left: u64) -> Next
+fn start(p: Phase, source: u64, left: u64) -> Option<Run>
     ensures { result ≡ start p source left }
 {
-    Next::On(Run {
+    Some(Run {
         phase: p,
         source: source,
         left: left,
@@ -15,17 +15,17 @@ fn start(p: Phase, source: u64, left: u64) -> Next
     })
 }
 
-fn spread_to(normals: u64, candidates: u64) -> Next
+fn spread_to(normals: u64, candidates: u64) -> Option<Run>
     ensures { result ≡ case1 normals candidates }
 {
     if candidates == 0 {
-        return Next::Over;
+        return None;
     }
     let source = map_numbers::sets::lowest(normals);
     start(Phase::Spread(Step::Ready), source, candidates)
 }
 
-fn enable_first(marked: u64, candidates: u64) -> Next
+fn enable_first(marked: u64, candidates: u64) -> Option<Run>
     ensures { result ≡ case2 marked candidates }
 {
     let source = map_numbers::sets::lowest(marked);
@@ -34,20 +34,20 @@ fn enable_first(marked: u64, candidates: u64) -> Next
     if able {
         return start(Phase::Enable(false), source, others);
     }
-    Next::Over
+    None
 }
 
-fn ask_all(members: u64, strays: u64) -> Next
+fn ask_all(members: u64, strays: u64) -> Option<Run>
     ensures { result ≡ case3 members strays }
 {
     if (members == 0) | (strays != 0) {
-        return Next::Over;
+        return None;
     }
     let source = map_numbers::sets::lowest(members);
     start(Phase::Versions(0), source, members)
 }
 
-fn case_of(normals: u64, candidates: u64, marked: u64, strays: u64, members: u64) -> Next
+fn case_of(normals: u64, candidates: u64, marked: u64, strays: u64, members: u64) -> Option<Run>
     ensures { result ≡ case_of normals candidates marked strays members }
 {
     if normals != 0 {
@@ -60,7 +60,7 @@ fn case_of(normals: u64, candidates: u64, marked: u64, strays: u64, members: u64
 }
 
 // The run that begins, if one does.
-pub(super) fn begin(ro: Roster) -> Next
+pub(super) fn begin(ro: Roster) -> Option<Run>
     ensures { result ≡ begun ro }
 {
     let normals = client_state::roster::ids(Kind::Normals, ro);
@@ -68,7 +68,7 @@ pub(super) fn begin(ro: Roster) -> Next
     let marked = client_state::roster::ids(Kind::Marked, ro);
     let strays = client_state::roster::ids(Kind::Strays(ro.members), ro);
     if map_numbers::refusals::VERSION_LIMIT < ro.version {
-        return Next::Over;
+        return None;
     }
     case_of(normals, candidates, marked, strays, ro.members)
 }

@@ -1,10 +1,10 @@
 use Rattle.lab_say_line.specs.Lines.{found_text}
 use Rattle.lab_say_line.proofs.put_found.Goals as goal
 
-pub returns-in-At : goal.returns-in-At
+pub returns-in-Some : goal.returns-in-Some
 unfolding found_text
-returns-in-At c = rw c.in-At.is c.put_pair.ensures
+returns-in-Some c = rw c.in-Some.is c.put_pair.ensures
 
-pub returns-in-Nothing : goal.returns-in-Nothing
+pub returns-in-None : goal.returns-in-None
 unfolding found_text
-returns-in-Nothing c = rw c.in-Nothing.is c.put_bytes.ensures
+returns-in-None c = rw c.in-None.is c.put_bytes.ensures

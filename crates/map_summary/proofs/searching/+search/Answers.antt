@@ -22,8 +22,8 @@ overflow_add-looked t c =
     let e = sym c.opens.ensures ∙ c.if-not-opens.false in
     omega (arith, below-low _ _ _ _ _ _ _ c.search-below.result e c.search-below.ensures, c.loop-k.invariant.1.0)
 
-pub returns-in-At : goal.returns-in-At
-returns-in-At t c = sym (among-hit _ _ 16 _ _ _ _ (omega arith) c.search-below.ensures c.in-At.is) ∙ c.loop-k.invariant.1.1
+pub returns-in-Some : goal.returns-in-Some
+returns-in-Some t c = sym (among-hit _ _ 16 _ _ _ _ (omega arith) c.search-below.ensures c.in-Some.is) ∙ c.loop-k.invariant.1.1
 
 pub loop-k-preserved : goal.loop-k-preserved
 loop-k-preserved t c =
@@ -31,7 +31,7 @@ loop-k-preserved t c =
       search rules,
       (
         omega (arith, below-low _ _ _ _ _ _ _ c.search-below.result e c.search-below.ensures, c.loop-k.invariant.1.0),
-        sym (among-miss _ _ 16 _ _ _ (omega arith) c.search-below.ensures c.in-Nothing.is) ∙ c.loop-k.invariant.1.1,
+        sym (among-miss _ _ 16 _ _ _ (omega arith) c.search-below.ensures c.in-None.is) ∙ c.loop-k.invariant.1.1,
       ),
     )
 
