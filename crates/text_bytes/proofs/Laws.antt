@@ -1,22 +1,23 @@
 -- What the loops cite.
 use Prim.Native.Nat.{ℕ, zero, suc, ◌+◌, ◌-◌, ◌*◌, ◌/◌, ◌%◌, ◌^◌, ◌≤◌, ◌<◌}
-use mathlib.Core.Path.{◌≡◌, refl, sym, ap, ◌∙◌}
-use mathlib.Core.Bool.{Bool, true, false, ◌&&◌}
+use mathlib.Core.Path.{◌≡◌, refl, sym, ◌∙◌}
+use mathlib.Core.Bool.{Bool, true, false}
+use Rattle.std.specs.Str.{bytes_eq}
 use mathlib.Core.List.{List, [], ◌∷◌, ◌++◌, append_assoc, append-nil}
 use native.Mathlib.Omega.{arith}
 use native.Mathlib.Numerals.{add-one}
 use native.Mathlib.Nat.{pow-suc, pow-le-pow_right}
-use borrow.Author.Tests.{eq-eqb, ne_eqb, lt-ltb, le-ltb, leb-true, leb-false}
+use borrow.Author.Tests.{lt-ltb, le-ltb, leb-true, leb-false}
 use lib.ListN.{length, get_or, set, drop, length-set, drop_of_length-le}
 use lib.Seq.{drop-cons}
-use lib.Dec.{eqb, ltb, leb}
+use lib.Dec.{ltb, leb}
+use Rattle.std.specs.Prelude.{Some, None}
 use Rattle.laws_words.specs.Tests.{by_cases}
 use Rattle.laws_words.specs.Words.{pick}
 use Rattle.text_bytes.specs.Numbers.{digit_of, num_from, num_of}
 use Rattle.text_bytes.specs.Bytes.{eq_bytes}
 use Rattle.text_bytes.specs.Ink.{Ink, ink, emit, emits, emits_all, joined, dec_from, decimal}
 use Rattle.io.specs.Digits.{last_digits, IsDigitCount}
-use Rattle.text_bytes.specs.declared.Num.TheVariants.{Bad, Is}
 
 -- A loop over a list whose definition goes by the list: F s xs is what is left to do from the state s. At index i, what is left still makes r.
 module _ {S R A : Type 0} where
@@ -38,15 +39,15 @@ module _ {S R A : Type 0} where
   rest-done {F} {xs} {r} {s} {i} v h = rw (drop_of_length-le xs h) at v.rest
 
 -- numbers
-pub num-more : (acc b v : ℕ) → digit_of acc b ≡ Is v → (ys : List ℕ) → num_from acc (b ∷ ys) ≡ num_from v ys
+pub num-more : (acc b v : ℕ) → digit_of acc b ≡ Some v → (ys : List ℕ) → num_from acc (b ∷ ys) ≡ num_from v ys
 unfolding num_from
 num-more acc b v e ys = rw e refl
 
-pub num-bad : (acc b : ℕ) → digit_of acc b ≡ Bad → (ys : List ℕ) → num_from acc (b ∷ ys) ≡ Bad
+pub num-bad : (acc b : ℕ) → digit_of acc b ≡ None → (ys : List ℕ) → num_from acc (b ∷ ys) ≡ None
 unfolding num_from
 num-bad acc b e ys = rw e refl
 
-pub num-end : (acc : ℕ) → num_from acc [] ≡ Is acc
+pub num-end : (acc : ℕ) → num_from acc [] ≡ Some acc
 unfolding num_from
 num-end acc = refl
 
@@ -55,37 +56,18 @@ unfolding num_of
 num-of [] h = absurd (omega arith)
 num-of (b ∷ s) h = refl
 
-pub num-none : (s : List ℕ) → length s ≡ 0 → Bad ≡ num_of s
+pub num-none : (s : List ℕ) → length s ≡ 0 → None ≡ num_of s
 unfolding num_of
 num-none [] h = refl
 num-none (b ∷ s) h = absurd (omega arith)
 
--- equal bytes. The state is what is left of the other list.
-abbrev pub eq_with : List ℕ → List ℕ → Bool
-eq_with t s = eq_bytes s t
-
-pub eq-more : (t : List ℕ) (i b : ℕ) → i < length t → b ≡ get_or t i 0 → (ys : List ℕ) → eq_with (drop i t) (b ∷ ys) ≡ eq_with (drop (i + 1) t) ys
+-- equal bytes: what == of slices says
+pub eq_is : (s t : List ℕ) → bytes_eq s t ≡ eq_bytes s t
 unfolding eq_bytes
-eq-more t i b h e ys = rw (drop-cons t i 0 h, add-one, eq-eqb _ _ e) refl
-
-pub eq_no : (t : List ℕ) (i b : ℕ) → i < length t → (b ≡ get_or t i 0 → ⊥) → (ys : List ℕ) → eq_with (drop i t) (b ∷ ys) ≡ false
-unfolding eq_bytes
-eq_no t i b h e ys = rw (drop-cons t i 0 h, ne_eqb _ _ e) refl
-
-pub eq-end : (t : List ℕ) (i : ℕ) → length t ≤ i → eq_with (drop i t) [] ≡ true
-unfolding eq_bytes
-eq-end t i h = rw (drop_of_length-le t h) refl
-
-and_no : (b : Bool) → (b && false) ≡ false
-and_no true = refl
-and_no false = refl
-
-pub eq-length : (s t : List ℕ) → (length s ≡ length t → ⊥) → eq_bytes s t ≡ false
-unfolding eq_bytes
-eq-length [] [] e = absurd (e refl)
-eq-length [] (b ∷ t) e = refl
-eq-length (a ∷ s) [] e = refl
-eq-length (a ∷ s) (b ∷ t) e = rw (eq-length s t (λ q. e (ap suc q))) (and_no (eqb a b))
+eq_is [] [] = refl
+eq_is [] (b ∷ t) = refl
+eq_is (a ∷ s) [] = refl
+eq_is (a ∷ s) (b ∷ t) = rw (eq_is s t) refl
 
 -- bytes put
 pub emits-more : (k k' : Ink) (b : ℕ) → k' ≡ emit k b → (ys : List ℕ) → emits k (b ∷ ys) ≡ emits k' ys

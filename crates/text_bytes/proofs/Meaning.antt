@@ -9,12 +9,12 @@ use borrow.Author.Tests.{lt-ltb, le-leb, ltb-true}
 use lib.ListN.{length, take, set, length-set, length-append}
 use lib.Seq.{take-suc-set}
 use lib.Dec.{ltb}
+use Rattle.std.specs.Prelude.{Some}
 use Rattle.laws_words.specs.Tests.{by_cases}
 use Rattle.text_bytes.specs.Bytes.{bytes}
 use Rattle.text_bytes.specs.Numbers.{digit_of, num_from, num_of, most}
 use Rattle.text_bytes.specs.Ink.{Ink, ink, emit, emits, dec_from, decimal, joined}
 use Rattle.text_bytes.proofs.Laws.{num-more, num-end, num-of, emits-more, emits-end}
-use Rattle.text_bytes.specs.declared.Num.TheVariants.{Is}
 
 -- The bytes of a text are its ASCII codes.
 pub bytes-pool : bytes "pool" ≡ 112 ∷ 111 ∷ 111 ∷ 108 ∷ []
@@ -43,7 +43,7 @@ nothing-cut k (b ∷ s) h =
       place = rw e (w.place ∙ omega arith);
     }
 
-digit-is : (acc d : ℕ) → d < 10 → acc * 10 + d ≤ most → digit_of acc (48 + d) ≡ Is (acc * 10 + d)
+digit-is : (acc d : ℕ) → d < 10 → acc * 10 + d ≤ most → digit_of acc (48 + d) ≡ Some (acc * 10 + d)
 unfolding digit_of
 digit-is acc d h k =
     let e : 48 + d - 48 ≡ d = omega arith in
@@ -58,13 +58,13 @@ read_back (suc f) n rest h k =
     by_cases (ltb n 10)
     (λ e. let q : n < 10 = ltb-true n 10 e in
     let z : 0 * 10 + n ≡ n = omega arith in
-    let g : digit_of 0 (48 + n) ≡ Is n = rw z at (digit-is 0 n q (omega arith)) in
+    let g : digit_of 0 (48 + n) ≡ Some n = rw z at (digit-is 0 n q (omega arith)) in
     rw e (num-more 0 (48 + n) n g rest))
     (λ e. let o : n < 10 ^ f * 10 = rw pow-suc at h in
     let x : n / 10 < 10 ^ f = omega arith in
     let m : n % 10 < 10 = omega arith in
     let z : n / 10 * 10 + n % 10 ≡ n = omega arith in
-    let g : digit_of (n / 10) (48 + n % 10) ≡ Is n = rw z at (digit-is (n / 10) (n % 10) m (omega arith)) in
+    let g : digit_of (n / 10) (48 + n % 10) ≡ Some n = rw z at (digit-is (n / 10) (n % 10) m (omega arith)) in
     rw e (read_back f (n / 10) ((48 + n % 10) ∷ rest) x (omega arith) ∙ num-more (n / 10) (48 + n % 10) n g rest))
 
 dec_some : (f n b : ℕ) (rest : List ℕ) → 0 < length (dec_from f n (b ∷ rest))
@@ -83,7 +83,7 @@ decimal-some n =
     (λ e. rw e (dec_some 19 (n / 10) (48 + n % 10) []))
 
 -- A number of 64 bits that was written in decimal is read back as itself.
-pub decimal-read : (n : ℕ) → n ≤ most → num_of (decimal n) ≡ Is n
+pub decimal-read : (n : ℕ) → n ≤ most → num_of (decimal n) ≡ Some n
 unfolding decimal
 decimal-read n h =
     sym (num-of (decimal n) (decimal-some n)) ∙ read_back 20 n [] (omega arith) h ∙ num-end n

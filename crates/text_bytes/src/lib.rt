@@ -2,6 +2,7 @@
 #![tactic(auto)]
 
 pub mod failing;
+pub mod page;
 
 ghost use Rattle.std.specs.Prelude.{◌≡◌};
 ghost use Rattle.text_bytes.specs.Numbers.{digit_of, num_of};
@@ -9,73 +10,40 @@ ghost use Rattle.text_bytes.specs.Bytes.{eq_bytes};
 ghost use Rattle.text_bytes.specs.Ink.{ink, emit, emits};
 ghost use Rattle.text_bytes.specs.Ink.{decimal as Ink·decimal};
 
-// A number of 64 bits, or none.
-#[derive(Clone, Copy)]
-pub enum Num {
-    Bad,
-    Is(u64),
-}
-
-fn wide(b: u8) -> u64
-    ensures { result ≡ b }
-{
-    b as u64
-}
-
 // acc with one more digit after it.
-fn digit(acc: u64, b: u8) -> Num
+#[tactic(auto, unfolding(crate::specs::Numbers::digit_of))]
+fn digit(acc: u64, b: u8) -> Option<u64>
     ensures { result ≡ digit_of acc b }
 {
-    if b < 48 {
-        return Num::Bad;
+    if b < 48 || 57 < b {
+        return None;
     }
-    if 57 < b {
-        return Num::Bad;
-    }
-    let d = wide(b - 48);
-    if (u64::MAX - d) / 10 < acc {
-        return Num::Bad;
-    }
-    Num::Is(acc * 10 + d)
+    acc.checked_mul(10)?.checked_add(u64::from(b - 48))
 }
 
-// Decimal digits only, at least one, leading zeros allowed.
-pub fn number(s: &[u8]) -> Num
+// Decimal digits only, at least one, leading zeros allowed; none where they are not, or where the number does not fit 64 bits.
+pub fn number(s: &[u8]) -> Option<u64>
     ensures { result ≡ num_of s.now }
 {
-    if s.len() == 0 {
-        return Num::Bad;
+    if s.is_empty() {
+        return None;
     }
     let mut acc = 0;
-    let mut i = 0;
-    while i < s.len() {
-        let Num::Is(v) = digit(acc, s[i]) else {
-            return Num::Bad;
-        };
-        acc = v;
-        i += 1;
+    for b in s {
+        acc = digit(acc, *b)?;
     }
-    Num::Is(acc)
+    Some(acc)
 }
 
+#[tactic(auto, using(crate::proofs::Laws::eq_is))]
 pub fn same(s: &[u8], t: &[u8]) -> bool
     ensures { result ≡ eq_bytes s.now t.now }
 {
-    let n = s.len();
-    if n != t.len() {
-        return false;
-    }
-    let mut i = 0;
-    while i < n {
-        if s[i] != t[i] {
-            return false;
-        }
-        i += 1;
-    }
-    true
+    s == t
 }
 
 // Puts a byte at the place `at` and gives the next place. Where there is no room, nothing is put.
+#[tactic(auto, unfolding(crate::specs::Ink::emit))]
 pub fn put(out: &mut [u8], at: usize, b: u8) -> usize
     ensures { ink out.new result ≡ emit (ink out.old at) b }
 {
@@ -90,10 +58,8 @@ pub fn put_bytes(out: &mut [u8], at: usize, s: &[u8]) -> usize
     ensures { ink out.new result ≡ emits (ink out.old at) s.now }
 {
     let mut to = at;
-    let mut i = 0;
-    while i < s.len() {
-        to = put(out, to, s[i]);
-        i += 1;
+    for b in s {
+        to = put(out, to, *b);
     }
     to
 }

@@ -9,7 +9,7 @@ use lib.Seq.{take-suc, get_or-drop}
 use Rattle.text_bytes.proofs.Laws.{Rest, rest-start, rest_more, rest-done}
 use Rattle.text_words.specs.Lines.{line_from, line_of, pushed, tok_of, empty}
 use Rattle.text_words.specs.declared.lines.Line.{Line}
-use Rattle.text_words.specs.declared.lines.Tok.{Tok}
+use Rattle.text_words.specs.declared.lines.Token.{Token}
 
 -- the bytes of s from a up to e
 abbrev pub part : List ℕ → ℕ → ℕ → List ℕ
@@ -46,11 +46,12 @@ unfolding line_from line_goes
 cuts-more {s} {l} {a} {i} v h n =
     record { low = omega (arith, v.low); goes = rest_more 0 v.goes h (λ ys. rw (ne_eqb _ _ n, part-more s a i v.low h) refl) }
 
-pub cuts-cut : {s : List ℕ} {l l' : Line} {a i : ℕ} (t : Tok) → Cuts s l a i → i < length s → get_or s i 0 ≡ 32 → t ≡ tok_of (part s a i) → l' ≡ pushed l t → Cuts s l' (i + 1) (i + 1)
+pub cuts-cut : {s : List ℕ} {l l' : Line} {a i : ℕ} (t : Token) → Cuts s l a i → i < length s → get_or s i 0 ≡ 32 → t ≡ tok_of (part s a i) → l' ≡ pushed l t → Cuts s l' (i + 1) (i + 1)
 unfolding line_from line_goes
 cuts-cut {s} {l} {l'} {a} {i} t v h n e f =
     record { low = omega arith; goes = rest_more 0 v.goes h (λ ys. rw (eq-eqb _ _ n, part_none s (i + 1), f, e) refl) }
 
-pub cuts-done : {s : List ℕ} {l l' : Line} {a i : ℕ} (t : Tok) → Cuts s l a i → length s ≤ i → t ≡ tok_of (part s a i) → l' ≡ pushed l t → l' ≡ line_of s
+pub cuts-done : {s : List ℕ} {l l' : Line} {a i : ℕ} (t : Token) → Cuts s l a i → length s ≤ i → t ≡ tok_of (part s a (length s)) → l' ≡ pushed l t → l' ≡ line_of s
 unfolding line_from line_goes
-cuts-done {s} {l} {l'} {a} {i} t v h e f = f ∙ rw e (rest-done v.goes h)
+cuts-done {s} {l} {l'} {a} {i} t v h e f =
+    let q : length s ≡ i = omega (arith, v.goes.at) in f ∙ rw (e, q) (rest-done v.goes h)

@@ -1,28 +1,29 @@
--- A line: its words, each a number or a name.
-use Rattle.std.specs.Prelude.{ℕ, ◌+◌, List, [], ◌∷◌, ◌++◌, set, replicate, ltb, eqb}
+-- A line: its words, each a number, a name or neither.
+use Rattle.std.specs.Prelude.{ℕ, ◌+◌, List, [], ◌∷◌, ◌++◌, Option, Some, None, set, replicate, ltb, eqb}
 use Rattle.laws_words.specs.Words.{pick}
 use Rattle.text_bytes.specs.Numbers.{num_of}
-use Rattle.text_bytes.specs.declared.Num.{Num}
 use Rattle.text_words.specs.Names.{name_of}
-use Rattle.text_words.specs.declared.lines.Tok.{Tok}
+use Rattle.text_words.specs.declared.names.Name.{Name}
+use Rattle.text_words.specs.declared.lines.Token.{Token}
 use Rattle.text_words.specs.declared.lines.Line.{Line}
 
--- A word: a number where its bytes are one, else the code of a name.
-abbrev pub tok_from : Num → ℕ → Tok
-tok_from Num.Bad name = record { name = name; num = 0 }
-tok_from (Num.Is v) name = record { name = 0; num = v }
+-- A word: a number where its bytes are one, else the name that it is, if any.
+abbrev pub tok_from : Option ℕ → Option Name → Token
+tok_from (Some v) name = Token.Number v
+tok_from None (Some k) = Token.Word k
+tok_from None None = Token.Unknown
 
-unfoldable pub tok_of : List ℕ → Tok
+unfoldable pub tok_of : List ℕ → Token
 tok_of w = tok_from (num_of w) (name_of w)
 
-abbrev pub no_tok : Tok
-no_tok = record { name = 0; num = 0 }
+abbrev pub no_tok : Token
+no_tok = Token.Number 0
 
 abbrev pub empty : Line
 empty = record { count = 0; toks = replicate 8 no_tok }
 
 -- The line with one more word. The ninth and later ones are only counted, as nine.
-unfoldable pub pushed : Line → Tok → Line
+unfoldable pub pushed : Line → Token → Line
 pushed l t = pick (ltb l.count 8) (record { count = l.count + 1; toks = set l.toks l.count t }) (record { count = 9; toks = l.toks })
 
 -- The line l, with the word w begun, and then the bytes. A space (32) ends a word.

@@ -38,60 +38,47 @@ pub fn fresh(c: Cur) -> Cur
     ensures { result ≡ next_line c }
 {
     Cur {
-        pos: c.pos,
-        end: c.end,
         len: 0,
         kind: Got::Part,
+        ..c
     }
 }
 
 // Takes bytes up to the line's end; reads where none is left.
 pub fn fetch(input: &mut impl Read, c: Cur, buf: &mut [u8], line: &mut [u8]) -> io::Result<Cur> {
-    let pos = c.pos;
-    let end = c.end;
-    let len = c.len;
-    if pos < end {
-        return Ok(scan(pos, end, len, buf, line));
+    if c.pos < c.end {
+        return Ok(scan(c.pos, c.end, c.len, buf, line));
     }
     let n = input.read(buf)?;
     if n == 0 {
         return Ok(Cur {
             pos: 0,
             end: 0,
-            len: len,
+            len: c.len,
             kind: Got::End,
         });
     }
-    Ok(scan(0, n, len, buf, line))
+    Ok(scan(0, n, c.len, buf, line))
 }
 
-fn scan(pos: usize, end: usize, len: usize, buf: &[u8], line: &mut [u8]) -> Cur {
-    let mut i = pos;
-    let mut n = len;
-    while i < buf.len() {
-        if end <= i {
-            return Cur {
-                pos: i,
-                end: end,
-                len: n,
-                kind: Got::Part,
-            };
-        }
-        if buf[i] == 10 {
+// An index: the place of the byte where it stops is kept.
+fn scan(pos: usize, end: usize, mut len: usize, buf: &[u8], line: &mut [u8]) -> Cur {
+    let stop = end.min(buf.len());
+    for i in pos..stop {
+        if buf[i] == b'\n' {
             return Cur {
                 pos: i + 1,
-                end: end,
-                len: n,
+                end,
+                len,
                 kind: Got::Whole,
             };
         }
-        n = push(n, buf[i], line);
-        i += 1;
+        len = push(len, buf[i], line);
     }
     Cur {
-        pos: i,
-        end: end,
-        len: n,
+        pos: stop,
+        end,
+        len,
         kind: Got::Part,
     }
 }

@@ -1,32 +1,34 @@
-// A line cut at single spaces into words, each a number or the code of a name.
+// A line cut at single spaces into words, each a number, a name or neither.
 ghost use Rattle.std.specs.Prelude.{◌≡◌};
 ghost use Rattle.text_words.specs.Lines.{tok_of, empty as Lines·empty, pushed, line_of};
 
-use text_bytes::Num;
+use crate::names::{self, Name};
 
-// name is 0 for a number; num is 0 for a name.
-#[derive(Clone, Copy)]
-pub struct Tok {
-    pub name: u64,
-    pub num: u64,
+// Unknown: a word that is neither a number nor a name.
+#[derive(Clone, Copy, PartialEq, Eq)]
+pub enum Token {
+    Number(u64),
+    Word(Name),
+    Unknown,
 }
 
 // count is 9 where the line has more than eight words. A word that is not there is the number 0.
 #[derive(Clone, Copy)]
 pub struct Line {
     pub count: u64,
-    pub toks: [Tok; 8],
+    pub toks: [Token; 8],
 }
 
-fn token(s: &[u8]) -> Tok
+#[tactic(auto, unfolding(crate::specs::Lines::tok_of))]
+fn token_of(s: &[u8]) -> Token
     ensures { result ≡ tok_of s.now }
 {
-    match text_bytes::number(s) {
-        Num::Bad => {
-            let k = crate::names::name(s);
-            Tok { name: k, num: 0 }
-        }
-        Num::Is(v) => Tok { name: 0, num: v },
+    if let Some(n) = text_bytes::number(s) {
+        return Token::Number(n);
+    }
+    match names::name_of(s) {
+        Some(name) => Token::Word(name),
+        None => Token::Unknown,
     }
 }
 
@@ -35,21 +37,21 @@ fn empty() -> Line
 {
     Line {
         count: 0,
-        toks: [Tok { name: 0, num: 0 }; 8],
+        toks: [Token::Number(0); 8],
     }
 }
 
 // One more word. The ninth and later ones are only counted, as nine.
-fn push(mut l: Line, t: Tok) -> Line
+#[tactic(auto, unfolding(crate::specs::Lines::pushed))]
+fn push(mut l: Line, t: Token) -> Line
     ensures { result ≡ pushed l t }
 {
-    let n = l.count;
-    if n < 8 {
-        l.toks[n as usize] = t;
-        l.count = n + 1;
-        return l;
+    if l.count < 8 {
+        l.toks[l.count as usize] = t;
+        l.count += 1;
+    } else {
+        l.count = 9;
     }
-    l.count = 9;
     l
 }
 
@@ -57,16 +59,13 @@ pub fn read_line(s: &[u8]) -> Line
     ensures { result ≡ line_of s.now }
 {
     let mut l = empty();
+    // Where the word that is begun stands.
     let mut a = 0;
-    let mut i = 0;
-    while i < s.len() {
-        if s[i] == 32 {
-            l = push(l, token(&s[a..i]));
-            i += 1;
-            a = i;
-            continue;
+    for i in 0..s.len() {
+        if s[i] == b' ' {
+            l = push(l, token_of(&s[a..i]));
+            a = i + 1;
         }
-        i += 1;
     }
-    push(l, token(&s[a..i]))
+    push(l, token_of(&s[a..]))
 }

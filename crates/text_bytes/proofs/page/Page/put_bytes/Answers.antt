@@ -1,0 +1,10 @@
+use mathlib.Core.Path.{sym, ◌∙◌}
+use borrow.Author.Rules.{rules}
+use Rattle.text_bytes.proofs.Laws.{rest_more, rest-done, emits-more, emits-end}
+use Rattle.text_bytes.proofs.page.Page.put_bytes.Goals as goal
+
+pub loop-b-preserved : goal.loop-b-preserved
+loop-b-preserved c = rest_more _ c.loop-b.invariant (search rules) (emits-more _ _ _ c.put.ensures)
+
+pub returns : goal.returns
+returns c = sym (emits-end _) ∙ rest-done c.loop-b.invariant (search rules)

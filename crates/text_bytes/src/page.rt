@@ -1,0 +1,64 @@
+// A page: a lent buffer, and the place of the next byte. A clause sees both as `Ink`.
+ghost use Rattle.std.specs.Prelude.{◌≡◌, take};
+ghost use Rattle.text_bytes.specs.Ink.{ink, emit, emits, decimal};
+
+use std::marker::Model;
+
+#[derive(Drop)]
+pub struct Page<'a> {
+    out: &'a mut [u8],
+    at: usize,
+}
+
+impl<'a> Model for Page<'a> {
+    ghost use Rattle.std.specs.Prelude.{◌≤◌, length};
+    ghost use Rattle.text_bytes.specs.Ink.{Ink, ink};
+
+    ghost Value = { Ink };
+
+    ghost view = { λ p. ink p.out.now p.at };
+
+    ghost invariant = { λ p. p.at ≤ length p.out.now };
+}
+
+impl<'a> Page<'a> {
+    pub fn new(out: &'a mut [u8]) -> Page<'a>
+        ensures { result ≡ ink out.old 0 }
+    {
+        Page { out, at: 0 }
+    }
+
+    // A byte. Where there is no room, nothing is put.
+    #[tactic(auto, unfolding(crate::specs::Ink::emit))]
+    pub fn put(&mut self, b: u8)
+        ensures { self.new ≡ emit self.old b }
+    {
+        if self.at < self.out.len() {
+            self.out[self.at] = b;
+            self.at += 1;
+        }
+    }
+
+    pub fn put_bytes(&mut self, s: &[u8])
+        ensures { self.new ≡ emits self.old s.now }
+    {
+        for b in s {
+            self.put(*b);
+        }
+    }
+
+    pub fn put_number(&mut self, n: u64)
+        ensures { self.new ≡ emits self.old (decimal n) }
+    {
+        let mut d = [0u8; 20];
+        let k = io::decimal(n, &mut d);
+        self.put_bytes(&d[..k]);
+    }
+
+    // What is put so far.
+    pub fn text(&self) -> &[u8]
+        ensures { result.now ≡ take self.now.at self.now.buf }
+    {
+        &self.out[..self.at]
+    }
+}
