@@ -9,9 +9,13 @@ use lib.Dec.{eqb}
 use lib.ListN.{length, get_or, take}
 use lib.Seq.{take-suc, take_all}
 use borrow.Author.Tests.{eq-eqb, eqb-true}
+use Rattle.std.specs.Cmp.Lexicographic.{pointwise}
+use Rattle.std.proofs.lemmas.Bool.Decides.{same_from_decides, Decides-eqb}
+use Rattle.std.proofs.lemmas.Slice.Eq.{slice_eq-Decides}
 use Rattle.laws_words.specs.Tests.{and_left, and_right}
 use Rattle.laws_words.specs.Words.{one}
-use Rattle.event_words.specs.Same.{same_to, error_of}
+use Rattle.event_words.specs.Calls.{error_of}
+use Rattle.event_words.specs.Same.{same_to}
 
 pub same_refl : (xs : List ℕ) (n : ℕ) → same_to xs xs n ≡ true
 unfolding same_to
@@ -33,6 +37,11 @@ same-all xs ys n g h e =
     let a : length xs ≤ n = omega (arith, g) in
     let b : length ys ≤ n = omega (arith, h) in
     sym (take_all n ys b) ∙ sym t ∙ take_all n xs a
+
+-- what `==` of two arrays says
+pub same_arrays : (xs ys : List ℕ) → length xs ≡ 32 → length ys ≡ 32 → pointwise eqb xs ys ≡ same_to xs ys 32
+same_arrays xs ys g h =
+    same_from_decides _ _ (slice_eq-Decides Decides-eqb xs ys _ refl) (λ e. sym (same-all xs ys 32 g h e), λ e. rw e (same_refl ys 32))
 
 -- a flag, written as a number and read again
 pub read_one : (b : Bool) → eqb (one b) 1 ≡ b

@@ -1,3 +1,4 @@
+pub mod Calls
 pub mod Inverse
 pub mod NodeWords
 pub mod Same
