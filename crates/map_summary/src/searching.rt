@@ -46,12 +46,11 @@ fn search(words: &Summaries, map: &[u8], m: u64, start: u64, level: u64, i: u64)
     for k in 0..16 {
         let below = search(words, map, m, start, level - 1, 16 * i + k);
         looked += below.looked;
-        match below.found {
-            Some(c) => return Sought {
+        if let Some(c) = below.found {
+            return Sought {
                 found: Some(c),
                 looked,
-            },
-            None => {}
+            };
         }
     }
     Sought {

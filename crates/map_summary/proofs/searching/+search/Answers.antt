@@ -29,7 +29,7 @@ pub loop-k-preserved : goal.loop-k-preserved
 loop-k-preserved t c =
     let e = sym c.opens.ensures ∙ c.if-not-opens.false in (
       omega (arith, below-low _ _ _ _ _ _ _ c.search-below.result e c.search-below.ensures, c.loop-k.invariant.0),
-      sym (among-miss _ _ 16 _ _ _ (omega arith) c.search-below.ensures c.in-None.is) ∙ c.loop-k.invariant.1,
+      sym (among-miss _ _ 16 _ _ _ (omega arith) c.search-below.ensures c.in_default.is) ∙ c.loop-k.invariant.1,
     )
 
 pub returns : goal.returns
