@@ -1,14 +1,14 @@
 use Rattle.std.proofs.Common.{arith, sym, ◌∙◌}
 use Rattle.status_row.proofs.DescriptorsLaws.{volume}
-use Rattle.status_row.specs.Reading.{read_refusal, read_leaves}
+use Rattle.status_row.specs.Reading.{read_refusal, read_answer, read_leaves}
 use Rattle.status_row.proofs.reader.read.Goals as goal
 
 pub returns-then-not-row_sound : goal.returns-then-not-row_sound
-unfolding read_refusal read_leaves
+unfolding read_refusal read_answer read_leaves
 returns-then-not-row_sound c = let e = sym c.row_sound.ensures ∙ c.if-not-row_sound.true in (rw e, rw e)
 
 pub returns-then-not-volume_good : goal.returns-then-not-volume_good
-unfolding read_refusal read_leaves
+unfolding read_refusal read_answer read_leaves
 returns-then-not-volume_good c =
     let e = sym c.row_sound.ensures ∙ c.if-not-row_sound.false in
     let q = sym c.volume_good.ensures ∙ c.if-not-volume_good.true in
@@ -20,7 +20,7 @@ status_good-requires c =
     (omega (arith, v.least), v.upto)
 
 pub returns-then-not-status_good : goal.returns-then-not-status_good
-unfolding read_refusal read_leaves
+unfolding read_refusal read_answer read_leaves
 returns-then-not-status_good c =
     let e = sym c.row_sound.ensures ∙ c.if-not-row_sound.false in
     let q = sym c.volume_good.ensures ∙ c.if-not-volume_good.false in
@@ -33,7 +33,7 @@ fill-requires c =
     (omega (arith, v.least), (v.upto, sym c.status_good.ensures ∙ c.if-not-status_good.false))
 
 pub returns : goal.returns
-unfolding read_refusal read_leaves
+unfolding read_refusal read_answer read_leaves
 returns c =
     let e = sym c.row_sound.ensures ∙ c.if-not-row_sound.false in
     let q = sym c.volume_good.ensures ∙ c.if-not-volume_good.false in
