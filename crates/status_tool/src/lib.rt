@@ -10,7 +10,7 @@ use std::env::FillError;
 use std::io::{ErrorKind, Print, Read};
 use std::rt::{Env, Files};
 use std::{fs, io, str};
-use text_bytes::{Num, failing};
+use text_bytes::failing;
 
 // MAP MEMBER CHUNKS CHUNK_SIZE writes descriptors; read CHUNKS CHUNK_SIZE reads them. The program lends the buffers: `map` has a byte more than a map and `bytes` a
 // descriptor more than a volume can have, so that what is too long is refused for it.
@@ -35,15 +35,15 @@ fn write_status(
     map: &mut [u8],
     out: &mut [u8],
 ) {
-    let Num::Is(m) = number_at(rt, 2) else {
+    let Some(m) = number_at(rt, 2) else {
         say_usage(errors);
         return;
     };
-    let Num::Is(n) = number_at(rt, 3) else {
+    let Some(n) = number_at(rt, 3) else {
         say_usage(errors);
         return;
     };
-    let Num::Is(s) = number_at(rt, 4) else {
+    let Some(s) = number_at(rt, 4) else {
         say_usage(errors);
         return;
     };
@@ -68,11 +68,11 @@ fn read_status(
         say_usage(errors);
         return;
     }
-    let Num::Is(n) = number_at(rt, 2) else {
+    let Some(n) = number_at(rt, 2) else {
         say_usage(errors);
         return;
     };
-    let Num::Is(s) = number_at(rt, 3) else {
+    let Some(s) = number_at(rt, 3) else {
         say_usage(errors);
         return;
     };
@@ -91,7 +91,7 @@ fn is_read(rt: &impl Env) -> bool {
 }
 
 // Word i as a number.
-fn number_at(rt: &impl Env, i: usize) -> Num {
+fn number_at(rt: &impl Env, i: usize) -> Option<u64> {
     let mut word = [0u8; 32];
     let n = word_at(rt, i, &mut word);
     text_bytes::number(&word[..n])
