@@ -1,9 +1,9 @@
 use Rattle.laws_words.specs.Gather.{gather-lt}
+use Rattle.laws_words.specs.Loops.{unmapped}
 use Rattle.rules_pool.specs.declared.Roster.{Roster}
 use Rattle.rules_pool.specs.declared.Kind.{Kind}
 use Rattle.rules_pool.specs.Sessions.{is_kind, ids_of}
-use Rattle.laws_words.specs.Loops.{unmapped}
-use Rattle.std.proofs.Common.{◌≡◌, ◌<◌, length, arith, rules}
+use Rattle.std.proofs.Common.{◌≡◌, ◌<◌, length, rules}
 use Rattle.client_check.proofs.tick.Goals as goal
 
 ids-lt : (k : Kind) (ro : Roster) → length ro.sessions ≡ 16 → ids_of k ro < 65536
@@ -13,4 +13,4 @@ ids-lt k ro l =
     rw l at b
 
 pub overflow_cast-asked : goal.overflow_cast-asked
-overflow_cast-asked c = let h : c.ids-asked.result < 65536 = rw c.ids-asked.ensures (ids-lt _ _ (search (rules, unmapped))) in omega (arith, h)
+overflow_cast-asked c = search (rules, ids-lt, unmapped)
