@@ -11,21 +11,19 @@ pub struct Page<'a> {
 }
 
 impl<'a> Model for Page<'a> {
-    ghost use Rattle.std.specs.Prelude.{◌≤◌, length};
     ghost use Rattle.text_bytes.specs.Ink.{Ink, ink};
 
     ghost Value = { Ink };
 
     ghost view = { λ p. ink p.out.now p.at };
-
-    ghost invariant = { λ p. p.at ≤ length p.out.now };
 }
 
 impl<'a> Page<'a> {
-    pub fn new(out: &'a mut [u8]) -> Page<'a>
-        ensures { result ≡ ink out.old 0 }
+    // The next byte goes to the place `at`.
+    pub fn new(out: &'a mut [u8], at: usize) -> Page<'a>
+        ensures { result ≡ ink out.old at }
     {
-        Page { out, at: 0 }
+        Page { out, at }
     }
 
     // A byte. Where there is no room, nothing is put.
@@ -55,10 +53,17 @@ impl<'a> Page<'a> {
         self.put_bytes(&d[..k]);
     }
 
-    // What is put so far.
+    // The place of the next byte.
+    pub fn at(&self) -> usize
+        ensures { result ≡ self.now.at }
+    {
+        self.at
+    }
+
+    // What stands in front of that place: the whole buffer where the place is behind its end.
     pub fn text(&self) -> &[u8]
         ensures { result.now ≡ take self.now.at self.now.buf }
     {
-        &self.out[..self.at]
+        &self.out[..self.at.min(self.out.len())]
     }
 }
