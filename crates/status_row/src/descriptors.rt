@@ -61,9 +61,20 @@ fn size_good(s: u64) -> bool
         | (s == 1048576)
 }
 
-// Whether a volume may have n chunks of s bytes.
-pub fn volume_good(n: u64, s: u64) -> bool
-    ensures { result ≡ volume_good n s }
-{
-    (0 < n) & ((n <= map_numbers::refusals::CHUNK_LIMIT) & size_good(s))
+// A chunk count and a chunk size, whatever they are.
+#[derive(Clone, Copy)]
+pub struct Volume {
+    pub chunks: u64,
+    pub size: u64,
+}
+
+impl Volume {
+    // Whether a volume may have so many chunks of such a size.
+    #[tactic(auto, unfolding(crate::specs::Volume::volume_good))]
+    pub fn good(self) -> bool
+        ensures { result ≡ volume_good self.chunks self.size }
+    {
+        (0 < self.chunks)
+            & ((self.chunks <= map_numbers::refusals::CHUNK_LIMIT) & size_good(self.size))
+    }
 }

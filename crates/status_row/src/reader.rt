@@ -3,7 +3,7 @@ ghost use Rattle.std.specs.Prelude.{◌≡◌, true, ◌+◌, ◌<◌, ◌≤◌
 ghost use Rattle.status_row.specs.Descriptors.{word_at, descs_of};
 ghost use Rattle.status_row.specs.Reading.{desc_good, status_good, flags_of, stored, painted, read_answer, read_leaves};
 
-use crate::descriptors::{Refused, row_sound, volume_good};
+use crate::descriptors::{Refused, Volume, row_sound};
 
 // Reads 32 bits, big-endian.
 fn get32(bytes: &[u8], at: usize) -> u64
@@ -20,10 +20,10 @@ fn desc_good(s: u64, b: u64, f: u64) -> bool
     (b != 0) & ((b % s == 0) & (f < 2))
 }
 
-// Whether the bytes are descriptors of a volume of n chunks of s bytes. Chunks are counted, and no further than n.
-fn status_good(bytes: &[u8], n: u64, s: u64) -> bool
-    requires { (0 < s) × (n ≤ 4096) }
-    ensures { result ≡ status_good n s bytes.now }
+// Whether the bytes are descriptors of the volume. Chunks are counted, and no further than its count.
+fn status_good(bytes: &[u8], v: Volume) -> bool
+    requires { (0 < v.size) × (v.chunks ≤ 4096) }
+    ensures { result ≡ status_good v.chunks v.size bytes.now }
 {
     if bytes.len() % 8 != 0 {
         return false;
@@ -32,16 +32,16 @@ fn status_good(bytes: &[u8], n: u64, s: u64) -> bool
     for i in 0..bytes.len() / 8 {
         let b = get32(bytes, 8 * i);
         let f = get32(bytes, 8 * i + 4);
-        if !desc_good(s, b, f) {
+        if !desc_good(v.size, b, f) {
             return false;
         }
-        let next = c + b / s;
-        if n < next {
+        let next = c + b / v.size;
+        if v.chunks < next {
             return false;
         }
         c = next;
     }
-    c == n
+    c == v.chunks
 }
 
 // Gives chunk c a flag.
@@ -66,33 +66,33 @@ fn paint(row: &mut [u8], c: u64, k: u64, f: u64)
 }
 
 // Gives each chunk the flag of the descriptor over it.
-fn fill(bytes: &[u8], n: u64, s: u64, row: &mut [u8])
-    requires { (0 < s) × ((n ≤ 4096) × (status_good n s bytes.now ≡ true)) }
-    ensures { row.new ≡ painted 0 (flags_of s (descs_of bytes.now)) row.old }
+fn fill(bytes: &[u8], v: Volume, row: &mut [u8])
+    requires { (0 < v.size) × ((v.chunks ≤ 4096) × (status_good v.chunks v.size bytes.now ≡ true)) }
+    ensures { row.new ≡ painted 0 (flags_of v.size (descs_of bytes.now)) row.old }
 {
     let mut c: u64 = 0;
     for i in 0..bytes.len() / 8 {
         let b = get32(bytes, 8 * i);
         let f = get32(bytes, 8 * i + 4);
-        let k = b / s;
+        let k = b / v.size;
         paint(row, c, k, f);
         c += k;
     }
 }
 
-// Reads the descriptors of a volume of n chunks of s bytes into a lent row; where it refuses, the row is untouched.
-pub fn read(bytes: &[u8], n: u64, s: u64, row: &mut [u8]) -> Result<(), Refused>
-    ensures { (result ≡ read_answer n s bytes.now row.old) × (row.new ≡ read_leaves n s bytes.now row.old) }
+// Reads the descriptors of the volume into a lent row; where it refuses, the row is untouched.
+pub fn read(bytes: &[u8], v: Volume, row: &mut [u8]) -> Result<(), Refused>
+    ensures { (result ≡ read_answer v.chunks v.size bytes.now row.old) × (row.new ≡ read_leaves v.chunks v.size bytes.now row.old) }
 {
-    if !row_sound(row, n) {
+    if !row_sound(row, v.chunks) {
         return Err(Refused::Row);
     }
-    if !volume_good(n, s) {
+    if !v.good() {
         return Err(Refused::Volume);
     }
-    if !status_good(bytes, n, s) {
+    if !status_good(bytes, v) {
         return Err(Refused::Volume);
     }
-    fill(bytes, n, s, row);
+    fill(bytes, v, row);
     Ok(())
 }

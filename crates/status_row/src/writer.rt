@@ -4,7 +4,7 @@ ghost use Rattle.std.proofs.lemmas.List.Edits.{sets};
 ghost use Rattle.status_row.specs.Descriptors.{word};
 ghost use Rattle.status_row.specs.Writing.{joins, status_of, write_answer, write_leaves, member_answer, member_leaves};
 
-use crate::descriptors::{Refused, flag, row_sound, volume_good};
+use crate::descriptors::{Refused, Volume, flag, row_sound};
 
 // Stores 32 bits, big-endian. Byte by byte, as `word` says it: v may be above 32 bits, so `to_be_bytes` would need its remainder first.
 fn put32(out: &mut [u8], at: usize, v: u64)
@@ -34,48 +34,48 @@ fn joins(f: u64, g: u64, next: u64) -> bool
 }
 
 // Stores the row's descriptors, and says how many bytes they are. The open run has b bytes and flag f.
-fn put_status(row: &[u8], n: u64, s: u64, out: &mut [u8]) -> usize
-    requires { (0 < n) × ((n ≤ 4096) × ((s ≤ 1048576) × (32768 ≤ length out.old))) }
-    ensures { (result ≡ length (status_of n s row.now)) × (out.new ≡ sets out.old 0 (status_of n s row.now)) }
+fn put_status(row: &[u8], v: Volume, out: &mut [u8]) -> usize
+    requires { (0 < v.chunks) × ((v.chunks ≤ 4096) × ((v.size ≤ 1048576) × (32768 ≤ length out.old))) }
+    ensures { (result ≡ length (status_of v.chunks v.size row.now)) × (out.new ≡ sets out.old 0 (status_of v.chunks v.size row.now)) }
 {
     let mut f = flag(row, 0);
-    let mut b = s;
+    let mut b = v.size;
     let mut at: usize = 0;
-    for c in 1..n {
+    for c in 1..v.chunks {
         let g = flag(row, c);
-        let next = b + s;
+        let next = b + v.size;
         if joins(f, g, next) {
             b = next;
         } else {
             put_desc(out, at, b, f);
             at += 8;
             f = g;
-            b = s;
+            b = v.size;
         }
     }
     put_desc(out, at, b, f);
     at + 8
 }
 
-// Writes the descriptors of a row of n chunks of s bytes into what is lent, and says how many bytes they are.
-pub fn write(row: &[u8], n: u64, s: u64, out: &mut [u8]) -> Result<usize, Refused>
-    ensures { (result ≡ write_answer n s row.now out.old) × (out.new ≡ write_leaves n s row.now out.old) }
+// Writes the descriptors of a row of the volume into what is lent, and says how many bytes they are.
+pub fn write(row: &[u8], v: Volume, out: &mut [u8]) -> Result<usize, Refused>
+    ensures { (result ≡ write_answer v.chunks v.size row.now out.old) × (out.new ≡ write_leaves v.chunks v.size row.now out.old) }
 {
-    if !row_sound(row, n) {
+    if !row_sound(row, v.chunks) {
         return Err(Refused::Row);
     }
-    if !volume_good(n, s) {
+    if !v.good() {
         return Err(Refused::Volume);
     }
     if out.len() < 32768 {
         return Err(Refused::Volume);
     }
-    Ok(put_status(row, n, s, out))
+    Ok(put_status(row, v, out))
 }
 
 // The same for member m's row of a whole map.
-pub fn write_member(map: &[u8], m: u64, n: u64, s: u64, out: &mut [u8]) -> Result<usize, Refused>
-    ensures { (result ≡ member_answer n s map.now m out.old) × (out.new ≡ member_leaves n s map.now m out.old) }
+pub fn write_member(map: &[u8], m: u64, v: Volume, out: &mut [u8]) -> Result<usize, Refused>
+    ensures { (result ≡ member_answer v.chunks v.size map.now m out.old) × (out.new ≡ member_leaves v.chunks v.size map.now m out.old) }
 {
     if map.len() != map_numbers::refusals::MAP_BYTES {
         return Err(Refused::Row);
@@ -83,5 +83,5 @@ pub fn write_member(map: &[u8], m: u64, n: u64, s: u64, out: &mut [u8]) -> Resul
     if 15 < m {
         return Err(Refused::Member);
     }
-    write(map_whole::maps::row(map, m), n, s, out)
+    write(map_whole::maps::row(map, m), v, out)
 }

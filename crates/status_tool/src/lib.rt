@@ -6,6 +6,7 @@ ghost use Rattle.std.specs.Prelude.{◌≡◌, ◌≤◌, length};
 ghost use Rattle.text_bytes.specs.Ink.{ink, emits_all};
 ghost use Rattle.status_tool.specs.Lines.{refused_line};
 
+use status_row::descriptors::Volume;
 use std::env::FillError;
 use std::io::{ErrorKind, Print, Read};
 use std::rt::{Env, Files};
@@ -51,7 +52,8 @@ fn write_status(
         return;
     };
     let got = read_full(&mut file, map);
-    match status_row::writer::write_member(&map[..got], m, n, s, out) {
+    let v = Volume { chunks: n, size: s };
+    match status_row::writer::write_member(&map[..got], m, v, out) {
         Ok(k) => give(rt, errors, k, out),
         Err(why) => say_refused(errors, why.number()),
     }
@@ -77,7 +79,8 @@ fn read_status(
         return;
     };
     let got = read_full(input, bytes);
-    match status_row::reader::read(&bytes[..got], n, s, row) {
+    let v = Volume { chunks: n, size: s };
+    match status_row::reader::read(&bytes[..got], v, row) {
         Ok(()) => give(rt, errors, row.len(), row),
         Err(why) => say_refused(errors, why.number()),
     }
