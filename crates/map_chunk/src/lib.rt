@@ -2,14 +2,14 @@
 // specs/Chunk.antt gives.
 #![tactic(auto)]
 
-ghost use Rattle.std.specs.Prelude.{◌≡◌, ◌<◌, ◌^◌, eqb, get_or, set};
-ghost use Rattle.rules_base.specs.Chunk.{byte_of, dirty, chunk_marked, cleared, marked_for, count};
+ghost use Rattle.std.specs.Prelude.{◌≡◌, ◌%◌, eqb, get_or, set, true, false, MatchOption};
+ghost use Rattle.rules_base.specs.Chunk.{there, byte_of, dirty, chunk_marked, cleared, marked_for, count};
 
 // The byte at i, and 0 past the end.
 pub fn get(map: &[u8], i: usize) -> u8
     ensures { result ≡ get_or map.now i 0 }
 {
-    if i < map.len() { map[i] } else { 0 }
+    map.get(i).copied().unwrap_or(0)
 }
 
 // Stores v at i, and nothing past the end.
@@ -21,80 +21,59 @@ fn put(map: &mut [u8], i: usize, v: u8)
     }
 }
 
-fn power(k: u64) -> u8
-    requires { k < 8 }
-    ensures { result ≡ 2 ^ k }
+// The byte of member m's chunk c, and the bit's place in it; None where there is no such bit.
+#[tactic(auto, unfolding(rules_base::specs::Chunk::byte_of))]
+fn place(m: u64, c: u64) -> Option<(usize, u64)>
+    ensures { MatchOption result (there m c ≡ false) (λ p. (there m c ≡ true) × (p ≡ (byte_of m c, c % 8))) }
 {
-    1u8 << k
-}
-
-fn byte_of(m: u64, c: u64) -> usize
-    requires { (m < 16) × (c < 4096) }
-    ensures { result ≡ byte_of m c }
-{
-    512 * (m as usize) + (c as usize) / 8
-}
-
-// Member m's bit of chunk c.
-fn dirty_bit(map: &[u8], m: u64, c: u64) -> u8
-    ensures { result ≡ dirty map.now m c }
-{
-    if 15 < m {
-        return 0;
+    if 15 < m || 4095 < c {
+        return None;
     }
-    if 4095 < c {
-        return 0;
-    }
-    (get(map, byte_of(m, c)) >> (c % 8)) % 2
+    Some((512 * (m as usize) + (c as usize) / 8, c % 8))
 }
 
 // Whether chunk c is dirty for member m.
+#[tactic(auto, unfolding(rules_base::specs::Chunk::dirty, laws_words::specs::Words::bit))]
 pub fn test(map: &[u8], m: u64, c: u64) -> bool
     ensures { result ≡ eqb (dirty map.now m c) 1 }
 {
-    dirty_bit(map, m, c) == 1
+    match place(m, c) {
+        Some((i, bit)) => (get(map, i) >> bit) % 2 == 1,
+        None => false,
+    }
 }
 
 // Marks chunk c for member m.
+#[tactic(auto, unfolding(rules_base::specs::Chunk::chunk_marked))]
 pub fn mark(map: &mut [u8], m: u64, c: u64)
     ensures { map.new ≡ chunk_marked map.old m c }
 {
-    if 15 < m {
-        return;
+    if let Some((i, bit)) = place(m, c) {
+        let v = get(map, i) | 1 << bit;
+        put(map, i, v);
     }
-    if 4095 < c {
-        return;
-    }
-    let i = byte_of(m, c);
-    let v = get(map, i) | power(c % 8);
-    put(map, i, v);
 }
 
 // Clears chunk c for member m.
+#[tactic(auto, unfolding(rules_base::specs::Chunk::cleared))]
 pub fn clear(map: &mut [u8], m: u64, c: u64)
     ensures { map.new ≡ cleared map.old m c }
 {
-    if 15 < m {
-        return;
+    if let Some((i, bit)) = place(m, c) {
+        let v = get(map, i) & !(1 << bit);
+        put(map, i, v);
     }
-    if 4095 < c {
-        return;
-    }
-    let i = byte_of(m, c);
-    let v = get(map, i) & !power(c % 8);
-    put(map, i, v);
 }
 
 // Marks chunk c for each member of the set.
+#[tactic(auto, unfolding(rules_base::specs::Chunk::marked_for, rules_base::specs::Chunk::each))]
 pub fn mark_for(map: &mut [u8], set: u64, c: u64)
     ensures { map.new ≡ marked_for map.old set c }
 {
-    let mut m: u64 = 0;
-    while m < 16 {
+    for m in 0..16 {
         if map_numbers::sets::has(set, m) {
             mark(map, m, c);
         }
-        m += 1;
     }
 }
 
@@ -107,16 +86,8 @@ pub fn count_row(map: &[u8], m: u64) -> u64
     }
     let row = 512 * (m as usize);
     let mut got: u64 = 0;
-    let mut i: usize = 0;
-    while i < 512 {
-        got += wide(u8::count_ones(get(map, row + i)));
-        i += 1;
+    for i in 0..512 {
+        got += u64::from(get(map, row + i).count_ones());
     }
     got
-}
-
-fn wide(x: u32) -> u64
-    ensures { result ≡ x }
-{
-    x as u64
 }

@@ -1,10 +1,9 @@
 // Member ids and sets of them. Every function takes any number.
-ghost use Rattle.std.specs.Prelude.{◌≡◌, ◌<◌, ◌≤◌, ◌^◌};
+ghost use Rattle.std.specs.Prelude.{◌≡◌, ◌≤◌};
 ghost use Rattle.rules_base.specs.Sets.{has, with, without, size, lowest};
 
-use crate::numbers::one;
-
 // Whether the id is in the set.
+#[tactic(auto, unfolding(rules_base::specs::Sets::has, laws_words::specs::Words::bit))]
 pub fn has(set: u64, id: u64) -> bool
     ensures { result ≡ has set id }
 {
@@ -15,56 +14,49 @@ pub fn has(set: u64, id: u64) -> bool
 }
 
 // The set with the id entered.
+#[tactic(auto, unfolding(rules_base::specs::Sets::with))]
 pub fn with(set: u64, id: u64) -> u64
     ensures { result ≡ with set id }
 {
     if 15 < id {
         return set;
     }
-    set | power(id)
+    set | 1 << id
 }
 
 // The set with the id taken out.
+#[tactic(auto, unfolding(rules_base::specs::Sets::without))]
 pub fn without(set: u64, id: u64) -> u64
     ensures { result ≡ without set id }
 {
     if 15 < id {
         return set;
     }
-    set & !power(id)
-}
-
-fn power(id: u64) -> u64
-    requires { id < 16 }
-    ensures { result ≡ 2 ^ id }
-{
-    1u64 << id
+    set & !(1 << id)
 }
 
 // How many ids the set holds.
+#[tactic(auto, unfolding(rules_base::specs::Sets::size))]
 pub fn size(set: u64) -> u64
     ensures value { result ≡ size set }
     ensures upper_bound { result ≤ 16 }
 {
     let mut n: u64 = 0;
-    let mut i: u64 = 0;
-    while i < 16 {
-        n += one(has(set, i));
-        i += 1;
+    for i in 0..16 {
+        n += u64::from(has(set, i));
     }
     n
 }
 
 // The lowest id of the set, 16 where it holds none.
+#[tactic(auto, unfolding(rules_base::specs::Sets::lowest), using(crate::proofs::Lowest::lowest_found))]
 pub fn lowest(set: u64) -> u64
     ensures { result ≡ lowest set }
 {
-    let mut low: u64 = 16;
-    let mut i: u64 = 0;
-    while i < 16 {
-        let here = has(set, i);
-        low = crate::numbers::choose(here & (low == 16), i, low);
-        i += 1;
+    for i in 0..16 {
+        if has(set, i) {
+            return i;
+        }
     }
-    low
+    16
 }

@@ -1,10 +1,15 @@
 -- A store's version and its replaced-disk flag. Older stores keep one 64-bit word: the version in the low 63 bits, the flag in the top bit. New stores keep a record of two
 -- words: the version, then 0 or 1.
-use Rattle.std.specs.Prelude.{Bool, ◌&&◌, ℕ, ◌+◌, ◌*◌, ◌/◌, ◌%◌, ◌^◌, eqb, leb, ltb}
+use Rattle.std.specs.Prelude.{Bool, ◌&&◌, ℕ, ◌+◌, ◌*◌, ◌/◌, ◌%◌, ◌^◌, leb, ltb, Result, Ok, Err}
+use Rattle.std.specs.declared.cmp.Ordering.{Ordering}
+use Rattle.std.specs.Ordering.{nat_cmp}
 use Rattle.laws_words.specs.Words.{pick}
 use Rattle.map_versions.specs.declared.VersionRecord.{VersionRecord}
-use Rattle.map_versions.specs.declared.Answer.{Answer}
-use Rattle.map_versions.specs.declared.Order.{Order}
+use Rattle.map_versions.specs.declared.VersionError.{VersionError}
+
+-- the number with which it is refused
+abbrev pub number : VersionError → ℕ
+number VersionError.BadRecord = 21
 
 -- the new record of an old word
 abbrev pub record_of : ℕ → VersionRecord
@@ -14,17 +19,17 @@ record_of w = record { version = w % 2 ^ 63; flag = w / 2 ^ 63 }
 abbrev pub good : VersionRecord → Bool
 good r = ltb r.version (2 ^ 63) && leb r.flag 1
 
--- the old word of a new record; one that is not good is refused with 21
-abbrev pub word_of : VersionRecord → Answer
-word_of r = pick (good r) (Answer.Word (r.version + 2 ^ 63 * r.flag)) (Answer.Refused 21)
+-- the old word of a new record; one that is not good is refused
+abbrev pub word_of : VersionRecord → Result ℕ VersionError
+word_of r = pick (good r) (Ok (r.version + 2 ^ 63 * r.flag)) (Err VersionError.BadRecord)
 
 -- how two versions compare
-abbrev pub compare : ℕ → ℕ → Order
-compare a b = pick (ltb a b) Order.Less (pick (eqb a b) Order.Same Order.More)
+abbrev pub compare : ℕ → ℕ → Ordering
+compare = nat_cmp
 
 -- ordering looks at the version alone, in either form
-abbrev pub compare_words : ℕ → ℕ → Order
+abbrev pub compare_words : ℕ → ℕ → Ordering
 compare_words v w = compare (v % 2 ^ 63) (w % 2 ^ 63)
 
-abbrev pub compare_records : VersionRecord → VersionRecord → Order
+abbrev pub compare_records : VersionRecord → VersionRecord → Ordering
 compare_records r s = compare r.version s.version

@@ -3,34 +3,37 @@
 #![tactic(auto)]
 
 ghost use Rattle.std.specs.Prelude.{◌≡◌};
-ghost use Rattle.map_versions.specs.Versions.{record_of, word_of, compare, compare_words, compare_records};
+ghost use Rattle.map_versions.specs.Versions.{number, record_of, word_of, compare_words, compare_records};
 
-// The new form. Any two numbers can be read from a store: flag is to be 0 or 1, version below 2^63.
-#[derive(Clone, Copy)]
+use std::cmp::Ordering;
+
+// The new form. Any two numbers can be read from a store: flag is to be 0 or 1, version below 2^63. It has no order of its own: compare_records says Equal of two records
+// that differ in the flag.
+#[derive(Clone, Copy, Debug, PartialEq, Eq)]
 pub struct VersionRecord {
     pub version: u64,
     pub flag: u64,
 }
 
-// The old form of a record, or the number of its refusal.
-#[derive(Clone, Copy)]
-pub enum Answer {
-    Word(u64),
-    Refused(u64),
+// Why a record has no old form.
+#[derive(Clone, Copy, Debug, PartialEq, Eq)]
+pub enum VersionError {
+    BadRecord,
 }
 
-#[derive(Clone, Copy)]
-pub enum Order {
-    Less,
-    Same,
-    More,
+impl VersionError {
+    // The number with which it is refused.
+    pub fn number(self) -> u64
+        ensures { result ≡ number self }
+    {
+        match self {
+            VersionError::BadRecord => 21,
+        }
+    }
 }
 
 // The weight of the top bit, 2^63: a version is below it.
 const TOP: u64 = 9223372036854775808;
-
-// The number with which a record that is not good is refused.
-const BAD_RECORD: u64 = 21;
 
 // The new record of an old word.
 pub fn record_of(word: u64) -> VersionRecord
@@ -42,41 +45,44 @@ pub fn record_of(word: u64) -> VersionRecord
     }
 }
 
-// The old word of a new record.
-pub fn word_of(r: VersionRecord) -> Answer
-    ensures { result ≡ word_of r }
-{
-    if TOP <= r.version {
-        return Answer::Refused(BAD_RECORD);
+impl From<u64> for VersionRecord {
+    ghost from_gives = { λ w r. r ≡ record_of w };
+
+    fn from(word: u64) -> VersionRecord {
+        record_of(word)
     }
-    if 1 < r.flag {
-        return Answer::Refused(BAD_RECORD);
-    }
-    Answer::Word(r.version + TOP * r.flag)
 }
 
-fn compare(a: u64, b: u64) -> Order
-    ensures { result ≡ compare a b }
+// The old word of a new record.
+pub fn word_of(r: VersionRecord) -> Result<u64, VersionError>
+    ensures { result ≡ word_of r }
 {
-    if a < b {
-        return Order::Less;
+    if TOP <= r.version || 1 < r.flag {
+        return Err(VersionError::BadRecord);
     }
-    if a == b {
-        return Order::Same;
+    Ok(r.version + TOP * r.flag)
+}
+
+impl TryFrom<VersionRecord> for u64 {
+    type Error = VersionError;
+
+    ghost try_from_gives = { λ r a. a ≡ word_of r };
+
+    fn try_from(r: VersionRecord) -> Result<u64, VersionError> {
+        word_of(r)
     }
-    Order::More
 }
 
 // How two old words compare.
-pub fn compare_words(v: u64, w: u64) -> Order
+pub fn compare_words(v: u64, w: u64) -> Ordering
     ensures { result ≡ compare_words v w }
 {
-    compare(v % TOP, w % TOP)
+    (v % TOP).cmp(&(w % TOP))
 }
 
 // How two new records compare.
-pub fn compare_records(r: VersionRecord, s: VersionRecord) -> Order
+pub fn compare_records(r: VersionRecord, s: VersionRecord) -> Ordering
     ensures { result ≡ compare_records r s }
 {
-    compare(r.version, s.version)
+    r.version.cmp(&s.version)
 }

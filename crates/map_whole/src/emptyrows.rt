@@ -10,16 +10,15 @@ pub fn is_empty(map: &[u8], m: u64) -> bool
 }
 
 // The ids whose row is not empty.
+#[tactic(auto, unfolding(rules_base::specs::Empty::full_to))]
 pub fn full_ids(map: &[u8]) -> u64
     ensures { result ≡ full_to map.now 16 }
 {
     let mut ids: u64 = 0;
-    let mut m: u64 = 0;
-    while m < 16 {
-        let empty = is_empty(map, m);
-        let more = map_numbers::sets::with(ids, m);
-        ids = map_numbers::numbers::choose(empty, ids, more);
-        m += 1;
+    for m in 0..16 {
+        if !is_empty(map, m) {
+            ids = map_numbers::sets::with(ids, m);
+        }
     }
     ids
 }

@@ -3,12 +3,11 @@ ghost use Rattle.std.specs.Prelude.{◌≡◌};
 ghost use Rattle.rules_base.specs.Fill.{row_filled};
 
 // Marks every chunk below the chunk count for the member.
+#[tactic(auto, unfolding(rules_base::specs::Fill::row_filled))]
 pub fn fill_row(map: &mut [u8], member: u64, chunks: u64)
     ensures { map.new ≡ row_filled member chunks map.old }
 {
-    let mut c: u64 = 0;
-    while c < chunks {
+    for c in 0..chunks {
         map_chunk::mark(map, member, c);
-        c += 1;
     }
 }

@@ -10,18 +10,7 @@ pub const PART_BYTES: u64 = 1024;
 pub fn is_part(offset: u64, length: u64) -> bool
     ensures { result ≡ is_part offset length }
 {
-    let size = (1 <= length) & (length <= PART_BYTES);
-    size & ends_within(offset, length)
-}
-
-// The sum is not made: it may have no room.
-fn ends_within(offset: u64, length: u64) -> bool
-    ensures { result ≡ leb (offset + length) 8192 }
-{
-    if 8192 < offset {
-        return false;
-    }
-    length <= 8192 - offset
+    1 <= length && length <= PART_BYTES && offset.saturating_add(length) <= 8192
 }
 
 // ORs a part in at the offset, as far as the map goes.
@@ -29,14 +18,9 @@ pub fn or_part(map: &mut [u8], offset: u64, part: &[u8])
     ensures { map.new ≡ or_part offset part.now map.old }
 {
     let a = offset as usize;
-    if map.len() <= a {
-        return;
-    }
-    let end = a + crate::maps::least(part.len(), map.len() - a);
-    let mut i = a;
-    while i < end {
-        map[i] = map[i] | part[i - a];
-        i += 1;
+    // An index: the byte of the map has another than the part's.
+    for i in a..map.len().min(a.saturating_add(part.len())) {
+        map[i] |= part[i - a];
     }
 }
 
@@ -45,10 +29,9 @@ pub fn is_clean(part: &[u8], n: u64, offset: u64) -> bool
     ensures { result ≡ clean_from n offset part.now }
 {
     let mut ok = true;
-    let mut i = part.len();
-    while 0 < i {
-        i -= 1;
-        ok = byte_ok(n, offset, i, part[i]) & ok;
+    // An index: the byte's place in the map is needed.
+    for i in 0..part.len() {
+        ok = ok & byte_ok(n, offset, i, part[i]);
     }
     ok
 }
@@ -58,23 +41,14 @@ fn byte_ok(n: u64, offset: u64, i: usize, x: u8) -> bool
     ensures { result ≡ eqb (spare n (offset + i) x) 0 }
 {
     let place = (offset % 512 + (i as u64) % 512) % 512;
-    wide(x) >> room(n, place) == 0
+    u64::from(x) >> room(n, place) == 0
 }
 
 // Of a row's byte at the place, how many bits stand for chunks below the chunk count.
+#[tactic(auto, unfolding(rules_base::specs::Map::room))]
 fn room(n: u64, place: u64) -> u64
     requires { place < 512 }
     ensures { result ≡ room n place }
 {
-    let low = 8 * place;
-    if n < low {
-        return 0;
-    }
-    if 8 < n - low { 8 } else { n - low }
-}
-
-fn wide(x: u8) -> u64
-    ensures { result ≡ x }
-{
-    x as u64
+    8.min(n.saturating_sub(8 * place))
 }

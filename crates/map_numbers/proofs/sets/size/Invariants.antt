@@ -1,10 +1,7 @@
 use Rattle.rules_base.specs.Sets.{has, count_to}
-use Prim.Native.Nat.{◌-◌, ◌≤◌}
+use Prim.Native.Nat.{◌≤◌}
 use mathlib.Core.Path.{◌≡◌}
 use Rattle.map_numbers.proofs.sets.size.Given as goal
 
 abbrev pub invariant-loop-i : goal.invariant-loop-i
-invariant-loop-i l = (l.i ≤ 16) × (l.n ≡ count_to (has l.set) l.i)
-
-abbrev pub decreases-loop-i : goal.decreases-loop-i
-decreases-loop-i l = 16 - l.i
+invariant-loop-i l = (l.n ≡ count_to (has l.set) l.i) × (l.n ≤ l.i)

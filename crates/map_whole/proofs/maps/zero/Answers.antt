@@ -1,6 +1,6 @@
-use Rattle.rules_base.specs.Map.{zeroed}
+use mathlib.Core.Path.{◌∙◌}
+use Rattle.map_whole.proofs.Pieces.{filled}
 use Rattle.map_whole.proofs.maps.zero.Goals as goal
 
 pub returns : goal.returns
-unfolding zeroed
-returns c = cc
+returns c = c.fill.ensures.after (λ y e. e) ∙ filled _

@@ -1,4 +1,3 @@
-use borrow.Author.Rules.{rules}
 use Rattle.rules_base.proofs.Over.{over_none, over-step, over-end}
 use Rattle.rules_base.specs.Map.{zero_from}
 use lib.ListN.{length-set}
@@ -7,11 +6,11 @@ use mathlib.Core.Path.{refl, sym}
 use Rattle.map_whole.proofs.maps.zero_from.Goals as goal
 
 pub loop-i-init : goal.loop-i-init
-loop-i-init c = (search rules, omega arith, sym (over_none _ _ _), refl)
+loop-i-init c = record { zeroed = sym (over_none _ _ _); most = omega arith; long = refl }
 
 pub loop-i-preserved : goal.loop-i-preserved
-loop-i-preserved c = (search rules, omega arith, over-step _ _ _ _ _ _ _ c.loop-i.invariant.0 c.loop-i.invariant.2 refl refl, simp length-set c.loop-i.invariant.3)
+loop-i-preserved c = record { zeroed = over-step _ _ _ _ _ _ _ (omega arith) c.loop-i.invariant.zeroed refl refl; most = omega arith; long = simp length-set c.loop-i.invariant.long }
 
 pub returns : goal.returns
 unfolding zero_from
-returns c = over-end _ _ _ _ _ _ c.loop-i.invariant.2 c.loop-i.invariant.0 (rw (← c.least-end.ensures) c.loop-i.invariant.1) (rw (← c.least-end.ensures) c.loop-i-test.false)
+returns c = over-end _ _ _ _ _ _ c.loop-i.invariant.zeroed (omega arith) (omega arith) (omega arith)

@@ -11,6 +11,4 @@ unfolding room
 overflow_shr-result c = omega (arith, c.room.ensures)
 
 pub returns : goal.returns
-returns c =
-    let a = c.args in
-    rw (c.wide.ensures, c.room.ensures) (ap (λ (x : ℕ). eqb x 0) (spare-place a.n (a.offset + a.i) _ a.x (omega arith)))
+returns c = let a = c.args in rw (c.from.ensures, c.room.ensures) (ap (λ (x : ℕ). eqb x 0) (spare-place a.n (a.offset + a.i) _ a.x (omega arith)))
