@@ -12,7 +12,7 @@ use Rattle.laws_words.specs.Words.{one}
 use Rattle.laws_words.specs.Tests.{by_cases}
 use Rattle.text_bytes.specs.Ink.{dec_from, decimal, joined}
 use Rattle.text_bytes.proofs.Meaning.{joined_length}
-use Rattle.map_row_view.specs.declared.Count.{Count}
+use Rattle.std.specs.Prelude.{Option, Some, None}
 use Rattle.map_row_view.specs.Row.{row_count}
 use Rattle.lab_say.specs.Row.{range_text, begun_text, ranges, is_dirty, count_text, row_text}
 
@@ -64,9 +64,9 @@ ranges-length d false a (suc n) c h g =
     (λ e. rw (e, joined-two (begun_text false a c) (ranges d false a n (suc c))) (omega (arith, ranges-length d false a n (suc c) h (omega arith))))
 
 -- A row's line is at most 20,490 bytes.
-count-length : (r : Count) (xs : List ℕ) (m : ℕ) → length (count_text r xs m) ≤ 20490
-count-length Count.NoRow xs m = omega arith
-count-length (Count.Of n) xs m =
+count-length : (r : Option ℕ) (xs : List ℕ) (m : ℕ) → length (count_text r xs m) ≤ 20490
+count-length None xs m = omega arith
+count-length (Some n) xs m =
     by_cases (eqb n 0)
     (λ e. rw e (omega arith))
     (λ e. rw (e, joined-two _ _) (omega (arith, ranges-length (is_dirty xs m) false 0 4096 0 (omega arith) (omega arith))))

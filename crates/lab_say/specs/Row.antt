@@ -1,10 +1,9 @@
 -- A member's dirty chunks, as ranges.
-use Rattle.std.specs.Prelude.{ℕ, zero, suc, ◌-◌, Bool, true, false, List, [], ◌∷◌, eqb}
+use Rattle.std.specs.Prelude.{Option, Some, None, ℕ, zero, suc, ◌-◌, Bool, true, false, List, [], ◌∷◌, eqb}
 use Rattle.laws_words.specs.Words.{pick}
 use Rattle.text_bytes.specs.Bytes.{bytes}
 use Rattle.text_bytes.specs.Ink.{decimal, joined}
 use Rattle.rules_base.specs.Chunk.{dirty}
-use Rattle.map_row_view.specs.declared.Count.{Count}
 use Rattle.map_row_view.specs.Row.{row_count}
 
 -- A space, and the chunks from a to b: a where it is alone, else a-b (45 is the dash).
@@ -24,9 +23,9 @@ abbrev pub is_dirty : List ℕ → ℕ → ℕ → Bool
 is_dirty xs m c = eqb (dirty xs m c) 1
 
 -- clean, or dirty and the ranges of member m's dirty chunks, ascending; told apart from a map in which m has no row
-abbrev pub count_text : Count → List ℕ → ℕ → List ℕ
-count_text Count.NoRow xs m = bytes "no row"
-count_text (Count.Of n) xs m = pick (eqb n 0) (bytes "clean") (joined (bytes "dirty" ∷ ranges (is_dirty xs m) false 0 4096 0 ∷ []))
+abbrev pub count_text : Option ℕ → List ℕ → ℕ → List ℕ
+count_text None xs m = bytes "no row"
+count_text (Some n) xs m = pick (eqb n 0) (bytes "clean") (joined (bytes "dirty" ∷ ranges (is_dirty xs m) false 0 4096 0 ∷ []))
 
 unfoldable pub row_text : List ℕ → ℕ → List ℕ
 row_text xs m = count_text (row_count xs m) xs m

@@ -3,8 +3,6 @@ ghost use Rattle.std.specs.Prelude.{◌≡◌, false, ◌∷◌};
 ghost use Rattle.text_bytes.specs.Ink.{ink, emits, decimal as Ink·decimal};
 ghost use Rattle.lab_say.specs.Row.{range_text, begun_text, ranges, is_dirty, row_text};
 
-use map_row_view::Count;
-
 // A byte and a number.
 fn put_sign(out: &mut [u8], at: usize, sign: u8, n: u64) -> usize
     ensures { ink out.new result ≡ emits (ink out.old at) (sign ∷ Ink·decimal n) }
@@ -59,7 +57,7 @@ fn put_ranges(out: &mut [u8], at: usize, map: &[u8], m: u64) -> usize
 pub fn put_row(out: &mut [u8], at: usize, map: &[u8], m: u64) -> usize
     ensures { ink out.new result ≡ emits (ink out.old at) (row_text map.now m) }
 {
-    let Count::Of(n) = map_row_view::row_count(map, m) else {
+    let Some(n) = map_row_view::row_count(map, m) else {
         return text_bytes::put_bytes(out, at, b"no row");
     };
     if n == 0 {

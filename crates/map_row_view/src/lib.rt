@@ -11,54 +11,6 @@ pub struct Row<'a> {
     pub bytes: &'a [u8],
 }
 
-#[derive(Clone, Copy)]
-pub enum Step {
-    Byte(u8),
-    End,
-}
-
-// The three answers of one member's row of a map, or that there is no such row.
-#[derive(Clone, Copy)]
-pub enum Count {
-    NoRow,
-    Of(u64),
-}
-
-#[derive(Clone, Copy)]
-pub enum Bit {
-    NoRow,
-    Of(bool),
-}
-
-#[derive(Clone, Copy)]
-pub enum Ahead {
-    NoRow,
-    Of(Step),
-}
-
-// ---- the work, on the row's bytes
-fn bit_of(bytes: &[u8], c: u64) -> bool
-    ensures { result ≡ eqb (dirty bytes.now 0 c) 1 }
-{
-    map_chunk::test(bytes, 0, c)
-}
-
-fn ones(bytes: &[u8]) -> u64
-    ensures { result ≡ count bytes.now 0 }
-{
-    map_chunk::count_row(bytes, 0)
-}
-
-fn step_at(bytes: &[u8], at: usize) -> Step
-    ensures { result ≡ step_at bytes.now at }
-{
-    if at < bytes.len() {
-        Step::Byte(bytes[at])
-    } else {
-        Step::End
-    }
-}
-
 // ---- the view
 pub fn view<'a>(bytes: &'a [u8]) -> Row<'a>
     ensures { result.bytes ≡ bytes.entry }
@@ -70,69 +22,57 @@ pub fn view<'a>(bytes: &'a [u8]) -> Row<'a>
 pub fn counted<'a>(r: Row<'a>) -> u64
     ensures { result ≡ count r.entry.bytes.now 0 }
 {
-    ones(r.bytes)
+    map_chunk::count_row(r.bytes, 0)
 }
 
 // Whether chunk c of the row is dirty.
 pub fn is_dirty<'a>(r: Row<'a>, c: u64) -> bool
     ensures { result ≡ eqb (dirty r.entry.bytes.now 0 c) 1 }
 {
-    bit_of(r.bytes, c)
+    map_chunk::test(r.bytes, 0, c)
 }
 
 // The row's byte at a place, or its end.
-pub fn next<'a>(r: Row<'a>, at: usize) -> Step
+pub fn next<'a>(r: Row<'a>, at: usize) -> Option<u8>
     ensures { result ≡ step_at r.entry.bytes.now at }
 {
-    step_at(r.bytes, at)
-}
-
-// ---- from a plain slice to a view and its answer
-fn count_view(bytes: &[u8]) -> u64
-    ensures { result ≡ count bytes.now 0 }
-{
-    counted(view(bytes))
-}
-
-fn dirty_view(bytes: &[u8], c: u64) -> bool
-    ensures { result ≡ eqb (dirty bytes.now 0 c) 1 }
-{
-    is_dirty(view(bytes), c)
-}
-
-fn next_view(bytes: &[u8], at: usize) -> Step
-    ensures { result ≡ step_at bytes.now at }
-{
-    next(view(bytes), at)
+    r.bytes.get(at).copied()
 }
 
 // ---- one member's row of a whole map; there is none where the map is of another length or the id above 15, which is told apart from a clean row
-pub fn row_count(map: &[u8], m: u64) -> Count
+#[tactic(auto, unfolding(crate::specs::Row::row_count))]
+pub fn row_count(map: &[u8], m: u64) -> Option<u64>
     ensures { result ≡ row_count map.now m }
 {
     let row = map_whole::maps::row(map, m);
     if row.len() == 512 {
-        return Count::Of(count_view(row));
+        Some(counted(view(row)))
+    } else {
+        None
     }
-    Count::NoRow
 }
 
-pub fn row_is_dirty(map: &[u8], m: u64, c: u64) -> Bit
+#[tactic(auto, unfolding(crate::specs::Row::row_bit))]
+pub fn row_is_dirty(map: &[u8], m: u64, c: u64) -> Option<bool>
     ensures { result ≡ row_bit map.now m c }
 {
     let row = map_whole::maps::row(map, m);
     if row.len() == 512 {
-        return Bit::Of(dirty_view(row, c));
+        Some(is_dirty(view(row), c))
+    } else {
+        None
     }
-    Bit::NoRow
 }
 
-pub fn row_next(map: &[u8], m: u64, at: usize) -> Ahead
+// What stands at a place of it. The outer None says that there is no such row, the inner one that the row ends before.
+#[tactic(auto, unfolding(crate::specs::Row::row_next))]
+pub fn row_next(map: &[u8], m: u64, at: usize) -> Option<Option<u8>>
     ensures { result ≡ row_next map.now m at }
 {
     let row = map_whole::maps::row(map, m);
     if row.len() == 512 {
-        return Ahead::Of(next_view(row, at));
+        Some(next(view(row), at))
+    } else {
+        None
     }
-    Ahead::NoRow
 }

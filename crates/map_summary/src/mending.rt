@@ -16,6 +16,7 @@ fn bit_put(k: u64, on: bool, w: u64) -> u64
 }
 
 // Bit b of all words set or cleared.
+#[tactic(auto, unfolding(rules_base::specs::Mend::put))]
 fn put(words: &mut Summaries, b: u64, on: bool)
     requires { b < 6144 }
     ensures { words.new ≡ put b on words.old }
@@ -30,10 +31,8 @@ fn below(words: &Summaries, map: &[u8], m: u64, level: u64, i: u64) -> bool
     ensures { result ≡ some (lit words.now map.now m (level - 1)) (16 * i) 16 }
 {
     let mut got = false;
-    let mut k: u64 = 0;
-    while k < 16 {
-        got = got | crate::summaries::lit(words, map, m, level - 1, 16 * i + k);
-        k += 1;
+    for k in 0..16 {
+        got |= crate::summaries::lit(words, map, m, level - 1, 16 * i + k);
     }
     got
 }
@@ -66,11 +65,9 @@ pub fn mend(words: &mut Summaries, map: &[u8], m: u64, c: u64)
 pub fn mend_for(words: &mut Summaries, map: &[u8], set: u64, c: u64)
     ensures { words.new ≡ mended_for map.now set c words.old }
 {
-    let mut m: u64 = 0;
-    while m < 16 {
+    for m in 0..16 {
         if map_numbers::sets::has(set, m) {
             mend(words, map, m, c);
         }
-        m += 1;
     }
 }

@@ -43,27 +43,24 @@ fn search(words: &Summaries, map: &[u8], m: u64, start: u64, level: u64, i: u64)
         };
     }
     let mut looked: u64 = 1;
-    let mut k: u64 = 0;
-    while k < 16 {
+    for k in 0..16 {
         let below = search(words, map, m, start, level - 1, 16 * i + k);
         looked += below.looked;
-        let found = below.found;
-        match found {
-            Some(c) => return Sought {
+        if let Some(c) = below.found {
+            return Sought {
                 found: Some(c),
-                looked: looked,
-            },
-            None => {}
+                looked,
+            };
         }
-        k += 1;
     }
     Sought {
         found: None,
-        looked: looked,
+        looked,
     }
 }
 
 // The first dirty chunk of member m's row at or after the start, and at how many places was looked for it.
+#[tactic(auto, unfolding(rules_base::specs::Search::row_searched))]
 pub fn search_row(words: &Summaries, map: &[u8], m: u64, start: u64) -> Sought
     ensures { result ≡ row_searched words.now map.now m start }
 {

@@ -15,9 +15,10 @@ fn pair(map: &[u8], within: bool, a: usize) -> u8
     ensures { result ≡ bit_or (get_or map.now a 0) (get_or map.now (a + 1) 0) }
 {
     if within {
-        return map[a] | map[a + 1];
+        map[a] | map[a + 1]
+    } else {
+        map_chunk::get(map, a) | map_chunk::get(map, a + 1)
     }
-    map_chunk::get(map, a) | map_chunk::get(map, a + 1)
 }
 
 // Word k of member m's groups: 64 of them, two bytes of the row each. This alone reads the map.
@@ -29,13 +30,11 @@ fn groups(map: &[u8], m: u64, k: u64) -> u64
     let within = from + 128 <= map.len();
     let mut got: u64 = 0;
     let mut digit: u64 = 1;
-    let mut i: usize = 0;
-    while i < 64 {
+    for i in 0..64 {
         if pair(map, within, from + 2 * i) != 0 {
-            got = got | digit;
+            got |= digit;
         }
-        digit = digit << 1;
-        i += 1;
+        digit <<= 1;
     }
     got
 }
@@ -46,12 +45,10 @@ fn over(words: &Summaries, m: u64) -> u64
     ensures { result ≡ bits (λ i. some (is_set words.now) (384 * m + 16 * i) 16) 16 }
 {
     let mut got: u64 = 0;
-    let mut i: u64 = 0;
-    while i < 16 {
+    for i in 0..16 {
         if (words[(6 * m + i / 4) as usize] >> (16 * (i % 4))) % 65536 != 0 {
-            got = got | (1u64 << i);
+            got |= 1u64 << i;
         }
-        i += 1;
     }
     got
 }
@@ -78,10 +75,8 @@ pub fn of_map(map: &[u8]) -> Summaries
     ensures { result ≡ summaries_of map.now }
 {
     let mut words = [0u64; 96];
-    let mut j: usize = 0;
-    while j < 96 {
+    for j in 0..96 {
         words[j] = word_at(&words, map, j as u64);
-        j += 1;
     }
     words
 }
@@ -90,14 +85,7 @@ pub fn of_map(map: &[u8]) -> Summaries
 pub fn agree(words: Summaries, map: &[u8]) -> bool
     ensures { result ≡ agree words map.now }
 {
-    let own = of_map(map);
-    let mut same = true;
-    let mut j: usize = 0;
-    while j < 96 {
-        same = same & (words[j] == own[j]);
-        j += 1;
-    }
-    same
+    words == of_map(map)
 }
 
 // ---- where a place's bit is
@@ -105,6 +93,7 @@ const BASES: [u64; 4] = [0, 0, 256, 320];
 
 const SIZES: [u64; 4] = [4096, 256, 16, 1];
 
+// No match on the level: the definitions are such tables, and one look-up proves both.
 fn entry(table: [u64; 4], level: u64) -> u64
     ensures { result ≡ get_or table level 0 }
 {
@@ -112,6 +101,7 @@ fn entry(table: [u64; 4], level: u64) -> u64
 }
 
 // The bit of a row's 384 at which a level starts.
+#[tactic(auto, unfolding(rules_base::specs::Summary::base))]
 pub fn base(level: u64) -> u64
     ensures { result ≡ base level }
 {
@@ -119,6 +109,7 @@ pub fn base(level: u64) -> u64
 }
 
 // How many places a level has.
+#[tactic(auto, unfolding(rules_base::specs::Summary::size))]
 pub fn size(level: u64) -> u64
     ensures { result ≡ size level }
 {
@@ -126,13 +117,15 @@ pub fn size(level: u64) -> u64
 }
 
 // Whether member m has a place i of the level.
+#[tactic(auto, unfolding(rules_base::specs::Summary::is_place))]
 pub fn is_place(m: u64, level: u64, i: u64) -> bool
     ensures { result ≡ is_place m level i }
 {
-    (m < 16) & (i < size(level))
+    m < 16 && i < size(level)
 }
 
 // Whether bit b of the words is set.
+#[tactic(auto, unfolding(rules_base::specs::Summary::is_set, laws_words::specs::Words::bit))]
 fn is_set(words: &Summaries, b: u64) -> bool
     requires { b < 6144 }
     ensures { result ≡ is_set words.now b }

@@ -15,4 +15,4 @@ returns-then-n-eq0 c = search rules
 
 pub returns : goal.returns
 unfolding row_text
-returns c = rw (← c.row_count.ensures, c.in-Of.is, ne_eqb _ _ c.if-n-eq0.false) (emits-parts _ _ (emits_then c.put_bytes-to.ensures refl c.put_ranges.ensures))
+returns c = rw (← c.row_count.ensures, c.in-Some.is, ne_eqb _ _ c.if-n-eq0.false) (emits-parts _ _ (emits_then c.put_bytes-to.ensures refl c.put_ranges.ensures))

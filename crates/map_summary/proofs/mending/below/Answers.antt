@@ -1,10 +1,9 @@
 use Rattle.rules_base.proofs.Some.{some-start, some_more}
 use mathlib.Core.Path.{sym}
-use borrow.Author.Rules.{rules}
 use Rattle.map_summary.proofs.mending.below.Goals as goal
 
 pub loop-k-init : goal.loop-k-init
-loop-k-init c = (search rules, sym (some-start _ _))
+loop-k-init c = sym (some-start _ _)
 
 pub loop-k-preserved : goal.loop-k-preserved
-loop-k-preserved c = (search rules, rw (some_more, ← c.loop-k.invariant.1, c.lit-got.ensures))
+loop-k-preserved c = rw (some_more, ← c.loop-k.invariant, c.lit-got.ensures)

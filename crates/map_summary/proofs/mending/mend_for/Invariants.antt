@@ -1,4 +1,3 @@
-use Prim.Native.Nat.{◌-◌, ◌≤◌}
 use Rattle.rules_base.specs.Sets.{has}
 use Rattle.rules_base.specs.Chunk.{each}
 use Rattle.rules_base.specs.Mend.{mended}
@@ -6,7 +5,4 @@ use mathlib.Core.Path.{◌≡◌}
 use Rattle.map_summary.proofs.mending.mend_for.Given as goal
 
 abbrev pub invariant-loop-m : goal.invariant-loop-m
-invariant-loop-m l = (l.m ≤ 16) × (l.words ≡ each (has l.set) (λ k ws. mended l.map k l.c ws) l.m l.initial.words)
-
-abbrev pub decreases-loop-m : goal.decreases-loop-m
-decreases-loop-m l = 16 - l.m
+invariant-loop-m l = l.words ≡ each (has l.set) (λ k ws. mended l.map k l.c ws) l.m l.initial.words

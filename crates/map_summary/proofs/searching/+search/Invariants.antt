@@ -7,7 +7,4 @@ decreases-search l = l.level
 
 abbrev pub invariant-loop-k : goal.invariant-loop-k
 invariant-loop-k l =
-    (l.k ≤ 16) × ((l.looked ≤ 1 + 4913 * l.k) × (plus l.looked (among (searched l.words l.map l.m l.start (l.level - 1)) (16 * l.i + l.k) (16 - l.k)) ≡ searched l.words l.map l.m l.start l.level l.i))
-
-abbrev pub decreases-loop-k : goal.decreases-loop-k
-decreases-loop-k l = 16 - l.k
+    (l.looked ≤ 1 + 4913 * l.k) × (plus l.looked (among (searched l.words l.map l.m l.start (l.level - 1)) (16 * l.i + l.k) (16 - l.k)) ≡ searched l.words l.map l.m l.start l.level l.i)

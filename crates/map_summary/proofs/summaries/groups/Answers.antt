@@ -12,7 +12,7 @@ use Rattle.map_summary.proofs.summaries.groups.Goals as goal
 use Rattle.map_summary.proofs.summaries.groups.Goals.{then-pair-ne0, else-pair-ne0}
 
 pub loop-i-init : goal.loop-i-init
-loop-i-init c = (search rules, (λ h. refl, sym (bits-start _)))
+loop-i-init c = (λ h. refl, sym (bits-start _))
 
 pub loop-i-preserved : goal.loop-i-preserved
 loop-i-preserved c =
@@ -20,16 +20,13 @@ loop-i-preserved c =
     let k = c.loop-i in
     let t : ℕ → Bool = λ j. under s.map.now s.m 1 (64 * s.k + j) in
     let e : not (eqb c.pair.result 0) ≡ t k.i = group-dirty s.map.now s.m s.k k.i c.pair.result (search rules) (search rules) (search rules) (search rules) c.pair.ensures in (
-      search rules,
-      (
-        digit-next k.i k.digit k.invariant.1.0,
-        elim c.if-pair-ne0.branch [
-          | then-pair-ne0 w ↦ bits_in t k.i k.got c.if-pair-ne0.got (sym e ∙ ap not (ne_eqb _ 0 w.if-pair-ne0.true)) k.invariant.1.1 (rw (← k.invariant.1.0 (search rules)) w.got-is)
-          | else-pair-ne0 w ↦ w.got-is ∙ bits_out t k.i k.got (sym e ∙ ap not (eq-eqb _ 0 w.if-pair-ne0.false)) k.invariant.1.1
-        ],
-      ),
+      digit-next k.i k.digit k.invariant.0,
+      elim c.if-pair-ne0.branch [
+        | then-pair-ne0 w ↦ bits_in t k.i k.got c.if-pair-ne0.got (sym e ∙ ap not (ne_eqb _ 0 w.if-pair-ne0.true)) k.invariant.1 (rw (← k.invariant.0 (search rules)) w.got-is)
+        | else-pair-ne0 w ↦ w.got-is ∙ bits_out t k.i k.got (sym e ∙ ap not (eq-eqb _ 0 w.if-pair-ne0.false)) k.invariant.1
+      ],
     )
 
 pub returns : goal.returns
 unfolding word
-returns c = let q : c.loop-i.i ≡ 64 = omega arith in rw q at c.loop-i.invariant.1.1
+returns c = let q : c.loop-i.i ≡ 64 = omega arith in rw q at c.loop-i.invariant.1

@@ -1,4 +1,3 @@
-use borrow.Author.Rules.{rules}
 use mathlib.Core.Path.{◌≡◌, sym, ap, ◌∙◌}
 use native.Mathlib.Omega.{arith}
 use Rattle.rules_base.specs.Summary.{some, is_set}
@@ -11,20 +10,18 @@ use Rattle.map_summary.proofs.summaries.over.Goals as goal
 use Rattle.map_summary.proofs.summaries.over.Goals.{then-words-m-ne0, else-words-m-ne0}
 
 pub loop-i-init : goal.loop-i-init
-loop-i-init c = (search rules, sym (bits-start _))
+loop-i-init c = sym (bits-start _)
 
 pub loop-i-preserved : goal.loop-i-preserved
 loop-i-preserved c =
     let s = c.args in
     let k = c.loop-i in
     let t : ℕ → Bool = λ j. some (is_set s.words.now) (384 * s.m + 16 * j) 16 in
-    let e = sixteen-set s.words.now s.m k.i in (
-      search rules,
-      elim c.if-words-m-ne0.branch [
-        | then-words-m-ne0 w ↦ bits_in t k.i k.got c.if-words-m-ne0.got (sym e ∙ ap not (ne_eqb _ 0 w.if-words-m-ne0.true)) k.invariant.1 (rw (← shl_one k.i (omega arith)) w.got-is)
-        | else-words-m-ne0 w ↦ w.got-is ∙ bits_out t k.i k.got (sym e ∙ ap not (eq-eqb _ 0 w.if-words-m-ne0.false)) k.invariant.1
-      ],
-    )
+    let e = sixteen-set s.words.now s.m k.i in
+    elim c.if-words-m-ne0.branch [
+      | then-words-m-ne0 w ↦ bits_in t k.i k.got c.if-words-m-ne0.got (sym e ∙ ap not (ne_eqb _ 0 w.if-words-m-ne0.true)) k.invariant (rw (← shl_one k.i (omega arith)) w.got-is)
+      | else-words-m-ne0 w ↦ w.got-is ∙ bits_out t k.i k.got (sym e ∙ ap not (eq-eqb _ 0 w.if-words-m-ne0.false)) k.invariant
+    ]
 
 pub returns : goal.returns
-returns c = let q : c.loop-i.i ≡ 16 = omega arith in rw q at c.loop-i.invariant.1
+returns c = let q : c.loop-i.i ≡ 16 = omega arith in rw q at c.loop-i.invariant
