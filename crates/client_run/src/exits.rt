@@ -1,7 +1,9 @@
 // How every client event ends.
 ghost use Rattle.std.specs.Prelude.{◌≡◌};
-ghost use Rattle.rules_pool.specs.Exit.{refused, number_of, accepted, changed, tried_with, tried_after, halted_if};
+ghost use Rattle.rules_pool.specs.Exit.{refused, accepted, changed, tried_with, tried_after, halted_if};
 
+use client_state::state::is_nothing;
+use map_numbers::numbers::pick;
 use rules_pool::{Answer, Effect, Message, Outcome, Pool, Roster, Sent, Told, Turn};
 
 pub fn refuse(p: Pool, n: u64) -> Turn
@@ -11,16 +13,6 @@ pub fn refuse(p: Pool, n: u64) -> Turn
         answer: Answer::Refused(n),
         pool: p,
         effect: Effect::Keep,
-    }
-}
-
-fn number_of(m: Message, n: u32) -> u32
-    ensures { result ≡ number_of m n }
-{
-    if client_state::state::is_nothing(m) {
-        0
-    } else {
-        n
     }
 }
 
@@ -35,17 +27,16 @@ pub fn accept(
 ) -> Turn
     ensures { result ≡ accepted before after outcome told awaited effect }
 {
-    let number = number_of(awaited, after.number);
     let sent = Sent {
-        outcome: outcome,
-        told: told,
-        awaited: awaited,
-        number: number,
+        outcome,
+        told,
+        awaited,
+        number: pick(is_nothing(awaited), 0, after.number),
     };
     Turn {
         answer: Answer::Done(sent),
         pool: after,
-        effect: effect,
+        effect,
     }
 }
 
@@ -69,9 +60,7 @@ pub fn try_with(before: Pool, after: Pool, outcome: Outcome, told: Told, effect:
     ensures { result ≡ tried_with before after outcome told effect }
 {
     let tried = crate::recovery::try_recovery(after);
-    let next = tried.pool;
-    let awaited = tried.awaited;
-    accept(before, next, outcome, told, awaited, effect)
+    accept(before, tried.pool, outcome, told, tried.awaited, effect)
 }
 
 // One that does nothing to the client map.
@@ -86,7 +75,8 @@ pub fn halt_if(lost: bool, p: Pool) -> Pool
     ensures { result ≡ halted_if lost p }
 {
     if lost {
-        return crate::recovery::end_removal(p);
+        crate::recovery::end_removal(p)
+    } else {
+        p
     }
-    p
 }

@@ -2,52 +2,63 @@
 pub mod still;
 
 ghost use Rattle.std.specs.Prelude.{◌≡◌};
-ghost use Rattle.rules_pool.specs.Run.{counted, go, ahead, receiver, to_spread, to_gather, to_last, to_base, to_versions, went_on, became_normal, ended, passed_over, failed_answer, version_brought, base_next, gather_next, spread_good, good, takes, step_message, awaited_in};
+ghost use Rattle.rules_pool.specs.Run.{hand, rest, counted, go, ahead, receiver, to_spread, to_gather, to_last, to_base, to_versions, went_on, became_normal, failed_answer, version_brought, good, takes, step_message, awaited_in};
 
+use map_numbers::refusals::ANSWER_LIMIT;
+use map_numbers::sets::{lowest, without};
 use rules_pool::{Message, Move, Phase, Reply, Run, Step};
+
+// Whose turn it is.
+fn hand(r: Run) -> u64
+    ensures { result ≡ hand r }
+{
+    lowest(r.left)
+}
+
+// Those that come after it.
+fn rest(r: Run) -> u64
+    ensures { result ≡ rest r }
+{
+    without(r.left, hand(r))
+}
 
 fn counted(taken: u64) -> u64
     ensures { result ≡ counted taken }
 {
-    if taken < map_numbers::refusals::ANSWER_LIMIT {
+    if taken < ANSWER_LIMIT {
         taken + 1
     } else {
         taken
     }
 }
 
-fn go(r: Run, p: Phase, source: u64, left: u64) -> Option<Run>
-    ensures { result ≡ go r p source left }
+fn go(r: Run, phase: Phase, source: u64, left: u64) -> Option<Run>
+    ensures { result ≡ go r phase source left }
 {
-    let taken = counted(r.taken);
     Some(Run {
-        phase: p,
-        source: source,
-        left: left,
-        taken: taken,
+        phase,
+        source,
+        left,
+        taken: counted(r.taken),
     })
 }
 
 // The next message of the spread in hand.
-fn ahead(r: Run, p: Phase) -> Option<Run>
-    ensures { result ≡ ahead r p }
+fn ahead(r: Run, phase: Phase) -> Option<Run>
+    ensures { result ≡ ahead r phase }
 {
-    go(r, p, r.source, r.left)
+    go(r, phase, r.source, r.left)
 }
 
 // The receiver in hand, who has MAP_READY and has not answered its MAP_DONE.
+#[tactic(auto, unfolding(rules_pool::specs::Run::receiver))]
 pub fn receiver(r: Run) -> Option<u64>
     ensures { result ≡ receiver r }
 {
-    let x = map_numbers::sets::lowest(r.left);
-    let p = r.phase;
-    match p {
-        Phase::Versions(best) => None,
-        Phase::Base(s) => Some(x),
-        Phase::LastIo => None,
-        Phase::Gather(s) => Some(r.source),
-        Phase::Enable(every) => None,
-        Phase::Spread(s) => Some(x),
+    match r.phase {
+        Phase::Base(_) | Phase::Spread(_) => Some(hand(r)),
+        Phase::Gather(_) => Some(r.source),
+        Phase::Versions(_) | Phase::LastIo | Phase::Enable(_) => None,
     }
 }
 
@@ -64,8 +75,7 @@ fn to_gather(members: u64, r: Run, source: u64, left: u64) -> Option<Run>
     ensures { result ≡ to_gather members r source left }
 {
     if left == 0 {
-        let others = map_numbers::sets::without(members, source);
-        return go(r, Phase::Enable(true), source, others);
+        return go(r, Phase::Enable(true), source, without(members, source));
     }
     go(r, Phase::Gather(Step::Ready), source, left)
 }
@@ -74,8 +84,7 @@ fn to_last(members: u64, r: Run, source: u64, left: u64) -> Option<Run>
     ensures { result ≡ to_last members r source left }
 {
     if left == 0 {
-        let others = map_numbers::sets::without(members, source);
-        return to_gather(members, r, source, others);
+        return to_gather(members, r, source, without(members, source));
     }
     go(r, Phase::LastIo, source, left)
 }
@@ -93,77 +102,43 @@ fn to_versions(members: u64, r: Run, best: u64, source: u64, left: u64) -> Optio
     ensures { result ≡ to_versions members r best source left }
 {
     if left == 0 {
-        let others = map_numbers::sets::without(members, source);
-        return to_base(members, r, source, others);
+        return to_base(members, r, source, without(members, source));
     }
     go(r, Phase::Versions(best), source, left)
 }
 
-fn went_on(r: Run, n: Option<Run>) -> Move
-    ensures { result ≡ went_on r n }
+fn went_on(r: Run, next: Option<Run>) -> Move
+    ensures { result ≡ went_on r next }
 {
-    let taken = counted(r.taken);
     Move {
-        next: n,
-        taken: taken,
+        next,
+        taken: counted(r.taken),
         normal: None,
         disable: None,
     }
 }
 
-fn became_normal(r: Run, n: Option<Run>, id: u64) -> Move
-    ensures { result ≡ became_normal r n id }
+fn became_normal(r: Run, next: Option<Run>, id: u64) -> Move
+    ensures { result ≡ became_normal r next id }
 {
-    let taken = counted(r.taken);
     Move {
-        next: n,
-        taken: taken,
         normal: Some(id),
-        disable: None,
-    }
-}
-
-fn ended(r: Run) -> Move
-    ensures { result ≡ ended r }
-{
-    let taken = counted(r.taken);
-    let w = receiver(r);
-    Move {
-        next: None,
-        taken: taken,
-        normal: None,
-        disable: w,
-    }
-}
-
-fn passed_over(r: Run) -> Move
-    ensures { result ≡ passed_over r }
-{
-    let taken = counted(r.taken);
-    let w = receiver(r);
-    let x = map_numbers::sets::lowest(r.left);
-    let others = map_numbers::sets::without(r.left, x);
-    let n = to_spread(r, others);
-    Move {
-        next: n,
-        taken: taken,
-        normal: None,
-        disable: w,
+        ..went_on(r, next)
     }
 }
 
 // A failed answer ends the run, save in an enabling spread, which passes over its receiver.
+#[tactic(auto, unfolding(rules_pool::specs::Run::failed_answer))]
 fn failed_answer(r: Run) -> Move
     ensures { result ≡ failed_answer r }
 {
-    let p = r.phase;
-    match p {
-        Phase::Versions(best) => ended(r),
-        Phase::Base(s) => ended(r),
-        Phase::LastIo => ended(r),
-        Phase::Gather(s) => ended(r),
-        Phase::Enable(every) => ended(r),
-        Phase::Spread(s) => passed_over(r),
+    let next = match r.phase {
+        Phase::Spread(_) => to_spread(r, rest(r)),
+        _ => None,
+    };
+    Move {
+        disable: receiver(r),
+        ..went_on(r, next)
     }
 }
 
@@ -171,90 +146,58 @@ fn failed_answer(r: Run) -> Move
 fn version_brought(members: u64, version: u64, best: u64, r: Run, b: Option<u64>) -> Move
     ensures { result ≡ version_brought members version best r b }
 {
-    let Some(v) = b else {
-        return failed_answer(r);
-    };
-    if version < v {
-        return failed_answer(r);
-    }
-    let x = map_numbers::sets::lowest(r.left);
-    let others = map_numbers::sets::without(r.left, x);
-    let source = map_numbers::numbers::choose(best < v, x, r.source);
-    let most = map_numbers::numbers::choose(best < v, v, best);
-    let n = to_versions(members, r, most, source, others);
-    went_on(r, n)
-}
-
-fn base_next(members: u64, s: Step, r: Run) -> Option<Run>
-    ensures { result ≡ base_next members s r }
-{
-    let x = map_numbers::sets::lowest(r.left);
-    let others = map_numbers::sets::without(r.left, x);
-    match s {
-        Step::Ready => ahead(r, Phase::Base(Step::Send)),
-        Step::Send => ahead(r, Phase::Base(Step::Done)),
-        Step::Done => to_base(members, r, r.source, others),
-    }
-}
-
-fn gather_next(members: u64, s: Step, r: Run) -> Option<Run>
-    ensures { result ≡ gather_next members s r }
-{
-    let x = map_numbers::sets::lowest(r.left);
-    let others = map_numbers::sets::without(r.left, x);
-    match s {
-        Step::Ready => ahead(r, Phase::Gather(Step::Send)),
-        Step::Send => ahead(r, Phase::Gather(Step::Done)),
-        Step::Done => to_gather(members, r, r.source, others),
-    }
-}
-
-fn spread_good(s: Step, r: Run) -> Move
-    ensures { result ≡ spread_good s r }
-{
-    let x = map_numbers::sets::lowest(r.left);
-    let others = map_numbers::sets::without(r.left, x);
-    match s {
-        Step::Ready => {
-            let n = ahead(r, Phase::Spread(Step::Send));
-            went_on(r, n)
+    match b {
+        Some(v) if v <= version => {
+            let (most, source) = if best < v {
+                (v, hand(r))
+            } else {
+                (best, r.source)
+            };
+            went_on(r, to_versions(members, r, most, source, rest(r)))
         }
-        Step::Send => {
-            let n = ahead(r, Phase::Spread(Step::Done));
-            went_on(r, n)
-        }
-        Step::Done => {
-            let n = to_spread(r, others);
-            became_normal(r, n, x)
-        }
+        _ => failed_answer(r),
     }
 }
 
+// The next message of a spread, or what comes after its last one.
+fn step_next<F: Fn(Step) -> Phase>(s: Step, r: Run, phase: F, over: Option<Run>) -> Option<Run>
+    requires { F.IsAlwaysCallable phase }
+    ensures ready { s ≡ Step.Ready → (p : Phase) × F.post phase Step.Send p × (result ≡ ahead r p) }
+    ensures send { s ≡ Step.Send → (p : Phase) × F.post phase Step.Done p × (result ≡ ahead r p) }
+    ensures done { s ≡ Step.Done → result ≡ over }
+{
+    match s {
+        Step::Ready => ahead(r, phase(Step::Send)),
+        Step::Send => ahead(r, phase(Step::Done)),
+        Step::Done => over,
+    }
+}
+
+#[tactic(auto, unfolding(rules_pool::specs::Run::good))]
 fn good(members: u64, version: u64, r: Run, b: Option<u64>) -> Move
     ensures { result ≡ good members version r b }
 {
-    let p = r.phase;
-    match p {
+    let others = rest(r);
+    match r.phase {
         Phase::Versions(best) => version_brought(members, version, best, r, b),
         Phase::Base(s) => {
-            let n = base_next(members, s, r);
-            went_on(r, n)
+            let over = to_base(members, r, r.source, others);
+            went_on(r, step_next(s, r, Phase::Base, over))
         }
-        Phase::LastIo => {
-            let x = map_numbers::sets::lowest(r.left);
-            let others = map_numbers::sets::without(r.left, x);
-            let n = to_last(members, r, r.source, others);
-            went_on(r, n)
-        }
+        Phase::LastIo => went_on(r, to_last(members, r, r.source, others)),
         Phase::Gather(s) => {
-            let n = gather_next(members, s, r);
-            went_on(r, n)
+            let over = to_gather(members, r, r.source, others);
+            went_on(r, step_next(s, r, Phase::Gather, over))
         }
-        Phase::Enable(every) => {
-            let n = to_spread(r, r.left);
-            became_normal(r, n, r.source)
+        Phase::Enable(_) => became_normal(r, to_spread(r, r.left), r.source),
+        Phase::Spread(s) => {
+            let next = step_next(s, r, Phase::Spread, to_spread(r, others));
+            if s == Step::Done {
+                became_normal(r, next, hand(r))
+            } else {
+                went_on(r, next)
+            }
         }
-        Phase::Spread(s) => spread_good(s, r),
     }
 }
 
@@ -262,10 +205,10 @@ fn good(members: u64, version: u64, r: Run, b: Option<u64>) -> Move
 pub fn take(members: u64, version: u64, r: Run, a: Reply) -> Move
     ensures { result ≡ takes members version r a }
 {
-    let Reply::Good(b) = a else {
-        return failed_answer(r);
-    };
-    good(members, version, r, b)
+    match a {
+        Reply::Failed => failed_answer(r),
+        Reply::Good(b) => good(members, version, r, b),
+    }
 }
 
 fn step_message(
@@ -287,17 +230,17 @@ fn step_message(
 }
 
 // The message that the run awaits an answer to.
+#[tactic(auto, unfolding(rules_pool::specs::Run::awaited_in))]
 pub fn awaited(members: u64, version: u64, r: Run) -> Message
     ensures { result ≡ awaited_in members version r }
 {
-    let x = map_numbers::sets::lowest(r.left);
-    let p = r.phase;
-    match p {
-        Phase::Versions(best) => Message::GetVersion(x),
+    let x = hand(r);
+    match r.phase {
+        Phase::Versions(_) => Message::GetVersion(x),
         Phase::Base(s) => step_message(s, r.source, x, false, false, version, members),
         Phase::LastIo => Message::LastIo(x, r.source),
         Phase::Gather(s) => step_message(s, x, r.source, true, false, version, members),
-        Phase::Enable(every) => Message::Enable(r.source, version, members),
+        Phase::Enable(_) => Message::Enable(r.source, version, members),
         Phase::Spread(s) => step_message(s, r.source, x, false, true, version, members),
     }
 }

@@ -2,15 +2,18 @@
 ghost use Rattle.std.specs.Prelude.{◌≡◌};
 ghost use Rattle.rules_pool.specs.Cases.{start, case1, case2, case3, case_of, begun};
 
+use client_state::roster::ids;
+use map_numbers::refusals::VERSION_LIMIT;
+use map_numbers::sets::{has, lowest, without};
 use rules_pool::{Kind, Phase, Roster, Run, Step};
 
-fn start(p: Phase, source: u64, left: u64) -> Option<Run>
-    ensures { result ≡ start p source left }
+fn start(phase: Phase, source: u64, left: u64) -> Option<Run>
+    ensures { result ≡ start phase source left }
 {
     Some(Run {
-        phase: p,
-        source: source,
-        left: left,
+        phase,
+        source,
+        left,
         taken: 0,
     })
 }
@@ -21,32 +24,29 @@ fn spread_to(normals: u64, candidates: u64) -> Option<Run>
     if candidates == 0 {
         return None;
     }
-    let source = map_numbers::sets::lowest(normals);
-    start(Phase::Spread(Step::Ready), source, candidates)
+    start(Phase::Spread(Step::Ready), lowest(normals), candidates)
 }
 
 fn enable_first(marked: u64, candidates: u64) -> Option<Run>
     ensures { result ≡ case2 marked candidates }
 {
-    let source = map_numbers::sets::lowest(marked);
-    let able = map_numbers::sets::has(candidates, source);
-    let others = map_numbers::sets::without(candidates, source);
-    if able {
-        return start(Phase::Enable(false), source, others);
+    let source = lowest(marked);
+    if !has(candidates, source) {
+        return None;
     }
-    None
+    start(Phase::Enable(false), source, without(candidates, source))
 }
 
 fn ask_all(members: u64, strays: u64) -> Option<Run>
     ensures { result ≡ case3 members strays }
 {
-    if (members == 0) | (strays != 0) {
+    if members == 0 || strays != 0 {
         return None;
     }
-    let source = map_numbers::sets::lowest(members);
-    start(Phase::Versions(0), source, members)
+    start(Phase::Versions(0), lowest(members), members)
 }
 
+#[tactic(auto, unfolding(rules_pool::specs::Cases::case_of))]
 fn case_of(normals: u64, candidates: u64, marked: u64, strays: u64, members: u64) -> Option<Run>
     ensures { result ≡ case_of normals candidates marked strays members }
 {
@@ -60,15 +60,16 @@ fn case_of(normals: u64, candidates: u64, marked: u64, strays: u64, members: u64
 }
 
 // The run that begins, if one does.
+#[tactic(auto, unfolding(rules_pool::specs::Cases::begun))]
 pub(super) fn begin(ro: Roster) -> Option<Run>
     ensures { result ≡ begun ro }
 {
-    let normals = client_state::roster::ids(Kind::Normals, ro);
-    let candidates = client_state::roster::ids(Kind::Candidates, ro);
-    let marked = client_state::roster::ids(Kind::Marked, ro);
-    let strays = client_state::roster::ids(Kind::Strays(ro.members), ro);
-    if map_numbers::refusals::VERSION_LIMIT < ro.version {
+    if VERSION_LIMIT < ro.version {
         return None;
     }
+    let normals = ids(Kind::Normals, ro);
+    let candidates = ids(Kind::Candidates, ro);
+    let marked = ids(Kind::Marked, ro);
+    let strays = ids(Kind::Strays(ro.members), ro);
     case_of(normals, candidates, marked, strays, ro.members)
 }
