@@ -1,123 +1,134 @@
 // Join: create and assemble.
 ghost use Rattle.std.specs.Prelude.{◌≡◌};
-ghost use Rattle.rules_client.specs.Joins.{join_told, create_refusal, created, create_done, join_create, set_bars, assemble_refusal, assembled, assemble_done, join_assemble};
+ghost use Rattle.rules_base.specs.Refusals.{number_of};
+ghost use Rattle.rules_client.specs.Joins.{join_told, create_refusal, created, join_create, set_bars, assemble_refusal, assembled, join_assemble};
 
-use map_numbers::refusals::first;
-use rules_base::Op;
+use client_rules::rules::{jobs, valid};
+use client_run::{exits, recovery};
+use client_state::{changes, roster, state};
+use map_numbers::refusals::VERSION_LIMIT;
+use map_numbers::sets;
+use rules_base::{Op, Refusal};
 use rules_pool::{Kind, Outcome, Pool, Roster, State, Told, Turn};
 
 // Who is told of a join.
+#[tactic(auto, unfolding(rules_client::specs::Joins::join_told))]
 fn join_told(ro: Roster, op: Op, id: u64) -> Told
     ensures { result ≡ join_told ro op id }
 {
     if ro.sync {
         return Told::Nothing;
     }
-    let told = client_state::roster::ids(Kind::Told, ro);
-    let others = map_numbers::sets::without(told, id);
-    Told::Infos(others, op, id)
+    Told::Infos(sets::without(roster::ids(Kind::Told, ro), id), op, id)
 }
 
-fn create_refusal(p: Pool, id: u64) -> u64
-    ensures { result ≡ create_refusal p id }
+#[tactic(auto, unfolding(rules_client::specs::Joins::create_refusal))]
+fn create_allowed(p: Pool, id: u64) -> Result<(), Refusal>
+    ensures { number_of result ≡ create_refusal p id }
 {
-    let ok = client_rules::rules::valid(p);
-    let ro = p.roster;
-    let j = p.job;
-    let s = client_state::roster::session(ro, id);
-    let st = s.state;
-    let idle = client_rules::rules::jobs::is_idle(j);
-    let free = client_state::state::is_free(st);
-    let past = ro.past;
-    let member = map_numbers::sets::has(ro.members, id);
-    let ended = !ro.sync & past.written;
-    let rest = first(!free, 8, first(ended, 17, first(member, 10, 0)));
-    first(!ok, 1, first(15 < id, 3, first(!idle, 6, rest)))
+    if !valid(p) {
+        return Err(Refusal::BadState);
+    }
+    if 15 < id {
+        return Err(Refusal::BadId);
+    }
+    if !jobs::is_idle(p.job) {
+        return Err(Refusal::JobInHand);
+    }
+    if !state::is_free(roster::session(p.roster, id).state) {
+        return Err(Refusal::HasSession);
+    }
+    if !p.roster.sync && p.roster.past.written {
+        return Err(Refusal::TooLate);
+    }
+    if sets::has(p.roster.members, id) {
+        return Err(Refusal::BadMembership);
+    }
+    Ok(())
 }
 
+#[tactic(auto, unfolding(rules_client::specs::Joins::created))]
 fn create(ro: Roster, id: u64) -> Roster
     ensures { result ≡ created ro id }
 {
     if ro.sync {
-        return client_state::changes::enroll(ro, id, State::Normal);
+        return changes::enroll(ro, id, State::Normal);
     }
-    let with_session = client_state::changes::enroll(ro, id, State::Created);
-    client_state::changes::enter_member(with_session, id)
+    changes::enter_member(changes::enroll(ro, id, State::Created), id)
 }
 
-fn create_done(p: Pool, id: u64) -> Turn
-    ensures { result ≡ create_done p id }
-{
-    let ro = p.roster;
-    let told = join_told(ro, Op::AddCreate, id);
-    let next = create(ro, id);
-    client_run::exits::change(p, next, told)
-}
-
+#[tactic(auto, unfolding(rules_client::specs::Joins::create_done, rules_client::specs::Joins::join_create))]
 pub fn join_create(p: Pool, id: u64) -> Turn
     ensures { result ≡ join_create p id }
 {
-    let why = create_refusal(p, id);
-    if why != 0 {
-        return client_run::exits::refuse(p, why);
+    match create_allowed(p, id) {
+        Ok(()) => exits::change(
+            p,
+            create(p.roster, id),
+            join_told(p.roster, Op::AddCreate, id),
+        ),
+        Err(why) => exits::refuse(p, why.number()),
     }
-    create_done(p, id)
 }
 
+#[tactic(auto, unfolding(rules_client::specs::Joins::set_bars))]
 fn set_bars(members: u64, set: u64, id: u64) -> bool
     ensures { result ≡ set_bars members set id }
 {
-    !map_numbers::sets::has(set, id) | (!(members == 0) & !(set == members))
+    !sets::has(set, id) || members != 0 && set != members
 }
 
-fn assemble_refusal(p: Pool, id: u64, set: u64, version: u64) -> u64
-    ensures { result ≡ assemble_refusal p id set version }
+#[tactic(auto, unfolding(rules_client::specs::Joins::assemble_refusal))]
+fn assemble_allowed(p: Pool, id: u64, set: u64, version: u64) -> Result<(), Refusal>
+    ensures { number_of result ≡ assemble_refusal p id set version }
 {
-    let ok = client_rules::rules::valid(p);
-    let ro = p.roster;
-    let j = p.job;
-    let s = client_state::roster::session(ro, id);
-    let st = s.state;
-    let idle = client_rules::rules::jobs::is_idle(j);
-    let free = client_state::state::is_free(st);
-    let bars = set_bars(ro.members, set, id);
-    let high = map_numbers::refusals::VERSION_LIMIT < version;
-    let rest = first(!free, 8, first(bars, 10, first(high, 14, 0)));
-    first(
-        !ok,
-        1,
-        first(
-            (15 < id) | (65535 < set),
-            3,
-            first(ro.sync, 5, first(!idle, 6, rest)),
-        ),
-    )
+    if !valid(p) {
+        return Err(Refusal::BadState);
+    }
+    if 15 < id || 65535 < set {
+        return Err(Refusal::BadId);
+    }
+    if p.roster.sync {
+        return Err(Refusal::OtherPool);
+    }
+    if !jobs::is_idle(p.job) {
+        return Err(Refusal::JobInHand);
+    }
+    if !state::is_free(roster::session(p.roster, id).state) {
+        return Err(Refusal::HasSession);
+    }
+    if set_bars(p.roster.members, set, id) {
+        return Err(Refusal::BadMembership);
+    }
+    if VERSION_LIMIT < version {
+        return Err(Refusal::HighVersion);
+    }
+    Ok(())
 }
 
+#[tactic(auto, unfolding(rules_client::specs::Joins::assembled))]
 fn assemble(ro: Roster, id: u64, set: u64, version: u64) -> Roster
     ensures { result ≡ assembled ro id set version }
 {
-    let taken = client_state::changes::take_over(ro, set, version);
-    let with_session = client_state::changes::enroll(taken, id, State::Created);
-    client_state::changes::go(with_session, id, State::Reconnecting)
+    let taken = changes::take_over(ro, set, version);
+    changes::go(
+        changes::enroll(taken, id, State::Created),
+        id,
+        State::Reconnecting,
+    )
 }
 
-fn assemble_done(p: Pool, id: u64, set: u64, version: u64) -> Turn
-    ensures { result ≡ assemble_done p id set version }
-{
-    let ro = p.roster;
-    let told = join_told(ro, Op::AddAssemble, id);
-    let next = assemble(ro, id, set, version);
-    let after = client_run::recovery::with_roster(p, next);
-    client_run::exits::try_after(p, after, Outcome::Plain, told)
-}
-
+#[tactic(auto, unfolding(rules_client::specs::Joins::assemble_done, rules_client::specs::Joins::join_assemble))]
 pub fn join_assemble(p: Pool, id: u64, set: u64, version: u64) -> Turn
     ensures { result ≡ join_assemble p id set version }
 {
-    let why = assemble_refusal(p, id, set, version);
-    if why != 0 {
-        return client_run::exits::refuse(p, why);
+    match assemble_allowed(p, id, set, version) {
+        Ok(()) => exits::try_after(
+            p,
+            recovery::with_roster(p, assemble(p.roster, id, set, version)),
+            Outcome::Plain,
+            join_told(p.roster, Op::AddAssemble, id),
+        ),
+        Err(why) => exits::refuse(p, why.number()),
     }
-    assemble_done(p, id, set, version)
 }

@@ -1,25 +1,33 @@
 // The answer to an awaited message.
 ghost use Rattle.std.specs.Prelude.{◌≡◌};
-ghost use Rattle.rules_pool.specs.Run.{takes};
+ghost use Rattle.rules_base.specs.Refusals.{number_of};
 ghost use Rattle.rules_client.specs.Answers.{awaits, answer_refusal, entered_by, moved_on, reported, answered, answer};
 
-use map_numbers::refusals::first;
-use rules_pool::{Effect, Job, Move, Outcome, Pool, Posted, Reply, Roster, Run, Turn};
+use client_rules::rules::{jobs, valid};
+use client_run::{exits, recovery};
+use rules_base::Refusal;
+use rules_pool::{Effect, Job, Move, Outcome, Pool, Posted, Reply, Roster, Turn};
 
 fn awaits(p: Pool, number: u64) -> bool
     ensures { result ≡ awaits p number }
 {
-    let j = p.job;
-    let last = p.number as u64;
-    !client_rules::rules::jobs::is_idle(j) & (number == last)
+    !jobs::is_idle(p.job) && number == u64::from(p.number)
 }
 
-fn answer_refusal(p: Pool, sound: bool, number: u64) -> u64
-    ensures { result ≡ answer_refusal p sound number }
+#[tactic(auto, unfolding(rules_client::specs::Answers::answer_refusal))]
+fn answer_allowed(p: Pool, sound: bool, number: u64) -> Result<(), Refusal>
+    ensures { number_of result ≡ answer_refusal p sound number }
 {
-    let ok = client_rules::rules::valid(p);
-    let some = awaits(p, number);
-    first(!ok, 1, first(!sound, 2, first(!some, 13, 0)))
+    if !valid(p) {
+        return Err(Refusal::BadState);
+    }
+    if !sound {
+        return Err(Refusal::BadMap);
+    }
+    if !awaits(p, number) {
+        return Err(Refusal::NotAwaited);
+    }
+    Ok(())
 }
 
 fn enter(w: Option<u64>, ro: Roster) -> Roster
@@ -32,63 +40,46 @@ fn enter(w: Option<u64>, ro: Roster) -> Roster
 }
 
 // Who became NORMAL is entered, then the run goes on or is over.
+#[tactic(auto, unfolding(rules_client::specs::Answers::moved_on))]
 fn move_on(p: Pool, m: Move) -> Posted
     ensures { result ≡ moved_on p m }
 {
-    let ro = p.roster;
-    let w = m.normal;
-    let n = m.next;
-    let entered = enter(w, ro);
-    let next = client_run::recovery::with_roster(p, entered);
-    client_run::recovery::go_on(n, next)
+    recovery::go_on(m.next, recovery::with_roster(p, enter(m.normal, p.roster)))
 }
 
 fn report(p: Pool, m: Move) -> Turn
     ensures { result ≡ reported p m }
 {
-    let w = m.disable;
-    let told = client_run::recovery::disable(w);
-    let posted = move_on(p, m);
-    let after = posted.pool;
-    let awaited = posted.awaited;
-    client_run::exits::accept(
+    let Posted { pool, awaited } = move_on(p, m);
+    exits::accept(
         p,
-        after,
+        pool,
         Outcome::Taken(m.taken),
-        told,
+        recovery::disable(m.disable),
         awaited,
         Effect::Keep,
     )
-}
-
-fn in_run(p: Pool, r: Run, a: Reply) -> Turn
-    ensures { result ≡ reported p (takes p.roster.members p.roster.version r a) }
-{
-    let ro = p.roster;
-    let m = client_run::run::take(ro.members, ro.version, r, a);
-    report(p, m)
 }
 
 fn answered(j: Job, p: Pool, a: Reply) -> Turn
     ensures { result ≡ answered j p a }
 {
     match j {
-        Job::Idle => client_run::exits::refuse(p, 13),
-        Job::Running(r) => in_run(p, r, a),
-        Job::Removing(m) => {
-            let g = crate::removal::answer(m, p, a);
-            crate::removal::remove::accept(p, g)
-        }
+        Job::Idle => exits::refuse(p, Refusal::NotAwaited.number()),
+        Job::Running(r) => report(
+            p,
+            client_run::run::take(p.roster.members, p.roster.version, r, a),
+        ),
+        Job::Removing(m) => crate::removal::remove::accept(p, crate::removal::answer(m, p, a)),
     }
 }
 
+#[tactic(auto, unfolding(rules_client::specs::Answers::answer))]
 pub fn answer(p: Pool, sound: bool, number: u64, a: Reply) -> Turn
     ensures { result ≡ answer p sound number a }
 {
-    let why = answer_refusal(p, sound, number);
-    if why != 0 {
-        return client_run::exits::refuse(p, why);
+    match answer_allowed(p, sound, number) {
+        Ok(()) => answered(p.job, p, a),
+        Err(why) => exits::refuse(p, why.number()),
     }
-    let j = p.job;
-    answered(j, p, a)
 }

@@ -1,6 +1,0 @@
-use Rattle.rules_client.specs.Joins.{create_refusal}
-use Rattle.client_join.proofs.joins.create_refusal.Goals as goal
-
-pub returns : goal.returns
-unfolding create_refusal
-returns c = rw (c.first-5.ensures, c.first-4.ensures, c.first-3.ensures, c.first-rest.ensures, c.first-2.ensures, c.first.ensures, c.has-member.ensures, c.is_free-free.ensures, c.is_idle-idle.ensures, c.session-s.ensures, c.valid-ok.ensures)
