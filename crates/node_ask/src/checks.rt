@@ -1,25 +1,17 @@
 // Map check at a node: taken in every state, and nothing changes. `lent` is the number that the lent maps refuse with.
 ghost use Rattle.std.specs.Prelude.{◌≡◌};
-ghost use Rattle.rules_node.specs.Check.{check_refusal, map_check};
+ghost use Rattle.rules_node.specs.Check.{map_check};
 
-use map_numbers::refusals::first;
-use node_state::{states, turns};
-use rules_node::{Checked, Node};
-
-fn check_refusal(n: Node, lent: u64) -> u64
-    ensures { result ≡ check_refusal n lent }
-{
-    turns::common(n, lent, first(15 < n.id, 3, 0))
-}
+use node_state::turns;
+use rules_node::{Checked, Node, State};
 
 // clean: the node's own row is empty.
+#[tactic(auto, unfolding(rules_node::specs::Check::map_check, rules_node::specs::Check::check_refusal))]
 pub fn map_check(n: Node, lent: u64, clean: bool) -> Checked
     ensures { result ≡ map_check n lent clean }
 {
-    let why = check_refusal(n, lent);
-    if why != 0 {
-        return Checked::Refused(why);
+    match turns::allowed(n, lent) {
+        Ok(()) => Checked::Empty(n.state == State::Normal && clean),
+        Err(why) => Checked::Refused(why.number()),
     }
-    let st = n.state;
-    Checked::Empty(states::is_normal(st) & clean)
 }

@@ -1,5 +1,6 @@
 // Join create, assemble or rejoin, leave.
 ghost use Rattle.std.specs.Prelude.{◌≡◌};
+ghost use Rattle.rules_base.specs.Refusals.{number_of};
 ghost use Rattle.rules_node.specs.Join.{
   own_row,
   join_create_refusal,
@@ -15,99 +16,120 @@ ghost use Rattle.rules_node.specs.Join.{
   leave,
 };
 
-use map_numbers::refusals::first;
 use node_state::{change, states, turns};
-use rules_node::{Answer, Node, OnMap, OnStaging, State, Turn};
+use rules_base::Refusal;
+use rules_node::{Node, OnMap, OnStaging, State, Turn};
 
 // The node's own row alone.
 fn own_row(n: Node) -> OnMap
     ensures { result ≡ own_row n }
 {
-    let own = map_numbers::sets::with(0, n.id);
-    OnMap::KeepRows(own)
+    OnMap::KeepRows(map_numbers::sets::with(0, n.id))
 }
 
-fn join_create_refusal(n: Node, lent: u64, set: u64) -> u64
-    ensures { result ≡ join_create_refusal n lent set }
+#[tactic(auto, unfolding(rules_node::specs::Join::join_create_refusal))]
+fn join_create_allowed(n: Node, lent: u64, set: u64) -> Result<(), Refusal>
+    ensures { number_of result ≡ join_create_refusal n lent set }
 {
-    let s = n.state;
-    let marked = states::is_registered(s) & n.create;
-    let ids = (15 < n.id) | (65535 < set);
-    turns::common(n, lent, first(ids, 3, first(!marked, 9, 0)))
+    turns::allowed(n, lent)?;
+    if 65535 < set {
+        return Err(Refusal::BadId);
+    }
+    if n.state != State::Registered || !n.create {
+        return Err(Refusal::NotAllowed);
+    }
+    Ok(())
 }
 
 // REGISTERED marked to CREATED, with the members as given and itself.
+#[tactic(auto, unfolding(rules_node::specs::Join::join_create))]
 pub fn join_create(n: Node, lent: u64, set: u64) -> Turn
     ensures { result ≡ join_create n lent set }
 {
-    let why = join_create_refusal(n, lent, set);
-    let next = joined_create(n, set);
-    let map = own_row(n);
-    let effect = turns::does(map, OnStaging::Keep);
-    let done = turns::turn(Answer::Done, next, effect);
-    turns::settled(why, n, done)
+    turns::settled(
+        join_create_allowed(n, lent, set),
+        n,
+        turns::done(joined_create(n, set), own_row(n), OnStaging::Keep),
+    )
 }
 
+#[tactic(auto, unfolding(rules_node::specs::Join::joined_create))]
 fn joined_create(n: Node, set: u64) -> Node
     ensures { result ≡ joined_create n set }
 {
-    let all = map_numbers::sets::with(set, n.id);
     let here = change::went_to(n, State::Created);
-    let plain = change::equipped(here, n.store, false);
-    change::taken_over(plain, all)
+    change::taken_over(
+        change::equipped(here, n.store, false),
+        map_numbers::sets::with(set, n.id),
+    )
 }
 
-fn assemble_refusal(n: Node, lent: u64) -> u64
-    ensures { result ≡ assemble_refusal n lent }
+#[tactic(auto, unfolding(rules_node::specs::Join::assemble_refusal))]
+fn assemble_allowed(n: Node, lent: u64) -> Result<(), Refusal>
+    ensures { number_of result ≡ assemble_refusal n lent }
 {
-    let s = n.state;
-    let may = assembles(s, n.store, n.create);
-    turns::common(n, lent, first(15 < n.id, 3, first(!may, 9, 0)))
+    turns::allowed(n, lent)?;
+    if !assembles(n.state, n.store, n.create) {
+        return Err(Refusal::NotAllowed);
+    }
+    Ok(())
 }
 
 // Assemble or rejoin: REGISTERED unmarked, NORMAL, NO_IO with store, to NO_IO. A transfer survives it.
+#[tactic(auto, unfolding(rules_node::specs::Join::assemble))]
 pub fn assemble(n: Node, lent: u64) -> Turn
     ensures { result ≡ assemble n lent }
 {
-    let why = assemble_refusal(n, lent);
-    let next = change::went_to(n, State::NoIo);
-    let effect = turns::does(OnMap::Keep, OnStaging::Keep);
-    let done = turns::turn(Answer::Done, next, effect);
-    turns::settled(why, n, done)
+    turns::settled(
+        assemble_allowed(n, lent),
+        n,
+        turns::done(
+            change::went_to(n, State::NoIo),
+            OnMap::Keep,
+            OnStaging::Keep,
+        ),
+    )
 }
 
 fn assembles(s: State, store: bool, create: bool) -> bool
     ensures { result ≡ assembles s store create }
 {
-    (states::is_registered(s) & !create) | (states::is_normal(s) | (states::is_no_io(s) & store))
+    match s {
+        State::Registered => !create,
+        State::Normal => true,
+        State::NoIo => store,
+        State::Empty | State::Created => false,
+    }
 }
 
-fn leave_refusal(n: Node, lent: u64) -> u64
-    ensures { result ≡ leave_refusal n lent }
+#[tactic(auto, unfolding(rules_node::specs::Join::leave_refusal))]
+fn leave_allowed(n: Node, lent: u64) -> Result<(), Refusal>
+    ensures { number_of result ≡ leave_refusal n lent }
 {
-    let s = n.state;
-    let joined = states::is_joined(s);
-    turns::common(n, lent, first(15 < n.id, 3, first(!joined, 9, 0)))
+    turns::allowed(n, lent)?;
+    if !states::is_joined(n.state) {
+        return Err(Refusal::NotAllowed);
+    }
+    Ok(())
 }
 
 // CREATED, NORMAL, NO_IO to REGISTERED, or to EMPTY without store. Delete keeps its own row alone.
+#[tactic(auto, unfolding(rules_node::specs::Join::leave))]
 pub fn leave(n: Node, lent: u64, delete: bool) -> Turn
     ensures { result ≡ leave n lent delete }
 {
-    let why = leave_refusal(n, lent);
-    let next = left(n);
-    let map = leaves(delete, n);
-    let effect = turns::does(map, OnStaging::Zero);
-    let done = turns::turn(Answer::Done, next, effect);
-    turns::settled(why, n, done)
+    turns::settled(
+        leave_allowed(n, lent),
+        n,
+        turns::done(left(n), leaves(delete, n), OnStaging::Zero),
+    )
 }
 
+#[tactic(auto, unfolding(rules_node::specs::Join::left))]
 fn left(n: Node) -> Node
     ensures { result ≡ left n }
 {
-    let to = left_to(n.store);
-    let away = change::went_to(n, to);
-    change::ended_transfer(away)
+    change::ended_transfer(change::went_to(n, left_to(n.store)))
 }
 
 fn left_to(store: bool) -> State
@@ -123,8 +145,5 @@ fn left_to(store: bool) -> State
 fn leaves(delete: bool, n: Node) -> OnMap
     ensures { result ≡ leaves delete n }
 {
-    if delete {
-        return own_row(n);
-    }
-    OnMap::Keep
+    if delete { own_row(n) } else { OnMap::Keep }
 }

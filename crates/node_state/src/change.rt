@@ -1,6 +1,5 @@
 // The fresh node, and the named changes.
-ghost use Rattle.std.specs.Prelude.{◌≡◌, [], ◌∷◌, ◌++◌, ◌+◌, ltb, drop};
-ghost use Rattle.laws_words.specs.Words.{pick};
+ghost use Rattle.std.specs.Prelude.{◌≡◌, [], ◌∷◌, ◌++◌, drop};
 ghost use Rattle.rules_node.specs.Change.{
   fresh,
   went_to,
@@ -19,12 +18,13 @@ ghost use Rattle.rules_node.specs.Change.{
 use rules_node::{Node, State};
 
 // A fresh node: EMPTY, with nothing.
+#[tactic(auto, unfolding(rules_node::specs::Change::fresh))]
 pub fn fresh(id: u64, chunks: u64) -> Node
     ensures { result ≡ fresh id chunks }
 {
     Node {
-        id: id,
-        chunks: chunks,
+        id,
+        chunks,
         state: State::Empty,
         store: false,
         create: false,
@@ -37,74 +37,60 @@ pub fn fresh(id: u64, chunks: u64) -> Node
 }
 
 // Another state.
-pub fn went_to(n: Node, to: State) -> Node
-    ensures { result ≡ went_to n to }
+#[tactic(auto, unfolding(rules_node::specs::Change::went_to))]
+pub fn went_to(n: Node, state: State) -> Node
+    ensures { result ≡ went_to n state }
 {
-    let t = n.transfer;
-    let k = n.kept;
-    Node {
-        id: n.id,
-        chunks: n.chunks,
-        state: to,
-        store: n.store,
-        create: n.create,
-        members: n.members,
-        version: n.version,
-        kept: k,
-        held: n.held,
-        transfer: t,
-    }
+    Node { state, ..n }
 }
 
 // A store or none, marked create or not.
-pub fn equipped(mut n: Node, store: bool, create: bool) -> Node
+#[tactic(auto, unfolding(rules_node::specs::Change::equipped))]
+pub fn equipped(n: Node, store: bool, create: bool) -> Node
     ensures { result ≡ equipped n store create }
 {
-    n.store = store;
-    n.create = create;
-    n
+    Node { store, create, ..n }
 }
 
 // A member set taken over.
-pub fn taken_over(mut n: Node, set: u64) -> Node
-    ensures { result ≡ taken_over n set }
+#[tactic(auto, unfolding(rules_node::specs::Change::taken_over))]
+pub fn taken_over(n: Node, members: u64) -> Node
+    ensures { result ≡ taken_over n members }
 {
-    n.members = set;
-    n
+    Node { members, ..n }
 }
 
 // A member entered.
+#[tactic(auto, unfolding(rules_node::specs::Change::member_entered))]
 pub fn member_entered(n: Node, member: u64) -> Node
     ensures { result ≡ member_entered n member }
 {
-    let set = map_numbers::sets::with(n.members, member);
-    taken_over(n, set)
+    taken_over(n, map_numbers::sets::with(n.members, member))
 }
 
 // A member dropped.
+#[tactic(auto, unfolding(rules_node::specs::Change::member_dropped))]
 pub fn member_dropped(n: Node, member: u64) -> Node
     ensures { result ≡ member_dropped n member }
 {
-    let set = map_numbers::sets::without(n.members, member);
-    taken_over(n, set)
+    taken_over(n, map_numbers::sets::without(n.members, member))
 }
 
 // A version stored.
-pub fn stored_version(mut n: Node, version: u64) -> Node
+#[tactic(auto, unfolding(rules_node::specs::Change::stored_version))]
+pub fn stored_version(n: Node, version: u64) -> Node
     ensures { result ≡ stored_version n version }
 {
-    n.version = version;
-    n
+    Node { version, ..n }
 }
 
 // A chunk number kept: it arrives last, and of seventeen the first is gone.
+#[tactic(auto, unfolding(rules_node::specs::Change::kept_chunk))]
 pub fn kept_chunk(mut n: Node, chunk: u64) -> Node
     ensures { result ≡ kept_chunk n chunk }
 {
-    let k = n.kept;
-    let next = shifted(k, chunk);
-    n.kept = next;
-    n.held = one_more(n.held);
+    n.kept = shifted(n.kept, chunk);
+    n.held = n.held.min(15) + 1;
     n
 }
 
@@ -112,48 +98,33 @@ pub fn kept_chunk(mut n: Node, chunk: u64) -> Node
 fn shifted(k: [u64; 16], last: u64) -> [u64; 16]
     ensures { result ≡ drop 1 k ++ (last ∷ []) }
 {
-    [
-        k[1], k[2], k[3], k[4], k[5], k[6], k[7], k[8], k[9], k[10], k[11], k[12], k[13], k[14],
-        k[15], last,
-    ]
-}
-
-fn one_more(held: u64) -> u64
-    ensures { result ≡ pick (ltb held 16) (held + 1) 16 }
-{
-    if held < 16 { held + 1 } else { 16 }
+    let mut next = [last; 16];
+    next[..15].copy_from_slice(&k[1..]);
+    next
 }
 
 // The kept chunks gone.
-pub fn forgotten(mut n: Node) -> Node
+#[tactic(auto, unfolding(rules_node::specs::Change::forgotten))]
+pub fn forgotten(n: Node) -> Node
     ensures { result ≡ forgotten n }
 {
-    n.kept = [0; 16];
-    n.held = 0;
-    n
-}
-
-// How far the transfer is.
-pub fn transferred(n: Node, t: Option<u64>) -> Node
-    ensures { result ≡ transferred n t }
-{
-    let s = n.state;
-    let k = n.kept;
     Node {
-        id: n.id,
-        chunks: n.chunks,
-        state: s,
-        store: n.store,
-        create: n.create,
-        members: n.members,
-        version: n.version,
-        kept: k,
-        held: n.held,
-        transfer: t,
+        kept: [0; 16],
+        held: 0,
+        ..n
     }
 }
 
+// How far the transfer is.
+#[tactic(auto, unfolding(rules_node::specs::Change::transferred))]
+pub fn transferred(n: Node, transfer: Option<u64>) -> Node
+    ensures { result ≡ transferred n transfer }
+{
+    Node { transfer, ..n }
+}
+
 // Staging dropped or committed.
+#[tactic(auto, unfolding(rules_node::specs::Change::ended_transfer))]
 pub fn ended_transfer(n: Node) -> Node
     ensures { result ≡ ended_transfer n }
 {
@@ -161,9 +132,9 @@ pub fn ended_transfer(n: Node) -> Node
 }
 
 // Version and member set of enable 1, MAP_DONE and register add.
+#[tactic(auto, unfolding(rules_node::specs::Change::instructed))]
 pub fn instructed(n: Node, version: u64, set: u64) -> Node
     ensures { result ≡ instructed n version set }
 {
-    let next = taken_over(n, set);
-    stored_version(next, version)
+    stored_version(taken_over(n, set), version)
 }

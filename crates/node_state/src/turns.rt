@@ -1,56 +1,62 @@
 // How a turn is put together: refused, or done.
-ghost use Rattle.std.specs.Prelude.{not, ◌≡◌, eqb};
+ghost use Rattle.std.specs.Prelude.{not, ◌≡◌, eqb, ltb};
 ghost use Rattle.laws_words.specs.Words.{pick};
+ghost use Rattle.rules_base.specs.Refusals.{number, number_of};
 ghost use Rattle.rules_node.specs.StateRules.{valid};
 ghost use Rattle.rules_node.specs.Turns.{does, turn, refused, settled};
 
 use crate::state_rules;
-use map_numbers::refusals::first;
+use rules_base::Refusal;
 use rules_node::{Answer, Effect, Node, OnMap, OnStaging, Turn};
 
-// What every event tests before its own tests: the state rules, and the number that the lent maps refuse with.
-pub fn common(n: Node, lent: u64, own: u64) -> u64
-    ensures { result ≡ pick (not (valid n)) 1 (pick (eqb lent 2) 2 (pick (eqb lent 18) 18 own)) }
+// What every event tests before its own tests: the state rules, what the lent maps refuse with, the node's own id.
+// lent is a number and no Refusal: of it the events ask for 2 and 18 alone, and any other lets them by.
+pub fn allowed(n: Node, lent: u64) -> Result<(), Refusal>
+    ensures { number_of result ≡ pick (not (valid n)) 1 (pick (eqb lent 2) 2 (pick (eqb lent 18) 18 (pick (ltb 15 n.id) 3 0))) }
 {
-    let ok = state_rules::valid(n);
-    let maps = first(lent == 2, 2, first(lent == 18, 18, own));
-    first(!ok, 1, maps)
-}
-
-// What is done to map and staging.
-pub fn does(map: OnMap, staging: OnStaging) -> Effect
-    ensures { result ≡ does map staging }
-{
-    Effect {
-        map: map,
-        staging: staging,
+    if !state_rules::valid(n) {
+        return Err(Refusal::BadState);
     }
+    if lent == 2 {
+        return Err(Refusal::BadMap);
+    }
+    if lent == 18 {
+        return Err(Refusal::BadSummary);
+    }
+    if 15 < n.id {
+        return Err(Refusal::BadId);
+    }
+    Ok(())
 }
 
-pub fn turn(answer: Answer, n: Node, effect: Effect) -> Turn
-    ensures { result ≡ turn answer n effect }
+// Done: the next state, and what is done to map and staging.
+pub fn done(n: Node, map: OnMap, staging: OnStaging) -> Turn
+    ensures { result ≡ turn Answer.Done n (does map staging) }
 {
     Turn {
-        answer: answer,
+        answer: Answer::Done,
         node: n,
-        effect: effect,
+        effect: Effect { map, staging },
     }
 }
 
-// Refused with a number: the state and both maps stay.
-pub fn refused(why: u64, n: Node) -> Turn
-    ensures { result ≡ refused why n }
+// Refused: the state and both maps stay.
+pub fn refused(why: Refusal, n: Node) -> Turn
+    ensures { result ≡ refused (number why) n }
 {
-    let nothing = does(OnMap::Keep, OnStaging::Keep);
-    turn(Answer::Refused(why), n, nothing)
+    Turn {
+        answer: Answer::Refused(why.number()),
+        ..done(n, OnMap::Keep, OnStaging::Keep)
+    }
 }
 
-// The turn of an event at the node, whose refusal is why (0: none).
-pub fn settled(why: u64, n: Node, done: Turn) -> Turn
-    ensures { result ≡ settled why n done }
+// The turn of an event at the node, done or refused.
+#[tactic(auto, unfolding(rules_node::specs::Turns::settled))]
+pub fn settled(allowed: Result<(), Refusal>, n: Node, done: Turn) -> Turn
+    ensures { result ≡ settled (number_of allowed) n done }
 {
-    if why == 0 {
-        return done;
+    match allowed {
+        Ok(()) => done,
+        Err(why) => refused(why, n),
     }
-    refused(why, n)
 }

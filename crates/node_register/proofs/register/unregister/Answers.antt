@@ -1,6 +1,0 @@
-use Rattle.rules_node.specs.Register.{unregister}
-use Rattle.node_register.proofs.register.unregister.Goals as goal
-
-pub returns : goal.returns
-unfolding unregister
-returns c = rw (c.settled.ensures, c.turn-done.ensures, c.does-effect.ensures, c.drops_staging-staging.ensures, c.wipes-map.ensures, c.unregistered-next.ensures, c.unregister_refusal-why.ensures)

@@ -1,6 +1,0 @@
-use Rattle.rules_node.specs.Fill.{filled}
-use Rattle.node_write.proofs.fills.filled.Goals as goal
-
-pub returns : goal.returns
-unfolding filled
-returns c = rw (c.stored_version.ensures, c.larger-top.ensures)
