@@ -139,7 +139,7 @@ MODES = {"Delete": "DELETE", "Disassemble": "DISASSEMBLE"}
 CLIENT_EVENTS = {
     "JoinCreate a": ("JOIN_CREATE", "id"), "JoinAssemble a b c": ("JOIN_ASSEMBLE", "id set version"), "Enable a": ("ENABLE", "id"), "Maintenance a": ("MAINTENANCE", "id"), "LinkDown a": ("LINK_DOWN", "id"),
     "StoreCheck a": ("STORE_CHECK", "id"), "Remove a Mode.Delete": ("REMOVE_DELETE", "id"), "Remove a Mode.Disassemble": ("REMOVE_DISASSEMBLE", "id"), "Write a b": ("WRITE", "chunk reached"), "Try": ("TRY", ""),
-    "Answer a (Reply.Good Brought.Nothing)": ("ANSWER_GOOD", "number"), "Answer a (Reply.Good (Brought.Version b))": ("ANSWER_VERSION", "number version"), "Answer a Reply.Failed": ("ANSWER_FAILED", "number"),
+    "Answer a (Reply.Good None)": ("ANSWER_GOOD", "number"), "Answer a (Reply.Good (Some b))": ("ANSWER_VERSION", "number version"), "Answer a Reply.Failed": ("ANSWER_FAILED", "number"),
     "Rejoin a": ("REJOIN", "id"), "Extend": ("EXTEND", ""), "Synced a b 0": ("SYNCED", "member chunk"), "Tick": ("TICK", ""), "CheckAnswer a b (eqb c 1)": ("CHECK_ANSWER", "tick member empty"),
 }
 NODE_EVENTS = {
