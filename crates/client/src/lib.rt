@@ -98,7 +98,7 @@ impl Client {
         on_values(self, Event::JoinAssemble(id, set, version), false, 0)
     }
 
-    pub fn enable(self, id: u64) -> Out
+    pub fn enable(mut self, id: u64) -> Out
         ensures { result ≡ handed self (enable self.pool id) }
     {
         on_values(self, Event::Enable(id), false, 0)
@@ -110,7 +110,7 @@ impl Client {
         on_values(self, Event::Maintenance(id), false, 0)
     }
 
-    pub fn link_down(self, id: u64) -> Out
+    pub fn link_down(mut self, id: u64) -> Out
         ensures { result ≡ handed self (link_down self.pool id) }
     {
         on_values(self, Event::LinkDown(id), false, 0)
@@ -153,7 +153,7 @@ impl Client {
     }
 
     #[tactic(auto, unfolding(rules_client::specs::Client::write_turn))]
-    pub fn write(self, map: &mut [u8], chunk: u64, reached: u64) -> Out
+    pub fn write(mut self, map: &mut [u8], chunk: u64, reached: u64) -> Out
         ensures value { result ≡ handed self (write_turn self.pool map.old chunk reached) }
         ensures map_after { map.new ≡ carried (write_turn self.pool map.old chunk reached).effect map.old }
     {
@@ -171,7 +171,7 @@ impl Client {
     }
 
     #[tactic(auto, unfolding(rules_client::specs::Client::answer_turn))]
-    pub fn answer(self, map: &mut [u8], number: u64, a: Reply) -> Out
+    pub fn answer(mut self, map: &mut [u8], number: u64, a: Reply) -> Out
         ensures value { result ≡ handed self (answer_turn self.pool map.old number a) }
         ensures map_after { map.new ≡ carried (answer_turn self.pool map.old number a).effect map.old }
     {
