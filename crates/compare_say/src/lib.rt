@@ -14,7 +14,7 @@ fn put_line(out: &mut [u8], at: usize, d: Difference) -> usize
     let b = text_bytes::put(out, a, 32);
     let c = text_bytes::put_number(out, b, d.chunk);
     let e = text_bytes::put(out, c, 32);
-    let f = text_bytes::put_number(out, e, d.which);
+    let f = text_bytes::put_number(out, e, d.which.number());
     text_bytes::put(out, f, 10)
 }
 
@@ -24,6 +24,7 @@ pub fn put_member(out: &mut [u8], at: usize, first: &[u8], second: &[u8], member
 {
     let mut to = at;
     let mut c = 0;
+    // No range: each turn goes on behind the chunk that was found.
     while c < 4096 {
         match next_difference(first, second, member, c) {
             // Two arms: under one pattern for both, the proof is not told which of the two it was.
