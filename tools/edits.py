@@ -3,8 +3,8 @@
   python3 -m tools.edits check             every edit keeps the rule; else which does not, and a failing exit
   python3 -m tools.edits list [CRATE..]    every edit with what it is, the function that it is in, and that function's contract
 
-An edit of a definition or of a statement (specs/, proofs/) always may stand. An edit of code may stand once in a crate, and in none whose check takes over
-20 seconds (docs/CHECK-TIMES.md); where the contract of its function is no equation, so that more than the equation is to be tried, it may stand besides.
+An edit of a definition or of a statement (specs/, proofs/) always may stand. Of code at most two may stand in a crate, of two functions, and none where the
+crate's check takes over 20 seconds (docs/CHECK-TIMES.md); where the contract of its function is no equation, so that more than the equation is to be tried, an edit may stand besides.
 """
 import glob
 import os
@@ -14,9 +14,10 @@ import sys
 from tools.check_times import seconds
 
 MOST_SECONDS = 20
+MOST_OF_CODE = 2
 HEADER = re.compile(r"^[ \t]*(?:pub )?(?:extern \"C\" )?fn (\w+)", re.M)
 ENSURES = re.compile(r"\bensures(?: \w+)? \{")
-EQUATION = re.compile(r"(?:result(?:\.now)?|\w+\.new) ≡ |ink \w+\.new |whole |outcome |\(result ≡ .* × \(\w+\.new ≡ ")
+EQUATION = re.compile(r"(?:result(?:\.now)?|\w+\.new) ≡ |number_of \w+ ≡ |ink \w+\.new |whole |outcome |\(result ≡ .* × \(\w+\.new ≡ ")
 
 
 def facts(contract):
@@ -74,9 +75,10 @@ def edits(crates=None):
 def check():
     times, found, wrong = seconds(), edits(), []
     for crate in sorted({e.crate for e in found}):
-        plain = [e.name for e in found if e.crate == crate and e.of_code and not e.beyond]
-        if len(plain) > 1:
-            wrong.append(f"{crate}: {len(plain)} edits of code ({', '.join(plain)}), one may stand")
+        of_code = [e for e in found if e.crate == crate and e.of_code and not e.beyond]
+        plain = [e.name for e in of_code]
+        if len(plain) > min(MOST_OF_CODE, len({e.function for e in of_code})):
+            wrong.append(f"{crate}: {len(plain)} edits of code ({', '.join(plain)}), {MOST_OF_CODE} of two functions may stand")
         if plain and times.get(crate, 0) > MOST_SECONDS:
             wrong.append(f"{crate}: its check takes {times[crate]} s, so its edit of code ({', '.join(plain)}) belongs into a crate below it")
     for line in wrong:

@@ -210,7 +210,7 @@ def places(table, found, what, prefix):
 
 
 def common():
-    known, event = re.fullmatch(r"pick known \(pick event (\d) (\d)\) (\d)", only("event_words", "Same", "error_of")).group(3), re.findall(r"\d", only("event_words", "Same", "error_of"))
+    known, event = re.fullmatch(r"pick known \(pick event (\d) (\d)\) (\d)", only("event_words", "Calls", "error_of")).group(3), re.findall(r"\d", only("event_words", "Calls", "error_of"))
     returned = [int(event[0]), int(known), int(event[1])]
     refused, done = dict(clauses("library_answer", "Words", "answer_words"))["Answer.Refused n"], items(only("library_answer", "Words", "joined"))[:2]
     if items(refused)[:2] != ["0", "n"] or done != ["1", "0"] or not all(items(r)[0] + items(r)[1] in ("0n", "10") for _, r in clauses("library_node", "Library", "answer_words")):

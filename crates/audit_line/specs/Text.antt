@@ -1,24 +1,21 @@
 -- The auditor's text: a line to its record, and the line that is answered.
-use Rattle.std.specs.Prelude.{Bool, List, [], ◌∷◌, ℕ, eqb, ltb, length, take, get_or}
-use Rattle.laws_words.specs.Words.{pick, all}
+use Rattle.std.specs.Prelude.{Bool, ◌&&◌, List, [], ◌∷◌, ℕ, eqb, ltb, length, take, get_or}
+use Rattle.std.specs.List.{list_all}
+use Rattle.laws_words.specs.Words.{pick}
 use Rattle.text_bytes.specs.Bytes.{bytes}
 use Rattle.text_bytes.specs.Ink.{decimal}
-use Rattle.text_words.specs.Lines.{no_tok, line_of}
+use Rattle.text_words.specs.Lines.{is_number, number_in, no_tok, line_of}
 use Rattle.text_words.specs.declared.lines.Line.{Line}
 use Rattle.audit_record.specs.declared.records.Record.{Record}
 use Rattle.audit_record.specs.Records.{no_record}
 use Rattle.audit_replay.specs.declared.auditing.Verdict.{Verdict}
 
--- word k of a line is a number, and which
-abbrev pub numeric : Line → ℕ → Bool
-numeric l k = eqb (get_or l.toks k no_tok).name 0
-
 abbrev pub num_at : Line → ℕ → ℕ
-num_at l k = (get_or l.toks k no_tok).num
+num_at l k = number_in (get_or l.toks k no_tok)
 
 -- eight words, each a number
 unfoldable pub is_record : Line → Bool
-is_record l = all (eqb l.count 8 ∷ numeric l 0 ∷ numeric l 1 ∷ numeric l 2 ∷ numeric l 3 ∷ numeric l 4 ∷ numeric l 5 ∷ numeric l 6 ∷ numeric l 7 ∷ [])
+is_record l = eqb l.count 8 && list_all is_number l.toks
 
 unfoldable pub numbers_in : Line → Record
 numbers_in l =

@@ -1,12 +1,13 @@
 -- Records added one after the other, and the audit of the batches.
 use mathlib.Core.Path.{◌≡◌, refl, ap, ◌∙◌}
 use mathlib.Core.List.{List, [], ◌∷◌, ◌++◌}
-use Prim.Native.Nat.{ℕ, zero, suc, ◌<◌}
+use Prim.Native.Nat.{ℕ, zero, suc, ◌<◌, min}
 use native.Mathlib.Omega.{arith}
 use native.Mathlib.Numerals.{add-one}
 use lib.Dec.{ltb}
 use lib.ListN.{length, take, set, length-set}
-use borrow.Author.Tests.{ltb-true}
+use lib.Seq.{take_all}
+use borrow.Author.Tests.{ltb-true, ltb-false}
 use Rattle.laws_words.specs.Tests.{by_cases}
 use Rattle.audit_record.specs.declared.records.Record.{Record}
 use Rattle.audit_replay.specs.declared.auditing.Walk.{Walk}
@@ -14,6 +15,13 @@ use Rattle.audit_replay.specs.Audit.{turned, walked}
 use Rattle.audit_list.specs.declared.batches.Batch.{Batch}
 use Rattle.audit_list.specs.Batches.{begun, audited, added}
 use Rattle.audit_list.specs.Laws.{added_all, AsWhole}
+
+-- the first n, or all of sixteen
+pub first : (xs : List Record) (n : ℕ) → length xs ≡ 16 → take (min n 16) xs ≡ take n xs
+first xs n h =
+    by_cases (ltb n 16)
+    (λ e. let k : min n 16 ≡ n = omega (arith, ltb-true n 16 e) in rw k refl)
+    (λ e. let k : min n 16 ≡ 16 = omega (arith, ltb-false n 16 e) in rw (k, take_all 16 xs (omega (arith, h)), take_all n xs (omega (arith, h, ltb-false n 16 e))) refl)
 
 -- the first n and the one stored after them
 stored : (xs : List Record) (n : ℕ) (r : Record) → n < length xs → take (suc n) (set xs n r) ≡ take n xs ++ r ∷ []

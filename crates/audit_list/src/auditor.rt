@@ -1,4 +1,4 @@
-// The auditor: a lent list of log records is walked once, each record copied out and handed to `auditing::turn`, a step on values.
+// The auditor: a lent list of log records is walked once, each record handed to `auditing::turn`, a step on values.
 ghost use Rattle.std.specs.Prelude.{◌≡◌};
 ghost use Rattle.audit_replay.specs.Audit.{walked};
 ghost use Rattle.audit_list.specs.Start.{started};
@@ -11,12 +11,9 @@ use client::Client;
 pub fn start() -> Walk
     ensures { result ≡ started }
 {
-    let c = Client::fresh(false, Client::CHUNK_LIMIT);
-    let p = c.pool;
     Walk {
-        wrong: false,
         place: 0,
-        pool: p,
+        pool: Some(Client::fresh(false, Client::CHUNK_LIMIT).pool),
     }
 }
 
@@ -24,11 +21,8 @@ pub fn start() -> Walk
 pub fn audit(mut w: Walk, log: &[Record]) -> Walk
     ensures { result ≡ walked w log.now }
 {
-    let mut i = 0;
-    while i < log.len() {
-        let r = log[i];
-        i += 1;
-        w = audit_replay::auditing::turn(w, r);
+    for r in log {
+        w = audit_replay::auditing::turn(w, *r);
     }
     w
 }

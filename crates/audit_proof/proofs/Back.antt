@@ -12,11 +12,10 @@ use Rattle.rules_pool.specs.declared.Outcome.{Outcome}
 use Rattle.rules_pool.specs.declared.Roster.{Roster}
 use Rattle.audit_record.specs.declared.records.Record.{Record}
 use Rattle.audit_record.specs.declared.records.Logged.{Logged}
-use Rattle.audit_record.specs.declared.records.Named.{Named}
-use Rattle.audit_record.specs.Records.{record_of, reply_in, session_in, event_in, same_numbers, same_record}
+use Rattle.audit_record.specs.Records.{record_of, event_in, same_numbers, same_record}
 
-pub event-back : (n : ℕ) (e : Logged) (o : Outcome) (ro : Roster) → event_in (record_of n e o ro) ≡ Named.Event e
-unfolding record_of event_in session_in reply_in
+pub event-back : (n : ℕ) (e : Logged) (o : Outcome) (ro : Roster) → event_in (record_of n e o ro) ≡ Some e
+unfolding record_of event_in
 event-back n (Logged.JoinCreate id) o ro = refl
 event-back n (Logged.JoinAssemble id set version) o ro = refl
 event-back n (Logged.Enable id) o ro = refl

@@ -1,6 +1,7 @@
 -- The auditor accepts exactly the good logs, and names the first record that is not so otherwise; a log in parts.
+use Rattle.std.specs.Prelude.{Option, Some, None, is_some}
 use mathlib.Core.Path.{◌≡◌, refl, sym, ap, subst, ◌∙◌}
-use mathlib.Core.Bool.{Bool, true, false, not, true≢false}
+use mathlib.Core.Bool.{Bool, true, false, true≢false}
 use mathlib.Core.Logic.{inl, inr}
 use mathlib.Core.List.{List, [], ◌∷◌}
 use Prim.Native.Nat.{ℕ, zero, suc, ◌+◌, ◌≤◌, ◌<◌}
@@ -8,19 +9,18 @@ use native.Mathlib.Omega.{arith}
 use lib.Dec.{ltb}
 use lib.ListN.{length, take}
 use borrow.Author.Tests.{lt-ltb, ltb-true, ltb-false}
-use Rattle.laws_words.specs.Words.{pick}
-use Rattle.laws_words.specs.Tests.{by_cases, clash}
+use Rattle.laws_words.specs.Tests.{by_cases}
+use Rattle.rules_base.specs.Limits.{chunk_limit}
 use Rattle.rules_pool.specs.declared.Answer.{Answer}
 use Rattle.rules_pool.specs.declared.Pool.{Pool}
+use Rattle.rules_client.specs.Client.{fresh_pool}
 use Rattle.audit_record.specs.declared.records.Record.{Record}
 use Rattle.audit_record.specs.declared.records.Logged.{Logged}
-use Rattle.audit_record.specs.declared.records.Named.{Named}
 use Rattle.audit_record.specs.Records.{record_of, event_in, same_record, most, place_after}
 use Rattle.audit_replay.specs.Replay.{taken}
-use Rattle.audit_replay.specs.declared.auditing.Checked.{Checked}
 use Rattle.audit_replay.specs.declared.auditing.Walk.{Walk}
 use Rattle.audit_replay.specs.declared.auditing.Verdict.{Verdict}
-use Rattle.audit_replay.specs.Audit.{judged, checked_as, checked, walk_at, turned, walked, verdict_of}
+use Rattle.audit_replay.specs.Audit.{judged, checked_as, checked, turned_from, turned, walked, verdict_of}
 use Rattle.audit_list.specs.Start.{started}
 use Rattle.audit_proof.specs.Logs.{So, Log, GoodLog}
 use Rattle.audit_proof.specs.Exact as Exact
@@ -32,25 +32,25 @@ use Rattle.audit_proof.proofs.Back.{event-back, same_self, same-is}
 abbrev SoTo : ℕ → Pool → Record → Pool → Type 0
 SoTo n p r q = (x : So n p r) × (q ≡ (taken x.event p).pool)
 
-judged-so : (p : Pool) (n : ℕ) (r : Record) (e : Logged) (a : Answer) → (taken e p).answer ≡ a → (judged p n r e a (taken e p).pool).right ≡ true → SoTo n p r (judged p n r e a (taken e p).pool).pool
-judged-so p n r e (Answer.Refused k) ea t = clash t refl
-judged-so p n r e (Answer.Done s) ea t =
+judged-so : (p q : Pool) (n : ℕ) (r : Record) (e : Logged) (a : Answer) → (taken e p).answer ≡ a → judged n r e a (taken e p).pool ≡ Some q → SoTo n p r q
+judged-so p q n r e (Answer.Refused k) ea t = cc t
+judged-so p q n r e (Answer.Done s) ea t =
     by_cases (same_record r (record_of n e s.outcome (taken e p).pool.roster))
-    (λ z. (record { event = e; sent = s; accepted = ea; written = same-is r _ z }, rw z refl))
-    (λ z. clash (rw z at t) refl)
+    (λ z. let u : Some (taken e p).pool ≡ Some q = rw z at t in (record { event = e; sent = s; accepted = ea; written = same-is r _ z }, cc u))
+    (λ z. let u : None ≡ Some q = rw z at t in cc u)
 
-named-so : (m : Named) (p : Pool) (n : ℕ) (r : Record) → (checked_as m p n r).right ≡ true → SoTo n p r (checked_as m p n r).pool
-named-so Named.Unknown p n r t = clash t refl
-named-so (Named.Event e) p n r t = judged-so p n r e (taken e p).answer refl t
+named-so : (m : Option Logged) (p q : Pool) (n : ℕ) (r : Record) → checked_as m p n r ≡ Some q → SoTo n p r q
+named-so None p q n r t = cc t
+named-so (Some e) p q n r t = judged-so p q n r e (taken e p).answer refl t
 
-checked-so : (p : Pool) (n : ℕ) (r : Record) → (checked p n r).right ≡ true → SoTo n p r (checked p n r).pool
+checked-so : (p q : Pool) (n : ℕ) (r : Record) → checked p n r ≡ Some q → SoTo n p r q
 unfolding checked
-checked-so p n r t = named-so (event_in r) p n r t
+checked-so p q n r t = named-so (event_in r) p q n r t
 
-so-checked : (p : Pool) (n : ℕ) (r : Record) (x : So n p r) → checked p n r ≡ record { right = true; pool = (taken x.event p).pool }
+so-checked : (p : Pool) (n : ℕ) (r : Record) (x : So n p r) → checked p n r ≡ Some (taken x.event p).pool
 unfolding checked
 so-checked p n r x =
-    let e : event_in r ≡ Named.Event x.event = ap event_in x.written ∙ event-back n x.event x.sent.outcome (taken x.event p).pool.roster in
+    let e : event_in r ≡ Some x.event = ap event_in x.written ∙ event-back n x.event x.sent.outcome (taken x.event p).pool.roster in
     let z : same_record r (record_of n x.event x.sent.outcome (taken x.event p).pool.roster) ≡ true =
     ap (λ (s : Record). same_record s (record_of n x.event x.sent.outcome (taken x.event p).pool.roster)) x.written ∙ same_self _ in
     rw (e, x.accepted, z) refl
@@ -59,55 +59,64 @@ so-checked p n r x =
 
 -- n records were so, and left p
 abbrev at : ℕ → Pool → Walk
-at n p = record { wrong = false; place = n; pool = p }
+at n p = record { place = n; pool = Some p }
 
 pub place-after : (n : ℕ) → n < most → place_after n ≡ suc n
 unfolding place_after
 place-after n h = rw (lt-ltb n most h) (omega arith)
 
-turned-is : (n : ℕ) (p : Pool) (r : Record) → n < most → turned (at n p) r ≡ record { wrong = not (checked p (suc n) r).right; place = suc n; pool = (checked p (suc n) r).pool }
+turned-is : (n : ℕ) (p : Pool) (r : Record) → n < most → turned (at n p) r ≡ record { place = suc n; pool = checked p (suc n) r }
 unfolding turned
 turned-is n p r h = rw (place-after n h) refl
 
-turned-stuck : (w : Walk) (r : Record) → w.wrong ≡ true → turned w r ≡ w
+turned-stuck : (w : Walk) (r : Record) → w.pool ≡ None → turned w r ≡ w
 unfolding turned
-turned-stuck w r e = ap (λ (b : Bool). pick b w (walk_at (place_after w.place) (checked w.pool (place_after w.place) r))) e
+turned-stuck w r e = ap (λ (o : Option Pool). turned_from o w r) e
 
-stuck : (w : Walk) (rs : List Record) → w.wrong ≡ true → walked w rs ≡ w
+stuck : (w : Walk) (rs : List Record) → w.pool ≡ None → walked w rs ≡ w
 unfolding walked
 stuck w [] e = refl
 stuck w (r ∷ rs) e = ap (λ (v : Walk). walked v rs) (turned-stuck w r e) ∙ stuck w rs e
 
 data Goes (n : ℕ) (p : Pool) (rs : List Record) (w : Walk) : Type 0 where
-  all : Log n p rs → w.wrong ≡ false → w.place ≡ n + length rs → Goes n p rs w
-  stops : (k : ℕ) → k < length rs → Log n p (take k rs) → (Log n p (take (suc k) rs) → ⊥) → w.wrong ≡ true → w.place ≡ suc (n + k) → Goes n p rs w
+  all : Log n p rs → is_some w.pool ≡ true → w.place ≡ n + length rs → Goes n p rs w
+  stops : (k : ℕ) → k < length rs → Log n p (take k rs) → (Log n p (take (suc k) rs) → ⊥) → is_some w.pool ≡ false → w.place ≡ suc (n + k) → Goes n p rs w
+
+-- a record is so to one pool
+one_pool : (o : Option Pool) (p q : Pool) → o ≡ Some p → o ≡ Some q → p ≡ q
+one_pool o p q e f = cc
 
 -- a record that is so stands before them
-goes-more : (n : ℕ) (p : Pool) (r : Record) (rs : List Record) (w : Walk) → (checked p (suc n) r).right ≡ true → Goes (suc n) (checked p (suc n) r).pool rs w → Goes n p (r ∷ rs) w
-goes-more n p r rs w t (Goes.all l e f) =
-    let x = checked-so p (suc n) r t in
+goes-more : (n : ℕ) (p q : Pool) (r : Record) (rs : List Record) (w : Walk) → checked p (suc n) r ≡ Some q → Goes (suc n) q rs w → Goes n p (r ∷ rs) w
+goes-more n p q r rs w t (Goes.all l e f) =
+    let x = checked-so p q (suc n) r t in
     Goes.all (x.0, subst (λ (q : Pool). Log (suc n) q rs) x.1 l) e (omega (arith, f))
-goes-more n p r rs w t (Goes.stops k h l m e f) =
-    let x = checked-so p (suc n) r t in
+goes-more n p q r rs w t (Goes.stops k h l m e f) =
+    let x = checked-so p q (suc n) r t in
     Goes.stops (suc k) (omega (arith, h)) (x.0, subst (λ (q : Pool). Log (suc n) q (take k rs)) x.1 l)
-    (λ y. m (subst (λ (q : Pool). Log (suc n) q (take (suc k) rs)) (sym (ap (λ (c : Checked). c.pool) (so-checked p (suc n) r y.0))) y.1))
+    (λ y. m (subst (λ (q : Pool). Log (suc n) q (take (suc k) rs)) (one_pool _ _ q (so-checked p (suc n) r y.0) t) y.1))
     e (omega (arith, f))
+
+goes-on : (n : ℕ) (p : Pool) (r : Record) (rs : List Record) → n < most → ((q : Pool) → Goes (suc n) q rs (walked (at (suc n) q) rs)) → (o : Option Pool) → checked p (suc n) r ≡ o → Goes n p (r ∷ rs) (walked (turned (at n p) r) rs)
+goes-on n p r rs h m None t =
+    let v : Walk = record { place = suc n; pool = None } in
+    let e : turned (at n p) r ≡ v = turned-is n p r h ∙ ap (λ (o : Option Pool). record { place = suc n; pool = o }) t in
+    subst (Goes n p (r ∷ rs)) (sym (ap (λ (w : Walk). walked w rs) e ∙ stuck v rs refl))
+    (Goes.stops 0 (omega arith) tt (λ y. let z : None ≡ Some (taken y.0.event p).pool = sym t ∙ so-checked p (suc n) r y.0 in cc z) refl (omega arith))
+goes-on n p r rs h m (Some q) t =
+    let e : turned (at n p) r ≡ at (suc n) q = turned-is n p r h ∙ ap (λ (o : Option Pool). record { place = suc n; pool = o }) t in
+    subst (λ (w : Walk). Goes n p (r ∷ rs) (walked w rs)) (sym e) (goes-more n p q r rs _ t (m q))
 
 goes : (n : ℕ) (p : Pool) (rs : List Record) → n + length rs ≤ most → Goes n p rs (walked (at n p) rs)
 unfolding walked
 goes n p [] h = Goes.all tt refl (omega arith)
-goes n p (r ∷ rs) h =
-    let low : n < most = omega (arith, h) in
-    let c = checked p (suc n) r in
-    let v : Walk = record { wrong = true; place = suc n; pool = c.pool } in
-    by_cases c.right
-    (λ t. let e : turned (at n p) r ≡ at (suc n) c.pool = turned-is n p r low ∙ ap (λ (b : Bool). record { wrong = not b; place = suc n; pool = c.pool }) t in
-    subst (λ (w : Walk). Goes n p (r ∷ rs) (walked w rs)) (sym e) (goes-more n p r rs _ t (goes (suc n) c.pool rs (omega (arith, h)))))
-    (λ t. let e : turned (at n p) r ≡ v = turned-is n p r low ∙ ap (λ (b : Bool). record { wrong = not b; place = suc n; pool = c.pool }) t in
-    subst (Goes n p (r ∷ rs)) (sym (ap (λ (w : Walk). walked w rs) e ∙ stuck v rs refl))
-    (Goes.stops 0 (omega arith) tt (λ y. clash (ap (λ (d : Checked). d.right) (so-checked p (suc n) r y.0)) t) refl (omega arith)))
+goes n p (r ∷ rs) h = goes-on n p r rs (omega (arith, h)) (λ q. goes (suc n) q rs (omega (arith, h))) (checked p (suc n) r) refl
 
 -- ---- what it says
+
+-- the pool of a log's start
+abbrev first : Pool
+first = fresh_pool false chunk_limit
 
 log-less : (k m n : ℕ) (p : Pool) (rs : List Record) → k ≤ m → Log n p (take m rs) → Log n p (take k rs)
 log-less zero m n p rs h l = tt
@@ -122,7 +131,7 @@ log-take (suc k) n p (r ∷ rs) l = (l.0, log-take k (suc n) (taken l.0.event p)
 
 -- the place of the first that is not so is one
 one_place : (rs : List Record) (k m : ℕ) → Exact.FirstWrong rs k → Exact.FirstWrong rs m → k < m → ⊥
-one_place rs k m x y h = x.not_so (log-less (suc k) m 0 started.pool rs (omega (arith, h)) y.before)
+one_place rs k m x y h = x.not_so (log-less (suc k) m 0 first rs (omega (arith, h)) y.before)
 
 same_place : (rs : List Record) (k m : ℕ) → Exact.FirstWrong rs k → Exact.FirstWrong rs m → k ≡ m
 same_place rs k m x y =
@@ -148,7 +157,7 @@ accepting rs v l e =
       accepts = λ _. l;
       accepted = λ _. e;
       names = λ k u. absurd (apart (sym e ∙ u));
-      named = λ k x. absurd (x.not_so (log-take (suc k) 0 started.pool rs l));
+      named = λ k x. absurd (x.not_so (log-take (suc k) 0 first rs l));
     }
 
 naming : (rs : List Record) (v : Verdict) (k : ℕ) → Exact.FirstWrong rs k → v ≡ Verdict.Wrong (suc k) → Exact.Says rs v
@@ -156,12 +165,12 @@ naming rs v k x e =
     record {
       one = inr (k, e);
       accepts = λ u. absurd (apart (sym u ∙ e));
-      accepted = λ l. absurd (x.not_so (log-take (suc k) 0 started.pool rs l));
+      accepted = λ l. absurd (x.not_so (log-take (suc k) 0 first rs l));
       names = λ m u. let q : suc k ≡ suc m = ap place_in (sym e ∙ u) in subst (Exact.FirstWrong rs) (omega (arith, q)) x;
       named = λ m y. e ∙ ap (λ (i : ℕ). Verdict.Wrong (suc i)) (same_place rs k m x y);
     }
 
-says_of : (rs : List Record) (w : Walk) → Goes 0 started.pool rs w → Exact.Says rs (verdict_of w)
+says_of : (rs : List Record) (w : Walk) → Goes 0 first rs w → Exact.Says rs (verdict_of w)
 unfolding verdict_of
 says_of rs w (Goes.all l e f) =
     let q : w.place ≡ length rs = omega (arith, f) in
@@ -171,7 +180,7 @@ says_of rs w (Goes.stops k h l m e f) =
     naming rs (verdict_of w) k (record { there = h; before = l; not_so = m }) (rw (e, q) refl)
 
 pub exact : Exact.Exact
-exact rs h = says_of rs (walked started rs) (goes 0 started.pool rs (omega (arith, h)))
+exact rs h = says_of rs (walked started rs) (goes 0 first rs (omega (arith, h)))
 
 pub in_parts : Exact.InParts
 unfolding walked

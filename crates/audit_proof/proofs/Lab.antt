@@ -1,4 +1,5 @@
 -- The records that the lab gives are those of this log.
+use Rattle.std.specs.Prelude.{Some, None}
 use mathlib.Core.Path.{refl, sym, ap}
 use mathlib.Core.List.{◌∷◌}
 use Prim.Native.Nat.{ℕ}
@@ -6,7 +7,6 @@ use native.Mathlib.Omega.{arith}
 use Rattle.rules_pool.specs.declared.Answer.{Answer}
 use Rattle.event.specs.declared.Event.{Event}
 use Rattle.audit_record.specs.Records.{record_of}
-use Rattle.audit_record.specs.declared.journal.Note.{Note}
 use Rattle.audit_proof.proofs.Exact.{place-after}
 use Rattle.audit_proof.specs.Lab.{LabNotes, LabGives}
 
@@ -28,7 +28,7 @@ lab-notes Event.Tick own other = refl
 lab-notes (Event.CheckAnswer number m empty) own other = refl
 
 pub lab-gives : LabGives
-lab-gives j Note.Unlogged a after rest h = refl
-lab-gives j (Note.Logged l) (Answer.Refused k) after rest h = refl
-lab-gives j (Note.Logged l) (Answer.Done s) after rest h =
+lab-gives j None a after rest h = refl
+lab-gives j (Some l) (Answer.Refused k) after rest h = refl
+lab-gives j (Some l) (Answer.Done s) after rest h =
     ap (λ (n : ℕ). record_of n l s.outcome after ∷ rest n) (sym (place-after j.count (omega (arith, h))))

@@ -1,4 +1,5 @@
 -- The log of any history of our own client is a good log: at each step the auditor's pool is the client's with 4,096 chunks.
+use Rattle.std.specs.Prelude.{Option, Some, None}
 use mathlib.Core.Path.{◌≡◌, refl, sym, ap, subst, ◌∙◌}
 use mathlib.Core.Bool.{Bool, true, false, not}
 use mathlib.Core.List.{List, [], ◌∷◌}
@@ -32,7 +33,7 @@ use Rattle.theorem_client.proofs.Demand1.{demand-1}
 use Rattle.theorem_client.proofs.Every.{event-same}
 use Rattle.audit_record.specs.declared.records.Record.{Record}
 use Rattle.audit_record.specs.Records.{record_of}
-use Rattle.audit_record.specs.declared.journal.Note.{Note}
+use Rattle.audit_record.specs.declared.records.Logged.{Logged}
 use Rattle.audit_replay.specs.Replay.{taken}
 use Rattle.audit_proof.specs.Logs.{Log}
 use Rattle.audit_proof.proofs.Exact.{exact}
@@ -107,9 +108,9 @@ module _ (c : Pool) (v : valid_pool (wide c) ≡ valid_pool c) where
       by_number chunk_limit (Answers.answer_refusal c s number) (Answers.answer_refusal (wide c) true c.number) c _ _ (z' ∙ sym z) (answered-same chunk_limit c.job c a)
 
 -- what an accepted event comes to: logged, the same at the auditor's pool; not logged, it leaves the pool alone
-abbrev Carried : Note → Turn → Pool → Type 0
-Carried Note.Unlogged t c = t.pool ≡ c
-Carried (Note.Logged l) t c = Same chunk_limit t (taken l (wide c))
+abbrev Carried : Option Logged → Turn → Pool → Type 0
+Carried None t c = t.pool ≡ c
+Carried (Some l) t c = Same chunk_limit t (taken l (wide c))
 
 carried : (e : Event) (c : Pool) → 1 ≤ c.chunks → c.chunks ≤ chunk_limit → (s : Sent) → (turn_of e c).answer ≡ Answer.Done s → Carried (pool_note e) (turn_of e c) c
 unfolding remove_turn write_turn synced_turn answer_turn extend_turn
@@ -171,12 +172,12 @@ own n c low top (of.Event.of_pool e ∷ es) =
     rest : ℕ → List Record
     rest m = log_from m c' es
 
-    at : (note : Note) (a : Answer) → (turn_of e c.pool).answer ≡ a → ((s : Sent) → (turn_of e c.pool).answer ≡ Answer.Done s → Carried note (turn_of e c.pool) c.pool) → ((m : ℕ) → Log m (wide c'.pool) (rest m))
+    at : (note : Option Logged) (a : Answer) → (turn_of e c.pool).answer ≡ a → ((s : Sent) → (turn_of e c.pool).answer ≡ Answer.Done s → Carried note (turn_of e c.pool) c.pool) → ((m : ℕ) → Log m (wide c'.pool) (rest m))
         → Log n (wide c.pool) (entered note a c'.pool.roster n rest)
-    at Note.Unlogged (Answer.Refused k) h f l = passed n c c' (rest n) (refused-stays e c.pool k h) (l n)
-    at Note.Unlogged (Answer.Done s) h f l = passed n c c' (rest n) (f s h) (l n)
-    at (Note.Logged x) (Answer.Refused k) h f l = passed n c c' (rest n) (refused-stays e c.pool k h) (l n)
-    at (Note.Logged x) (Answer.Done s) h f l =
+    at None (Answer.Refused k) h f l = passed n c c' (rest n) (refused-stays e c.pool k h) (l n)
+    at None (Answer.Done s) h f l = passed n c c' (rest n) (f s h) (l n)
+    at (Some x) (Answer.Refused k) h f l = passed n c c' (rest n) (refused-stays e c.pool k h) (l n)
+    at (Some x) (Answer.Done s) h f l =
         let t : Same chunk_limit (turn_of e c.pool) (taken x (wide c.pool)) = f s h in (
           record { event = x; sent = s; accepted = t.answer ∙ h; written = ap (λ (p : Pool). record_of (suc n) x s.outcome p.roster) (sym t.pool) },
           subst (λ (p : Pool). Log (suc n) p (rest (suc n))) (sym t.pool) (l (suc n)),

@@ -1,5 +1,5 @@
 -- The log that our own client writes is always accepted.
-use Rattle.std.specs.Prelude.{◌≡◌, false, List, [], ◌∷◌, ℕ, suc, ◌≤◌, ◌<◌, ◌^◌, length}
+use Rattle.std.specs.Prelude.{◌≡◌, false, Option, Some, None, List, [], ◌∷◌, ℕ, suc, ◌≤◌, ◌<◌, ◌^◌, length}
 use Rattle.rules_base.specs.Limits.{chunk_limit}
 use Rattle.rules_pool.specs.declared.Roster.{Roster}
 use Rattle.rules_pool.specs.declared.Answer.{Answer}
@@ -9,37 +9,36 @@ use Rattle.rules_client.specs.ClientEvents.{Event, out_of, next}
 use Rattle.audit_record.specs.declared.records.Record.{Record}
 use Rattle.audit_record.specs.declared.records.Logged.{Logged}
 use Rattle.audit_record.specs.Records.{record_of}
-use Rattle.audit_record.specs.declared.journal.Note.{Note}
 use Rattle.audit_replay.specs.declared.auditing.Verdict.{Verdict}
 use Rattle.audit_proof.specs.Logs.{GoodLog}
 use Rattle.audit_proof.specs.Exact.{verdict}
 
 -- what an event is logged as; a sync, a tick and the answer to a map check are not logged
-abbrev pub pool_note : pool.Event → Note
-pool_note (pool.Event.join_create id) = Note.Logged (Logged.JoinCreate id)
-pool_note (pool.Event.join_assemble id set version) = Note.Logged (Logged.JoinAssemble id set version)
-pool_note (pool.Event.enable id) = Note.Logged (Logged.Enable id)
-pool_note (pool.Event.maintenance id) = Note.Logged (Logged.Maintenance id)
-pool_note (pool.Event.link_down id) = Note.Logged (Logged.LinkDown id)
-pool_note (pool.Event.store_check id) = Note.Logged (Logged.StoreCheck id)
-pool_note (pool.Event.rejoin id) = Note.Logged (Logged.Rejoin id)
-pool_note pool.Event.try_run = Note.Logged Logged.Try
-pool_note (pool.Event.remove xs id mode) = Note.Logged (Logged.Remove id mode)
-pool_note (pool.Event.write xs chunk reached) = Note.Logged (Logged.Write chunk reached)
-pool_note (pool.Event.synced xs member chunk) = Note.Unlogged
-pool_note (pool.Event.answer xs number a) = Note.Logged (Logged.Answer a)
-pool_note (pool.Event.extend xs) = Note.Logged Logged.Extend
+abbrev pub pool_note : pool.Event → Option Logged
+pool_note (pool.Event.join_create id) = Some (Logged.JoinCreate id)
+pool_note (pool.Event.join_assemble id set version) = Some (Logged.JoinAssemble id set version)
+pool_note (pool.Event.enable id) = Some (Logged.Enable id)
+pool_note (pool.Event.maintenance id) = Some (Logged.Maintenance id)
+pool_note (pool.Event.link_down id) = Some (Logged.LinkDown id)
+pool_note (pool.Event.store_check id) = Some (Logged.StoreCheck id)
+pool_note (pool.Event.rejoin id) = Some (Logged.Rejoin id)
+pool_note pool.Event.try_run = Some Logged.Try
+pool_note (pool.Event.remove xs id mode) = Some (Logged.Remove id mode)
+pool_note (pool.Event.write xs chunk reached) = Some (Logged.Write chunk reached)
+pool_note (pool.Event.synced xs member chunk) = None
+pool_note (pool.Event.answer xs number a) = Some (Logged.Answer a)
+pool_note (pool.Event.extend xs) = Some Logged.Extend
 
-abbrev pub note_of : Event → Note
+abbrev pub note_of : Event → Option Logged
 note_of (Event.of_pool e) = pool_note e
-note_of (Event.tick xs) = Note.Unlogged
-note_of (Event.check_answer xs number m empty) = Note.Unlogged
+note_of (Event.tick xs) = None
+note_of (Event.check_answer xs number m empty) = None
 
 -- an event is entered if it is logged and was accepted, at the place after n, with the sessions after it; then the rest
-abbrev pub entered : Note → Answer → Roster → ℕ → (ℕ → List Record) → List Record
-entered Note.Unlogged a after n rest = rest n
-entered (Note.Logged l) (Answer.Refused k) after n rest = rest n
-entered (Note.Logged l) (Answer.Done s) after n rest = record_of (suc n) l s.outcome after ∷ rest (suc n)
+abbrev pub entered : Option Logged → Answer → Roster → ℕ → (ℕ → List Record) → List Record
+entered None a after n rest = rest n
+entered (Some l) (Answer.Refused k) after n rest = rest n
+entered (Some l) (Answer.Done s) after n rest = record_of (suc n) l s.outcome after ∷ rest (suc n)
 
 -- The log of a history of the client c, where n records stand before it.
 unfoldable pub log_from : ℕ → Client → List Event → List Record

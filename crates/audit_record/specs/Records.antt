@@ -1,5 +1,5 @@
 -- A log record: what an accepted event of the client was, and its pool's version, NORMAL count and causes after it.
-use Rattle.std.specs.Prelude.{Bool, List, [], ◌∷◌, ℕ, ◌+◌, ◌*◌, eqb, ltb, Some, None}
+use Rattle.std.specs.Prelude.{Bool, List, [], ◌∷◌, ℕ, ◌+◌, ◌*◌, eqb, ltb, Option, Some, None}
 use Rattle.laws_words.specs.Words.{pick, all}
 use Rattle.rules_pool.specs.declared.Mode.{Mode}
 use Rattle.rules_pool.specs.declared.Cause.{Cause}
@@ -11,7 +11,6 @@ use Rattle.rules_pool.specs.declared.Outcome.{Outcome}
 use Rattle.audit_record.specs.declared.records.Record.{Record}
 use Rattle.audit_record.specs.declared.records.Logged.{Logged}
 use Rattle.audit_record.specs.declared.records.Entry.{Entry}
-use Rattle.audit_record.specs.declared.records.Named.{Named}
 
 -- no event's record: there is no kind 0
 abbrev pub no_record : Record
@@ -88,35 +87,25 @@ record_of n e o ro =
 
 -- ---- back
 
--- an answer
-unfoldable pub reply_in : ℕ → ℕ → Named
-reply_in k number =
-    pick (eqb k 11) (Named.Event (Logged.Answer (Reply.Good None)))
-    (pick (eqb k 12) (Named.Event (Logged.Answer (Reply.Good (Some number))))
-    (pick (eqb k 13) (Named.Event (Logged.Answer Reply.Failed))
-    Named.Unknown))
-
--- an event of one session that brings nothing but its id, or rest
-unfoldable pub session_in : ℕ → ℕ → Named → Named
-session_in k id rest =
-    pick (eqb k 1) (Named.Event (Logged.JoinCreate id))
-    (pick (eqb k 3) (Named.Event (Logged.Enable id))
-    (pick (eqb k 4) (Named.Event (Logged.Maintenance id))
-    (pick (eqb k 5) (Named.Event (Logged.LinkDown id))
-    (pick (eqb k 6) (Named.Event (Logged.StoreCheck id))
-    (pick (eqb k 7) (Named.Event (Logged.Remove id Mode.Delete))
-    (pick (eqb k 8) (Named.Event (Logged.Remove id Mode.Disassemble))
-    (pick (eqb k 14) (Named.Event (Logged.Rejoin id))
-    rest)))))))
-
 -- The event that a record names, by its kind.
-unfoldable pub event_in : Record → Named
+unfoldable pub event_in : Record → Option Logged
 event_in r =
-    pick (eqb r.kind 2) (Named.Event (Logged.JoinAssemble r.member r.set r.number))
-    (pick (eqb r.kind 9) (Named.Event (Logged.Write r.number r.set))
-    (pick (eqb r.kind 10) (Named.Event Logged.Try)
-    (pick (eqb r.kind 15) (Named.Event Logged.Extend)
-    (session_in r.kind r.member (reply_in r.kind r.number)))))
+    pick (eqb r.kind 1) (Some (Logged.JoinCreate r.member))
+    (pick (eqb r.kind 2) (Some (Logged.JoinAssemble r.member r.set r.number))
+    (pick (eqb r.kind 3) (Some (Logged.Enable r.member))
+    (pick (eqb r.kind 4) (Some (Logged.Maintenance r.member))
+    (pick (eqb r.kind 5) (Some (Logged.LinkDown r.member))
+    (pick (eqb r.kind 6) (Some (Logged.StoreCheck r.member))
+    (pick (eqb r.kind 7) (Some (Logged.Remove r.member Mode.Delete))
+    (pick (eqb r.kind 8) (Some (Logged.Remove r.member Mode.Disassemble))
+    (pick (eqb r.kind 9) (Some (Logged.Write r.number r.set))
+    (pick (eqb r.kind 10) (Some Logged.Try)
+    (pick (eqb r.kind 11) (Some (Logged.Answer (Reply.Good None)))
+    (pick (eqb r.kind 12) (Some (Logged.Answer (Reply.Good (Some r.number))))
+    (pick (eqb r.kind 13) (Some (Logged.Answer Reply.Failed))
+    (pick (eqb r.kind 14) (Some (Logged.Rejoin r.member))
+    (pick (eqb r.kind 15) (Some Logged.Extend)
+    None))))))))))))))
 
 -- two records are the same, number by number
 abbrev pub same_numbers : Record → Record → List Bool

@@ -20,7 +20,7 @@ pub fn take(p: Pool, e: Logged) -> Turn
         Logged::Remove(id, m) => client_remove::removal::remove::remove(p, true, id, m),
         Logged::Write(chunk, reached) => client_link::writes::write_ended(p, true, chunk, reached),
         Logged::Try => client_link::links::try_run(p),
-        Logged::Answer(a) => client_remove::answers::answer(p, true, p.number as u64, a),
+        Logged::Answer(a) => client_remove::answers::answer(p, true, u64::from(p.number), a),
         Logged::Rejoin(id) => client_link::links::rejoin(p, id),
         Logged::Extend => client_join::extending::extend(p, true),
     }

@@ -1,5 +1,5 @@
 -- The client as the code declares it, and as the rules have it.
-use Rattle.std.specs.Prelude.{Bool, List, ℕ}
+use Rattle.std.specs.Prelude.{Bool, ℕ}
 use Rattle.rules_pool.specs.declared.Turn.{Turn}
 use Rattle.rules_pool.specs.declared.Pool.{Pool}
 use Rattle.rules_client.specs.declared.Check.{Check}

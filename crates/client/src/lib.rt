@@ -12,10 +12,14 @@ ghost use Rattle.rules_client.specs.ClientEvents.{out_of};
 ghost use Rattle.event.specs.OfClient.{event_of, own_left};
 ghost use Rattle.client.specs.Client.{held, given, fresh, handed, check_handed, of_pool, of_check, stepped};
 
+use client_join::{enables, extending, joins};
+use client_link::{links, writes};
+use client_remove::{answers, removal};
 use event::Event;
+use map_whole::maps;
 use rules_base::Numbers;
 use rules_client::{Check, Checked};
-use rules_pool::{Answer, Effect, Job, Mode, Past, Pool, Reply, Roster, Session, State, Turn};
+use rules_pool::{Answer, Effect, Job, Mode, Pool, Reply, Roster, State, Turn};
 
 // The pool, and beside it what map check knows: no event of the pool looks at it.
 #[derive(Clone, Copy)]
@@ -63,24 +67,21 @@ impl Client {
     pub fn fresh(sync: bool, chunks: u64) -> Client
         ensures { result ≡ fresh sync chunks }
     {
-        let none = client_state::state::new(State::Free);
-        let sessions = [none; 16];
         let roster = Roster {
-            sessions: sessions,
+            sessions: [client_state::state::new(State::Free); 16],
             count: 0,
             version: 1,
             members: 0,
-            sync: sync,
+            sync,
             past: client_state::state::none(),
         };
-        let pool = Pool {
-            roster: roster,
-            job: Job::Idle,
-            number: 0,
-            chunks: chunks,
-        };
         Client {
-            pool: pool,
+            pool: Pool {
+                roster,
+                job: Job::Idle,
+                number: 0,
+                chunks,
+            },
             check: client_check::none(),
         }
     }
@@ -135,6 +136,7 @@ impl Client {
     }
 
     // A leg is added; the answer says which id was picked.
+    #[tactic(auto, unfolding(rules_client::specs::Client::extend_turn))]
     pub fn extend(self, map: &mut [u8]) -> Out
         ensures value { result ≡ handed self (extend_turn self.pool map.old) }
         ensures map_after { map.new ≡ carried (extend_turn self.pool map.old).effect map.old }
@@ -142,6 +144,7 @@ impl Client {
         on_map(self, Event::Extend, map)
     }
 
+    #[tactic(auto, unfolding(rules_client::specs::Client::remove_turn))]
     pub fn remove(self, map: &mut [u8], id: u64, mode: Mode) -> Out
         ensures value { result ≡ handed self (remove_turn self.pool map.old id mode) }
         ensures map_after { map.new ≡ carried (remove_turn self.pool map.old id mode).effect map.old }
@@ -149,6 +152,7 @@ impl Client {
         on_map(self, Event::Remove(id, mode), map)
     }
 
+    #[tactic(auto, unfolding(rules_client::specs::Client::write_turn))]
     pub fn write(mut self, map: &mut [u8], chunk: u64, reached: u64) -> Out
         ensures value { result ≡ handed self (write_turn self.pool map.old chunk reached) }
         ensures map_after { map.new ≡ carried (write_turn self.pool map.old chunk reached).effect map.old }
@@ -157,15 +161,16 @@ impl Client {
     }
 
     // The map lent is a NORMAL node's; it is only read.
+    #[tactic(auto, unfolding(rules_client::specs::Client::synced_turn))]
     pub fn synced(self, map: &[u8], member: u64, chunk: u64) -> Out
         ensures { result ≡ handed self (synced_turn self.pool map.now member chunk) }
     {
-        let p = self.pool;
-        let sound = map_whole::maps::is_sound(map, p.chunks);
+        let sound = maps::is_sound(map, self.pool.chunks);
         let clean = clean_ids(map, chunk);
         on_values(self, Event::Synced(member, chunk, 0), sound, clean)
     }
 
+    #[tactic(auto, unfolding(rules_client::specs::Client::answer_turn))]
     pub fn answer(mut self, map: &mut [u8], number: u64, a: Reply) -> Out
         ensures value { result ≡ handed self (answer_turn self.pool map.old number a) }
         ensures map_after { map.new ≡ carried (answer_turn self.pool map.old number a).effect map.old }
@@ -174,16 +179,17 @@ impl Client {
     }
 
     // Every NORMAL member with a non-empty client row is asked whether its row is empty. The map is only read.
+    #[tactic(auto, unfolding(rules_client::specs::Client::tick_turn))]
     pub fn tick(self, map: &[u8]) -> Out
         ensures { result ≡ check_handed self (tick_turn (held self) map.now) }
     {
-        let p = self.pool;
-        let sound = map_whole::maps::is_sound(map, p.chunks);
+        let sound = maps::is_sound(map, self.pool.chunks);
         let full = map_whole::emptyrows::full_ids(map);
         on_values(self, Event::Tick, sound, full)
     }
 
     // The answer of a member to the tick with this number.
+    #[tactic(auto, unfolding(rules_client::specs::Client::check_turn))]
     pub fn check_answer(self, map: &mut [u8], number: u64, member: u64, empty: bool) -> Out
         ensures value { result ≡ check_handed self (check_turn (held self) map.old number member empty) }
         ensures map_after { map.new ≡ carried (check_turn (held self) map.old number member empty).effect map.old }
@@ -193,25 +199,26 @@ impl Client {
 }
 
 // Any event: own is the client's map, other the map that Synced reads.
+#[tactic(auto, unfolding(rules_client::specs::Client::extend_turn, rules_client::specs::Client::remove_turn, rules_client::specs::Client::write_turn, rules_client::specs::Client::answer_turn, rules_client::specs::Client::check_turn))]
 pub fn event(c: Client, e: Event, own: &mut [u8], other: &[u8]) -> Out
     ensures value { result ≡ given (out_of (event_of e own.old other.now) (held c)) }
     ensures own_after { own.new ≡ own_left e (held c) own.old }
 {
     match e {
-        Event::JoinCreate(_)
-        | Event::JoinAssemble(_, _, _)
-        | Event::Enable(_)
-        | Event::Maintenance(_)
-        | Event::LinkDown(_)
-        | Event::StoreCheck(_)
-        | Event::Rejoin(_)
+        Event::JoinCreate(..)
+        | Event::JoinAssemble(..)
+        | Event::Enable(..)
+        | Event::Maintenance(..)
+        | Event::LinkDown(..)
+        | Event::StoreCheck(..)
+        | Event::Rejoin(..)
         | Event::Try => on_values(c, e, false, 0),
-        Event::Remove(_, _)
-        | Event::Write(_, _)
-        | Event::Answer(_, _)
+        Event::Remove(..)
+        | Event::Write(..)
+        | Event::Answer(..)
         | Event::Extend
-        | Event::CheckAnswer(_, _, _) => on_map(c, e, own),
-        Event::Synced(member, chunk, n) => c.synced(other, member, chunk),
+        | Event::CheckAnswer(..) => on_map(c, e, own),
+        Event::Synced(member, chunk, _) => c.synced(other, member, chunk),
         Event::Tick => c.tick(own),
     }
 }
@@ -221,12 +228,9 @@ fn on_map(c: Client, e: Event, map: &mut [u8]) -> Out
     ensures value { result ≡ (stepped e c.pool c.check (sound_for c.pool map.old) 0).out }
     ensures map_after { map.new ≡ carried (stepped e c.pool c.check (sound_for c.pool map.old) 0).effect map.old }
 {
-    let p = c.pool;
-    let k = c.check;
-    let sound = map_whole::maps::is_sound(map, p.chunks);
-    let s = step_of(p, k, e, sound, 0);
-    let effect = s.effect;
-    carry(map, effect);
+    let sound = maps::is_sound(map, c.pool.chunks);
+    let s = step_of(c.pool, c.check, e, sound, 0);
+    carry(map, s.effect);
     s.out
 }
 
@@ -234,90 +238,64 @@ fn on_map(c: Client, e: Event, map: &mut [u8]) -> Out
 fn on_values(c: Client, e: Event, sound: bool, ids: u64) -> Out
     ensures { result ≡ (stepped e c.pool c.check sound ids).out }
 {
-    let p = c.pool;
-    let k = c.check;
-    let s = step_of(p, k, e, sound, ids);
-    s.out
+    step_of(c.pool, c.check, e, sound, ids).out
 }
 
 // What an event comes to. sound: of the lent map. ids: those for which the chunk is clean in a map that Synced reads, those whose row is not empty in one that Tick reads.
 fn step_of(p: Pool, k: Check, e: Event, sound: bool, ids: u64) -> Step
     ensures { result ≡ stepped e p k sound ids }
 {
-    match e {
-        Event::JoinCreate(id) => hand(p, k, client_join::joins::join_create(p, id)),
-        Event::JoinAssemble(id, set, version) => hand(
-            p,
-            k,
-            client_join::joins::join_assemble(p, id, set, version),
-        ),
-        Event::Enable(id) => hand(p, k, client_join::enables::enable(p, id)),
-        Event::Maintenance(id) => hand(p, k, client_join::enables::maintenance(p, id)),
-        Event::LinkDown(id) => hand(p, k, client_link::links::link_down(p, id)),
-        Event::StoreCheck(id) => hand(p, k, client_link::links::store_check(p, id)),
-        Event::Rejoin(id) => hand(p, k, client_link::links::rejoin(p, id)),
-        Event::Try => hand(p, k, client_link::links::try_run(p)),
-        Event::Remove(id, mode) => hand(
-            p,
-            k,
-            client_remove::removal::remove::remove(p, sound, id, mode),
-        ),
-        Event::Write(chunk, reached) => hand(
-            p,
-            k,
-            client_link::writes::write_ended(p, sound, chunk, reached),
-        ),
-        Event::Synced(member, chunk, n) => hand(
-            p,
-            k,
-            client_link::writes::synced(p, sound, member, chunk, ids),
-        ),
-        Event::Answer(number, a) => hand(p, k, client_remove::answers::answer(p, sound, number, a)),
-        Event::Extend => hand(p, k, client_join::extending::extend(p, sound)),
-        Event::Tick => hand_check(p, client_check::tick(p, k, sound, ids)),
-        Event::CheckAnswer(number, member, empty) => hand_check(
-            p,
-            client_check::answer(p, k, sound, number, member, empty),
-        ),
-    }
+    let turn = match e {
+        Event::JoinCreate(id) => joins::join_create(p, id),
+        Event::JoinAssemble(id, set, version) => joins::join_assemble(p, id, set, version),
+        Event::Enable(id) => enables::enable(p, id),
+        Event::Maintenance(id) => enables::maintenance(p, id),
+        Event::LinkDown(id) => links::link_down(p, id),
+        Event::StoreCheck(id) => links::store_check(p, id),
+        Event::Rejoin(id) => links::rejoin(p, id),
+        Event::Try => links::try_run(p),
+        Event::Remove(id, mode) => removal::remove::remove(p, sound, id, mode),
+        Event::Write(chunk, reached) => writes::write_ended(p, sound, chunk, reached),
+        Event::Synced(member, chunk, _) => writes::synced(p, sound, member, chunk, ids),
+        Event::Answer(number, a) => answers::answer(p, sound, number, a),
+        Event::Extend => extending::extend(p, sound),
+        Event::Tick => return hand_check(p, client_check::tick(p, k, sound, ids)),
+        Event::CheckAnswer(number, member, empty) => {
+            return hand_check(p, client_check::answer(p, k, sound, number, member, empty));
+        }
+    };
+    hand(p, k, turn)
 }
 
 // What an event of the pool comes to.
 fn hand(p: Pool, k: Check, t: Turn) -> Step
     ensures { result ≡ of_pool p k t }
 {
-    let check = client_check::after(k, p, t);
-    let answer = t.answer;
-    let pool = t.pool;
-    let effect = t.effect;
     Step {
         out: Out {
-            answer: answer,
+            answer: t.answer,
             client: Client {
-                pool: pool,
-                check: check,
+                pool: t.pool,
+                check: client_check::after(k, p, t),
             },
         },
-        effect: effect,
+        effect: t.effect,
     }
 }
 
 // What a tick or an answer to it comes to: the pool stays.
-fn hand_check(p: Pool, k: Checked) -> Step
-    ensures { result ≡ of_check p k }
+fn hand_check(pool: Pool, k: Checked) -> Step
+    ensures { result ≡ of_check pool k }
 {
-    let answer = k.answer;
-    let check = k.check;
-    let effect = k.effect;
     Step {
         out: Out {
-            answer: answer,
+            answer: k.answer,
             client: Client {
-                pool: p,
-                check: check,
+                pool,
+                check: k.check,
             },
         },
-        effect: effect,
+        effect: k.effect,
     }
 }
 
@@ -328,23 +306,21 @@ fn carry(map: &mut [u8], effect: Effect)
     match effect {
         Effect::Keep => {}
         Effect::Mark(set, chunk) => map_chunk::mark_for(map, set, chunk),
-        Effect::ZeroRow(m) => map_whole::maps::zero_row(map, m),
-        Effect::ZeroAll => map_whole::maps::zero(map),
+        Effect::ZeroRow(m) => maps::zero_row(map, m),
+        Effect::ZeroAll => maps::zero(map),
         Effect::FillRow(m, n) => map_whole::fills::fill_row(map, m, n),
     }
 }
 
 // The ids for which the chunk is clean in the map.
+#[tactic(auto, unfolding(rules_client::specs::Client::clean_to))]
 fn clean_ids(map: &[u8], chunk: u64) -> u64
     ensures { result ≡ clean_to map.now chunk 16 }
 {
-    let mut ids: u64 = 0;
-    let mut m: u64 = 0;
-    while m < 16 {
-        let dirty = map_chunk::test(map, m, chunk);
+    let mut ids = 0;
+    for m in 0..16 {
         let more = map_numbers::sets::with(ids, m);
-        ids = map_numbers::numbers::choose(dirty, ids, more);
-        m += 1;
+        ids = map_numbers::numbers::pick(map_chunk::test(map, m, chunk), ids, more);
     }
     ids
 }

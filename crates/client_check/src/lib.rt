@@ -2,9 +2,13 @@
 #![tactic(auto)]
 
 ghost use Rattle.std.specs.Prelude.{◌≡◌};
+ghost use Rattle.rules_base.specs.Refusals.{number, number_of};
 ghost use Rattle.rules_client.specs.MapCheck.{no_check, tick_refusal, ticked, tells_of, declined, tick, answer_refusal, answered, clears, answer, after};
 
-use map_numbers::refusals::first;
+use client_rules::rules::{jobs, valid};
+use client_state::{roster, state};
+use map_numbers::sets;
+use rules_base::Refusal;
 use rules_client::{Check, Checked};
 use rules_pool::{Answer, Effect, Kind, Message, Outcome, Pool, Sent, Told, Turn};
 
@@ -23,11 +27,7 @@ pub fn after(k: Check, before: Pool, t: Turn) -> Check
     ensures { result ≡ after k before t }
 {
     if client_rules::breaking::breaks(before, t) {
-        return Check {
-            tick: k.tick,
-            due: k.due,
-            once: 0,
-        };
+        return Check { once: 0, ..k };
     }
     k
 }
@@ -37,34 +37,39 @@ fn tells(told: Told) -> Answer
 {
     Answer::Done(Sent {
         outcome: Outcome::Plain,
-        told: told,
+        told,
         awaited: Message::Nothing,
         number: 0,
     })
 }
 
-fn decline(k: Check, why: u64) -> Checked
-    ensures { result ≡ declined k why }
+fn decline(k: Check, why: Refusal) -> Checked
+    ensures { result ≡ declined k (number why) }
 {
     Checked {
-        answer: Answer::Refused(why),
+        answer: Answer::Refused(why.number()),
         check: k,
         effect: Effect::Keep,
     }
 }
 
-fn tick_refusal(p: Pool, sound: bool) -> u64
-    ensures { result ≡ tick_refusal p sound }
+#[tactic(auto, unfolding(rules_client::specs::MapCheck::tick_refusal))]
+fn tick_allowed(p: Pool, sound: bool) -> Result<(), Refusal>
+    ensures { number_of result ≡ tick_refusal p sound }
 {
-    let ok = client_rules::rules::valid(p);
-    let ro = p.roster;
-    let j = p.job;
-    let idle = client_rules::rules::jobs::is_idle(j);
-    first(
-        !ok,
-        1,
-        first(!sound, 2, first(ro.sync, 5, first(!idle, 6, 0))),
-    )
+    if !valid(p) {
+        return Err(Refusal::BadState);
+    }
+    if !sound {
+        return Err(Refusal::BadMap);
+    }
+    if p.roster.sync {
+        return Err(Refusal::OtherPool);
+    }
+    if !jobs::is_idle(p.job) {
+        return Err(Refusal::JobInHand);
+    }
+    Ok(())
 }
 
 // The next tick, which asks these members.
@@ -72,67 +77,74 @@ fn ticked(k: Check, asked: u16) -> Check
     ensures { result ≡ ticked k asked }
 {
     Check {
-        tick: std::num::wrapping_add_u32(k.tick, 1),
+        tick: k.tick.wrapping_add(1),
         due: asked,
-        once: k.once,
+        ..k
     }
 }
 
 // full: the ids whose client row is not empty.
+#[tactic(auto, unfolding(rules_client::specs::MapCheck::tick))]
 pub fn tick(p: Pool, k: Check, sound: bool, full: u64) -> Checked
     ensures { result ≡ tick p k sound full }
 {
-    let why = tick_refusal(p, sound);
-    if why != 0 {
+    if let Err(why) = tick_allowed(p, sound) {
         return decline(k, why);
     }
-    let ro = p.roster;
-    let asked = client_state::roster::ids(Kind::Reached(full), ro);
+    let asked = roster::ids(Kind::Reached(full), p.roster);
     let next = ticked(k, asked as u16);
     Checked {
-        answer: tells(Told::Checks(asked, next.tick as u64)),
+        answer: tells(Told::Checks(asked, u64::from(next.tick))),
         check: next,
         effect: Effect::Keep,
     }
 }
 
-fn answer_refusal(p: Pool, k: Check, sound: bool, number: u64, m: u64) -> u64
-    ensures { result ≡ answer_refusal p k sound number m }
+#[tactic(auto, unfolding(rules_client::specs::MapCheck::answer_refusal))]
+fn answer_allowed(p: Pool, k: Check, sound: bool, number: u64, m: u64) -> Result<(), Refusal>
+    ensures { number_of result ≡ answer_refusal p k sound number m }
 {
-    let ok = client_rules::rules::valid(p);
-    let ro = p.roster;
-    let j = p.job;
-    let idle = client_rules::rules::jobs::is_idle(j);
-    let s = client_state::roster::session(ro, m);
-    let st = s.state;
-    let free = client_state::state::is_free(st);
-    let due = map_numbers::sets::has(k.due as u64, m);
-    let awaited = (number == k.tick as u64) & due;
-    let rest = first(!idle, 6, first(free, 7, first(!awaited, 13, 0)));
-    first(
-        !ok,
-        1,
-        first(!sound, 2, first(15 < m, 3, first(ro.sync, 5, rest))),
-    )
+    if !valid(p) {
+        return Err(Refusal::BadState);
+    }
+    if !sound {
+        return Err(Refusal::BadMap);
+    }
+    if 15 < m {
+        return Err(Refusal::BadId);
+    }
+    if p.roster.sync {
+        return Err(Refusal::OtherPool);
+    }
+    if !jobs::is_idle(p.job) {
+        return Err(Refusal::JobInHand);
+    }
+    if state::is_free(roster::session(p.roster, m).state) {
+        return Err(Refusal::NoSession);
+    }
+    if number != u64::from(k.tick) || !sets::has(u64::from(k.due), m) {
+        return Err(Refusal::NotAwaited);
+    }
+    Ok(())
 }
 
 // The member's answer is no longer due. An empty one stands if none did; else none stands any more.
 fn answered(k: Check, m: u64, empty: bool) -> Check
     ensures { result ≡ answered k m empty }
 {
-    let once = k.once as u64;
-    let due = map_numbers::sets::without(k.due as u64, m) as u16;
-    if empty & !map_numbers::sets::has(once, m) {
+    let once = u64::from(k.once);
+    let due = sets::without(u64::from(k.due), m) as u16;
+    if empty && !sets::has(once, m) {
         return Check {
-            tick: k.tick,
-            due: due,
-            once: map_numbers::sets::with(once, m) as u16,
+            due,
+            once: sets::with(once, m) as u16,
+            ..k
         };
     }
     Check {
-        tick: k.tick,
-        due: due,
-        once: map_numbers::sets::without(once, m) as u16,
+        due,
+        once: sets::without(once, m) as u16,
+        ..k
     }
 }
 
@@ -140,24 +152,22 @@ fn answered(k: Check, m: u64, empty: bool) -> Check
 fn clears(k: Check, m: u64, empty: bool) -> Effect
     ensures { result ≡ clears k m empty }
 {
-    if empty & map_numbers::sets::has(k.once as u64, m) {
+    if empty && sets::has(u64::from(k.once), m) {
         return Effect::ZeroRow(m);
     }
     Effect::Keep
 }
 
+#[tactic(auto, unfolding(rules_client::specs::MapCheck::answer))]
 pub fn answer(p: Pool, k: Check, sound: bool, number: u64, m: u64, empty: bool) -> Checked
     ensures { result ≡ answer p k sound number m empty }
 {
-    let why = answer_refusal(p, k, sound, number, m);
-    if why != 0 {
+    if let Err(why) = answer_allowed(p, k, sound, number, m) {
         return decline(k, why);
     }
-    let next = answered(k, m, empty);
-    let effect = clears(k, m, empty);
     Checked {
         answer: tells(Told::Nothing),
-        check: next,
-        effect: effect,
+        check: answered(k, m, empty),
+        effect: clears(k, m, empty),
     }
 }

@@ -1,6 +1,8 @@
 // Write ended, synced.
-ghost use Rattle.std.specs.Prelude.{◌≡◌};
-ghost use Rattle.rules_base.specs.Refusals.{number_of};
+ghost use Rattle.std.specs.Prelude.{◌≡◌, not, ltb, [], ◌∷◌};
+ghost use Rattle.rules_base.specs.Refusals.{test, refusal, number_of};
+ghost use Rattle.rules_pool.specs.Jobs.{is_running};
+ghost use Rattle.rules_pool.specs.StateRules.{valid_pool};
 ghost use Rattle.rules_client.specs.Writes.{reach_bars, write_refusal, miss_step, missed, loses, marks, write_done, write_ended, syncs, sync_refusal, synced};
 
 use client_rules::rules::{jobs, valid};
@@ -17,9 +19,9 @@ fn reach_bars(ro: Roster, reached: u64) -> bool
     roster::ids(Kind::Normals, ro) == 0 || roster::ids(Kind::Abnormal(reached), ro) != 0
 }
 
-#[tactic(auto, unfolding(rules_client::specs::Writes::write_refusal))]
-fn write_allowed(p: Pool, sound: bool, chunk: u64, reached: u64) -> Result<(), Refusal>
-    ensures { number_of result ≡ write_refusal p sound chunk reached }
+// What both events test before their own tests, told whether an id or a set is too high.
+fn chunk_allowed(p: Pool, sound: bool, high: bool, chunk: u64) -> Result<(), Refusal>
+    ensures { number_of result ≡ refusal (test 1 (not (valid_pool p)) ∷ test 2 (not sound) ∷ test 3 high ∷ test 4 (not (ltb chunk p.chunks)) ∷ test 5 p.roster.sync ∷ test 6 (is_running p.job) ∷ []) }
 {
     if !valid(p) {
         return Err(Refusal::BadState);
@@ -27,7 +29,7 @@ fn write_allowed(p: Pool, sound: bool, chunk: u64, reached: u64) -> Result<(), R
     if !sound {
         return Err(Refusal::BadMap);
     }
-    if 65535 < reached {
+    if high {
         return Err(Refusal::BadId);
     }
     if p.chunks <= chunk {
@@ -39,6 +41,14 @@ fn write_allowed(p: Pool, sound: bool, chunk: u64, reached: u64) -> Result<(), R
     if jobs::is_running(p.job) {
         return Err(Refusal::JobInHand);
     }
+    Ok(())
+}
+
+#[tactic(auto, unfolding(rules_client::specs::Writes::write_refusal))]
+fn write_allowed(p: Pool, sound: bool, chunk: u64, reached: u64) -> Result<(), Refusal>
+    ensures { number_of result ≡ write_refusal p sound chunk reached }
+{
+    chunk_allowed(p, sound, 65535 < reached, chunk)?;
     if reach_bars(p.roster, reached) {
         return Err(Refusal::NotNormal);
     }
@@ -144,24 +154,7 @@ fn may_sync(ro: Roster, member: u64, clean: u64) -> bool
 fn sync_allowed(p: Pool, sound: bool, member: u64, chunk: u64, clean: u64) -> Result<(), Refusal>
     ensures { number_of result ≡ sync_refusal p sound member chunk clean }
 {
-    if !valid(p) {
-        return Err(Refusal::BadState);
-    }
-    if !sound {
-        return Err(Refusal::BadMap);
-    }
-    if 15 < member {
-        return Err(Refusal::BadId);
-    }
-    if p.chunks <= chunk {
-        return Err(Refusal::BadChunk);
-    }
-    if p.roster.sync {
-        return Err(Refusal::OtherPool);
-    }
-    if jobs::is_running(p.job) {
-        return Err(Refusal::JobInHand);
-    }
+    chunk_allowed(p, sound, 15 < member, chunk)?;
     if state::is_free(roster::session(p.roster, member).state) {
         return Err(Refusal::NoSession);
     }

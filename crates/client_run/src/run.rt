@@ -159,23 +159,45 @@ fn version_brought(members: u64, version: u64, best: u64, r: Run, b: Option<u64>
     }
 }
 
+// The next message of a spread, or what comes after its last one.
+fn step_next<F: Fn(Step) -> Phase>(s: Step, r: Run, phase: F, over: Option<Run>) -> Option<Run>
+    requires { F.IsAlwaysCallable phase }
+    ensures ready { s ≡ Step.Ready → (p : Phase) × F.post phase Step.Send p × (result ≡ ahead r p) }
+    ensures send { s ≡ Step.Send → (p : Phase) × F.post phase Step.Done p × (result ≡ ahead r p) }
+    ensures done { s ≡ Step.Done → result ≡ over }
+{
+    match s {
+        Step::Ready => ahead(r, phase(Step::Send)),
+        Step::Send => ahead(r, phase(Step::Done)),
+        Step::Done => over,
+    }
+}
+
 #[tactic(auto, unfolding(rules_pool::specs::Run::good))]
 fn good(members: u64, version: u64, r: Run, b: Option<u64>) -> Move
     ensures { result ≡ good members version r b }
 {
+    let others = rest(r);
     match r.phase {
         Phase::Versions(best) => version_brought(members, version, best, r, b),
-        Phase::Base(Step::Ready) => went_on(r, ahead(r, Phase::Base(Step::Send))),
-        Phase::Base(Step::Send) => went_on(r, ahead(r, Phase::Base(Step::Done))),
-        Phase::Base(Step::Done) => went_on(r, to_base(members, r, r.source, rest(r))),
-        Phase::LastIo => went_on(r, to_last(members, r, r.source, rest(r))),
-        Phase::Gather(Step::Ready) => went_on(r, ahead(r, Phase::Gather(Step::Send))),
-        Phase::Gather(Step::Send) => went_on(r, ahead(r, Phase::Gather(Step::Done))),
-        Phase::Gather(Step::Done) => went_on(r, to_gather(members, r, r.source, rest(r))),
+        Phase::Base(s) => {
+            let over = to_base(members, r, r.source, others);
+            went_on(r, step_next(s, r, Phase::Base, over))
+        }
+        Phase::LastIo => went_on(r, to_last(members, r, r.source, others)),
+        Phase::Gather(s) => {
+            let over = to_gather(members, r, r.source, others);
+            went_on(r, step_next(s, r, Phase::Gather, over))
+        }
         Phase::Enable(_) => became_normal(r, to_spread(r, r.left), r.source),
-        Phase::Spread(Step::Ready) => went_on(r, ahead(r, Phase::Spread(Step::Send))),
-        Phase::Spread(Step::Send) => went_on(r, ahead(r, Phase::Spread(Step::Done))),
-        Phase::Spread(Step::Done) => became_normal(r, to_spread(r, rest(r)), hand(r)),
+        Phase::Spread(s) => {
+            let next = step_next(s, r, Phase::Spread, to_spread(r, others));
+            if s == Step::Done {
+                became_normal(r, next, hand(r))
+            } else {
+                went_on(r, next)
+            }
+        }
     }
 }
 

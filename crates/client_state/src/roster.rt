@@ -5,7 +5,6 @@ ghost use Rattle.rules_pool.specs.Sessions.{session_at, stored, misplaced, outsi
 use crate::state::{
     is_candidate, is_cut, is_deleting, is_failed, is_free, is_normal, is_owed, is_told,
 };
-use map_numbers::numbers::pick;
 use map_numbers::sets::has;
 use rules_pool::{Kind, Roster, Session, State};
 
@@ -82,10 +81,8 @@ pub fn ids(k: Kind, ro: Roster) -> u64
     ensures { result ≡ ids_of k ro }
 {
     let mut n = 0;
-    // An index: the record's id is needed.
-    for i in 0..16 {
-        let s = ro.sessions[i as usize];
-        n += pick(is_kind(k, ro.sync, ro.members, i, s), 1u64 << i, 0);
+    for (i, s) in ro.sessions.iter().enumerate() {
+        n += u64::from(is_kind(k, ro.sync, ro.members, i as u64, *s)) << i;
     }
     n
 }

@@ -10,9 +10,10 @@ use Rattle.laws_words.specs.Words.{pick}
 use Rattle.text_bytes.specs.Ink.{Ink, emits}
 use Rattle.text_bytes.proofs.Laws.{emits-all, emits-end}
 use Rattle.compare_walk.specs.Dumps.{dumps_refusal}
+use Rattle.std.specs.Prelude.{Result, Ok, Err, Option, Some, None}
 use Rattle.compare_walk.proofs.DumpsLaws.{good}
 use Rattle.compare_walk.specs.declared.differences.Difference.{Difference}
-use Rattle.compare_walk.specs.declared.differences.Next.{Next}
+use Rattle.compare_walk.specs.declared.dumps.Refused.{Refused}
 use Rattle.compare_walk.specs.Differences.{difference_at, first_place, place_of, next_difference, list_from}
 use Rattle.compare_walk.proofs.Places.{place-from, hop-none, hop-found, is_found, is-over, next-taken, next-refused}
 use Rattle.compare_say.specs.Said.{line_text, lines_text, member_text}
@@ -28,23 +29,23 @@ record At (xs ys : List ℕ) (m c : ℕ) (d : Difference) : Type 0 where
   is : d ≡ difference_at xs ys (stop xs ys m c)
 
 -- two different answers
-not_found : {P : Type 0} {a : Next} {n : ℕ} {d : Difference} → a ≡ Next.Refused n → a ≡ Next.Found d → P
+not_found : {P : Type 0} {a : Result (Option Difference) Refused} {n : Refused} {d : Difference} → a ≡ Err n → a ≡ Ok (Some d) → P
 not_found p q = let z : ◌≡◌ {A = ℕ} 0 1 = cc in absurd (omega arith)
 
-not-over : {P : Type 0} {a : Next} {n : ℕ} → a ≡ Next.Refused n → a ≡ Next.Over → P
+not-over : {P : Type 0} {a : Result (Option Difference) Refused} {n : Refused} → a ≡ Err n → a ≡ Ok None → P
 not-over p q = let z : ◌≡◌ {A = ℕ} 0 1 = cc in absurd (omega arith)
 
-over-not-found : {P : Type 0} {a : Next} {d : Difference} → a ≡ Next.Over → a ≡ Next.Found d → P
+over-not-found : {P : Type 0} {a : Result (Option Difference) Refused} {d : Difference} → a ≡ Ok None → a ≡ Ok (Some d) → P
 over-not-found p q = let z : ◌≡◌ {A = ℕ} 0 1 = cc in absurd (omega arith)
 
-at : (xs ys : List ℕ) (m c : ℕ) (d : Difference) → next_difference xs ys m c ≡ Next.Found d → At xs ys m c d
+at : (xs ys : List ℕ) (m c : ℕ) (d : Difference) → next_difference xs ys m c ≡ Ok (Some d) → At xs ys m c d
 at xs ys m c d e =
     by_cases (eqb (dumps_refusal xs ys m) 0)
     (λ a. let n : dumps_refusal xs ys m ≡ 0 = eqb-true (dumps_refusal xs ys m) 0 a in
     let t = next-taken xs ys m c n in
     by_cases (ltb (stop xs ys m c) 65536)
     (λ b. let l = ltb-true (stop xs ys m c) 65536 b in record { none = n; low = l; is = cc (e, t, is_found xs ys (stop xs ys m c) l) })
-    (λ b. over-not-found (t ∙ is-over xs ys (stop xs ys m c) (ltb-false (stop xs ys m c) 65536 b)) e))
+    (λ b. over-not-found (t ∙ ap Ok (is-over xs ys (stop xs ys m c) (ltb-false (stop xs ys m c) 65536 b))) e))
     (λ a. not_found (next-refused xs ys m c _ (eqb-false (dumps_refusal xs ys m) 0 a) refl) e)
 
 -- ---- the loop
@@ -64,13 +65,13 @@ lined-start xs ys m k = let a : 4096 * m + 0 ≡ 4096 * m = omega arith in recor
 ended : {xs ys : List ℕ} {m c : ℕ} {r k : Ink} → Lined xs ys m r k c → left xs ys m c ≡ [] → k ≡ r
 ended {k = k} v e = sym (emits-end k) ∙ (rw e at v.rest)
 
-pub lined-refused : {xs ys : List ℕ} {m c n : ℕ} {r k : Ink} → Lined xs ys m r k c → next_difference xs ys m c ≡ Next.Refused n → k ≡ r
+pub lined-refused : {xs ys : List ℕ} {m c : ℕ} {n : Refused} {r k : Ink} → Lined xs ys m r k c → next_difference xs ys m c ≡ Err n → k ≡ r
 lined-refused {xs} {ys} {m} {c} v e =
     by_cases (eqb (dumps_refusal xs ys m) 0)
     (λ a. let t = next-taken xs ys m c (eqb-true (dumps_refusal xs ys m) 0 a) in
     by_cases (ltb (stop xs ys m c) 65536)
-    (λ b. not_found e (t ∙ is_found xs ys (stop xs ys m c) (ltb-true (stop xs ys m c) 65536 b)))
-    (λ b. not-over e (t ∙ is-over xs ys (stop xs ys m c) (ltb-false (stop xs ys m c) 65536 b))))
+    (λ b. not_found e (t ∙ ap Ok (is_found xs ys (stop xs ys m c) (ltb-true (stop xs ys m c) 65536 b))))
+    (λ b. not-over e (t ∙ ap Ok (is-over xs ys (stop xs ys m c) (ltb-false (stop xs ys m c) 65536 b)))))
     (λ a. ended v (rw a))
 
 -- the search found nothing in this row
@@ -83,18 +84,18 @@ row-over {xs} {ys} {m} {c} v n h =
     let h' : 4096 * m + 4096 ≤ first_place xs ys (4096 * m + c) (65536 - (4096 * m + c)) = rw q at h in
     ended v (rw (eq-eqb (dumps_refusal xs ys m) 0 n, hop-none xs ys (65536 - (4096 * m + c)) (4096 - c) (4096 * m + c) (omega arith) (omega arith)))
 
-pub lined-over : {xs ys : List ℕ} {m c : ℕ} {r k : Ink} → Lined xs ys m r k c → next_difference xs ys m c ≡ Next.Over → k ≡ r
+pub lined-over : {xs ys : List ℕ} {m c : ℕ} {r k : Ink} → Lined xs ys m r k c → next_difference xs ys m c ≡ Ok None → k ≡ r
 lined-over {xs} {ys} {m} {c} v e =
     by_cases (eqb (dumps_refusal xs ys m) 0)
     (λ a. let n = eqb-true (dumps_refusal xs ys m) 0 a in
     let g : m < 16 = (good xs ys m n).member in
     let t = next-taken xs ys m c n in
     by_cases (ltb (stop xs ys m c) 65536)
-    (λ b. over-not-found e (t ∙ is_found xs ys (stop xs ys m c) (ltb-true (stop xs ys m c) 65536 b)))
+    (λ b. over-not-found e (t ∙ ap Ok (is_found xs ys (stop xs ys m c) (ltb-true (stop xs ys m c) 65536 b))))
     (λ b. let h : 65536 ≤ stop xs ys m c = ltb-false (stop xs ys m c) 65536 b in row-over v n (omega arith)))
     (λ a. not-over (next-refused xs ys m c _ (eqb-false (dumps_refusal xs ys m) 0 a) refl) e)
 
-pub lined-past : {xs ys : List ℕ} {m c : ℕ} {r k : Ink} {d : Difference} → Lined xs ys m r k c → next_difference xs ys m c ≡ Next.Found d → m < d.member → k ≡ r
+pub lined-past : {xs ys : List ℕ} {m c : ℕ} {r k : Ink} {d : Difference} → Lined xs ys m r k c → next_difference xs ys m c ≡ Ok (Some d) → m < d.member → k ≡ r
 lined-past {xs} {ys} {m} {c} {r} {k} {d} v e h =
     let w = at xs ys m c d e in
     let h' : m < stop xs ys m c / 4096 = rw w.is at h in
@@ -106,7 +107,7 @@ pub record More (xs ys : List ℕ) (m : ℕ) (r k : Ink) (c : ℕ) (d : Differen
   pub low : d.chunk < 4096
   pub then : Lined xs ys m r k (d.chunk + 1)
 
-pub lined-more : {xs ys : List ℕ} {m c : ℕ} {r k k' : Ink} {d : Difference} → Lined xs ys m r k c → next_difference xs ys m c ≡ Next.Found d → d.member ≤ m → k' ≡ emits k (line_text d) → More xs ys m r k' c d
+pub lined-more : {xs ys : List ℕ} {m c : ℕ} {r k k' : Ink} {d : Difference} → Lined xs ys m r k c → next_difference xs ys m c ≡ Ok (Some d) → d.member ≤ m → k' ≡ emits k (line_text d) → More xs ys m r k' c d
 unfolding lines_text
 lined-more {xs} {ys} {m} {c} {r} {k} {k'} {d} v e h f =
     let w = at xs ys m c d e in

@@ -1,12 +1,12 @@
 -- What is printed of two dumps.
-use Rattle.std.specs.Prelude.{Bool, ◌&&◌, List, [], ◌∷◌, ℕ, ◌*◌, eqb, length}
+use Rattle.std.specs.Prelude.{Result, Ok, Err, Option, Some, None, Bool, ◌&&◌, List, [], ◌∷◌, ℕ, ◌*◌, eqb, length}
 use Rattle.laws_words.specs.Words.{pick}
 use Rattle.text_bytes.specs.Bytes.{bytes}
 use Rattle.text_bytes.specs.Ink.{decimal, joined}
 use Rattle.rules_base.specs.Limits.{map_bytes}
-use Rattle.compare_walk.specs.Dumps.{dumps_refusal}
+use Rattle.compare_walk.specs.Dumps.{dumps_refusal, number}
 use Rattle.compare_walk.specs.declared.differences.Difference.{Difference}
-use Rattle.compare_walk.specs.declared.differences.Next.{Next}
+use Rattle.compare_walk.specs.declared.dumps.Refused.{Refused}
 use Rattle.compare_walk.specs.Differences.{next_difference, list_from, differences}
 
 -- MEMBER CHUNK WHICH and a newline: 32 is a space, 10 the newline
@@ -22,10 +22,10 @@ unfoldable pub member_text : List ℕ → List ℕ → ℕ → List ℕ
 member_text xs ys m = pick (eqb (dumps_refusal xs ys m) 0) (lines_text (list_from xs ys (4096 * m) 4096)) []
 
 -- what comes before the lines
-abbrev pub head_of : Next → List ℕ
-head_of (Next.Refused n) = joined (bytes "refused " ∷ decimal n ∷ (10 ∷ []) ∷ [])
-head_of (Next.Found d) = []
-head_of Next.Over = joined (bytes "same" ∷ (10 ∷ []) ∷ [])
+abbrev pub head_of : Result (Option Difference) Refused → List ℕ
+head_of (Err r) = joined (bytes "refused " ∷ decimal (number r) ∷ (10 ∷ []) ∷ [])
+head_of (Ok (Some d)) = []
+head_of (Ok None) = joined (bytes "same" ∷ (10 ∷ []) ∷ [])
 
 unfoldable pub head_text : List ℕ → List ℕ → List ℕ
 head_text xs ys = head_of (next_difference xs ys 0 0)

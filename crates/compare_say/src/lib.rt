@@ -5,7 +5,7 @@ ghost use Rattle.std.specs.Prelude.{◌≡◌};
 ghost use Rattle.text_bytes.specs.Ink.{ink, emits};
 ghost use Rattle.compare_say.specs.Said.{line_text, member_text, head_text};
 
-use compare_walk::differences::{Difference, Next};
+use compare_walk::differences::{Difference, next_difference};
 
 fn put_line(out: &mut [u8], at: usize, d: Difference) -> usize
     ensures { ink out.new result ≡ emits (ink out.old at) (line_text d) }
@@ -23,12 +23,13 @@ pub fn put_member(out: &mut [u8], at: usize, first: &[u8], second: &[u8], member
     ensures { ink out.new result ≡ emits (ink out.old at) (member_text first.now second.now member) }
 {
     let mut to = at;
-    let mut c: u64 = 0;
+    let mut c = 0;
     while c < 4096 {
-        match compare_walk::differences::next_difference(first, second, member, c) {
-            Next::Refused(_) => return to,
-            Next::Over => return to,
-            Next::Found(d) => {
+        match next_difference(first, second, member, c) {
+            // Two arms: under one pattern for both, the proof is not told which of the two it was.
+            Err(_) => return to,
+            Ok(None) => return to,
+            Ok(Some(d)) => {
                 if member < d.member {
                     return to;
                 }
@@ -44,13 +45,13 @@ pub fn put_member(out: &mut [u8], at: usize, first: &[u8], second: &[u8], member
 pub fn put_head(out: &mut [u8], at: usize, first: &[u8], second: &[u8]) -> usize
     ensures { ink out.new result ≡ emits (ink out.old at) (head_text first.now second.now) }
 {
-    match compare_walk::differences::next_difference(first, second, 0, 0) {
-        Next::Refused(n) => {
+    match next_difference(first, second, 0, 0) {
+        Err(why) => {
             let a = text_bytes::put_bytes(out, at, b"refused ");
-            let b = text_bytes::put_number(out, a, n);
+            let b = text_bytes::put_number(out, a, why.number());
             text_bytes::put(out, b, 10)
         }
-        Next::Found(_) => at,
-        Next::Over => text_bytes::put_bytes(out, at, b"same\n"),
+        Ok(Some(_)) => at,
+        Ok(None) => text_bytes::put_bytes(out, at, b"same\n"),
     }
 }

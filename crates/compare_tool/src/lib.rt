@@ -7,16 +7,9 @@ use std::rt::Files;
 use std::{fs, io};
 use text_bytes::failing;
 
-// How many bytes were read, or that the file can't be read.
-#[derive(Clone, Copy)]
-pub enum Taken {
-    Unread,
-    Bytes(usize),
-}
-
 // The file's bytes, as far as buf goes: a buffer that is longer than a dump tells a longer file.
 fn read_all(file: &mut impl Read, buf: &mut [u8]) -> io::Result<usize> {
-    let mut n: usize = 0;
+    let mut n = 0;
     while n < buf.len() {
         let k = file.read(&mut buf[n..])?;
         if k == 0 {
@@ -32,12 +25,13 @@ fn read_file(rt: &impl Files, name: &str, buf: &mut [u8]) -> io::Result<usize> {
     read_all(&mut file, buf)
 }
 
-fn load(rt: &impl Files, errors: &impl Print, name: &str, buf: &mut [u8]) -> Taken {
+// How many bytes were read; none where the file can't be read, and then it was said why.
+fn load(rt: &impl Files, errors: &impl Print, name: &str, buf: &mut [u8]) -> Option<usize> {
     match read_file(rt, name, buf) {
-        Ok(n) => Taken::Bytes(n),
+        Ok(n) => Some(n),
         Err(e) => {
             failing::say(errors, name.as_bytes(), e);
-            Taken::Unread
+            None
         }
     }
 }
@@ -45,8 +39,7 @@ fn load(rt: &impl Files, errors: &impl Print, name: &str, buf: &mut [u8]) -> Tak
 // Writes what stands in out up to at.
 fn flush(rt: &impl Print, at: usize, out: &[u8]) -> io::Result<()> {
     if at <= out.len() {
-        let z = 0;
-        rt.write_all(&out[z..at])?;
+        rt.write_all(&out[..at])?;
     }
     Ok(())
 }
@@ -66,10 +59,8 @@ fn say_member(
 fn say_all(rt: &impl Print, first: &[u8], second: &[u8], out: &mut [u8]) -> io::Result<()> {
     let at = compare_say::put_head(out, 0, first, second);
     flush(rt, at, out)?;
-    let mut m: u64 = 0;
-    while m < 16 {
+    for m in 0..16 {
         say_member(rt, first, second, m, out)?;
-        m += 1;
     }
     Ok(())
 }
@@ -82,19 +73,15 @@ pub fn run(
     second: &mut [u8],
     out: &mut [u8],
 ) -> io::Result<()> {
-    let Taken::Bytes(n) = load(rt, errors, "first.map", first) else {
+    let Some(n) = load(rt, errors, "first.map", first) else {
         return Ok(());
     };
-    let Taken::Bytes(k) = load(rt, errors, "second.map", second) else {
+    let Some(k) = load(rt, errors, "second.map", second) else {
         return Ok(());
     };
     // never more than the buffer, which is asked here so that no contract has to say it
-    if first.len() < n {
+    if first.len() < n || second.len() < k {
         return Ok(());
     }
-    if second.len() < k {
-        return Ok(());
-    }
-    let z = 0;
-    say_all(rt, &first[z..n], &second[z..k], out)
+    say_all(rt, &first[..n], &second[..k], out)
 }

@@ -1,5 +1,5 @@
 -- The laws of specs/Laws.antt. Assumes nothing.
-use mathlib.Core.Path.{◌≡◌, refl}
+use mathlib.Core.Path.{◌≡◌, refl, sym}
 use mathlib.Core.Bool.{Bool, true, false, not, ◌||◌}
 use mathlib.Core.List.{List}
 use mathlib.Core.Logic.{⊎_elim, inl, inr}
@@ -8,10 +8,13 @@ use native.Mathlib.Omega.{arith}
 use lib.Dec.{eqb, ltb}
 use lib.ListN.{length, take, drop, length-take, length-drop}
 use borrow.Author.Tests.{eq-eqb, ne_eqb, lt-ltb, le-ltb, eqb-true, eqb-false, ltb-true, ltb-false}
-use Rattle.laws_words.specs.Tests.{by_cases}
+use Rattle.laws_words.specs.Tests.{by_cases, clash}
 use Rattle.rules_base.specs.Map.{row_of}
-use Rattle.compare_walk.specs.Dumps.{dumps_refusal, newer_row}
-use Rattle.compare_walk.specs.DumpsLaws.{Short, NoMember, Taken, Empty, FromSecond, FromFirst, Whole}
+use Rattle.compare_walk.specs.Dumps.{dumps_refusal, refused_by, dumps_taken, newer_row}
+use Rattle.compare_walk.specs.declared.dumps.Refused.{Refused}
+use Rattle.std.specs.Prelude.{Ok, Err}
+use Rattle.std.specs.Result.{is_err}
+use Rattle.compare_walk.specs.DumpsLaws.{Short, NoMember, Taken, Numbered, Empty, FromSecond, FromFirst, Whole}
 
 or-true : (b : Bool) → (b || true) ≡ true
 or-true true = refl
@@ -48,6 +51,41 @@ good xs ys m e =
     by_cases (ltb m 16) (λ l. record { first = h; second = g; member = ltb-true m 16 l }) (λ l. no_zero 3 (omega arith) (no_member xs ys m h g (ltb-false m 16 l)) e))
     (λ b. no_zero 2 (omega arith) (short xs ys m (inr (eqb-false (length ys) 8192 b))) e))
     (λ a. no_zero 2 (omega arith) (short xs ys m (inl (eqb-false (length xs) 8192 a))) e)
+
+-- ---- what is answered
+pub taken-none : (xs ys : List ℕ) (m : ℕ) → dumps_refusal xs ys m ≡ 0 → dumps_taken xs ys m ≡ Ok tt
+unfolding dumps_taken
+taken-none xs ys m e = rw e refl
+
+pub taken-no : (xs ys : List ℕ) (m n : ℕ) → (n ≡ 0 → ⊥) → dumps_refusal xs ys m ≡ n → dumps_taken xs ys m ≡ Err (refused_by n)
+unfolding dumps_taken
+taken-no xs ys m n h e = rw (e, ne_eqb n 0 h) refl
+
+pub numbered : Numbered
+numbered xs ys m =
+    by_cases (eqb (length xs) 8192)
+    (λ a. by_cases (eqb (length ys) 8192)
+    (λ b. let h = eqb-true (length xs) 8192 a in let g = eqb-true (length ys) 8192 b in
+    by_cases (ltb m 16)
+    (λ l. let e = taken xs ys m h g (ltb-true m 16 l) in rw (taken-none xs ys m e, e) refl)
+    (λ l. let e = no_member xs ys m h g (ltb-false m 16 l) in rw (taken-no xs ys m 3 (λ k. omega arith) e, e) refl))
+    (λ b. let e = short xs ys m (inr (eqb-false (length ys) 8192 b)) in rw (taken-no xs ys m 2 (λ k. omega arith) e, e) refl))
+    (λ a. let e = short xs ys m (inl (eqb-false (length xs) 8192 a)) in rw (taken-no xs ys m 2 (λ k. omega arith) e, e) refl)
+
+-- what an answer says of the refusal
+pub is-taken : (xs ys : List ℕ) (m : ℕ) (u : Unit {0}) → dumps_taken xs ys m ≡ Ok u → dumps_refusal xs ys m ≡ 0
+is-taken xs ys m u e =
+    by_cases (eqb (dumps_refusal xs ys m) 0)
+    (λ a. eqb-true (dumps_refusal xs ys m) 0 a)
+    (λ a. let t = taken-no xs ys m _ (eqb-false (dumps_refusal xs ys m) 0 a) refl in let z : ◌≡◌ {A = ℕ} 0 1 = cc in absurd (omega arith))
+
+pub tells-none : (xs ys : List ℕ) (m : ℕ) → false ≡ is_err (dumps_taken xs ys m) → eqb (dumps_refusal xs ys m) 0 ≡ true
+unfolding dumps_taken
+tells-none xs ys m e = by_cases (eqb (dumps_refusal xs ys m) 0) (λ a. a) (λ a. let h : false ≡ true = rw a at e in clash refl (sym h))
+
+pub tells-refused : (xs ys : List ℕ) (m : ℕ) → true ≡ is_err (dumps_taken xs ys m) → eqb (dumps_refusal xs ys m) 0 ≡ false
+unfolding dumps_taken
+tells-refused xs ys m e = by_cases (eqb (dumps_refusal xs ys m) 0) (λ a. let h : true ≡ false = rw a at e in clash refl h) (λ a. a)
 
 -- ---- the newer row
 pub empty : Empty

@@ -8,9 +8,11 @@ use lib.Dec.{eqb, ltb}
 use lib.ListN.{length}
 use borrow.Author.Tests.{eq-eqb, ne_eqb, lt-ltb, le-ltb, eqb-true, eqb-false, ltb-true, ltb-false}
 use Rattle.laws_words.specs.Tests.{by_cases}
-use Rattle.compare_walk.specs.Dumps.{dumps_refusal}
+use Rattle.compare_walk.specs.Dumps.{dumps_refusal, refused_by, dumps_taken}
+use Rattle.compare_walk.specs.declared.dumps.Refused.{Refused}
+use Rattle.std.specs.Prelude.{Ok, Err, Some, None}
 use Rattle.compare_walk.proofs.DumpsLaws.{taken}
-use Rattle.compare_walk.specs.declared.differences.Next.{Next}
+use Rattle.compare_walk.specs.declared.dumps.Refused.{Refused}
 use Rattle.compare_walk.specs.Differences.{which_at, difference_at, first_place, told, place_of, next_difference, list_from, walk}
 
 -- ---- one place: nothing there, or a difference there
@@ -74,19 +76,26 @@ hop-found xs ys (suc n) (suc k) p h l =
     (λ e. let z : p + suc k - suc p ≡ k = omega arith in rw (place_here xs ys p n e, z) (list-here xs ys p k e))
 
 -- ---- what is told
-pub is_found : (xs ys : List ℕ) (p : ℕ) → p < 65536 → told xs ys p ≡ Next.Found (difference_at xs ys p)
+pub is_found : (xs ys : List ℕ) (p : ℕ) → p < 65536 → told xs ys p ≡ Some (difference_at xs ys p)
 is_found xs ys p h = rw (lt-ltb p 65536 h)
 
-pub is-over : (xs ys : List ℕ) (p : ℕ) → 65536 ≤ p → told xs ys p ≡ Next.Over
+pub is-over : (xs ys : List ℕ) (p : ℕ) → 65536 ≤ p → told xs ys p ≡ None
 is-over xs ys p h = rw (le-ltb p 65536 h)
 
-pub next-taken : (xs ys : List ℕ) (m c : ℕ) → dumps_refusal xs ys m ≡ 0 → next_difference xs ys m c ≡ told xs ys (first_place xs ys (place_of m c) (65536 - place_of m c))
+pub next-taken : (xs ys : List ℕ) (m c : ℕ) → dumps_refusal xs ys m ≡ 0 → next_difference xs ys m c ≡ Ok (told xs ys (first_place xs ys (place_of m c) (65536 - place_of m c)))
 unfolding next_difference
 next-taken xs ys m c e = rw (eq-eqb (dumps_refusal xs ys m) 0 e)
 
-pub next-refused : (xs ys : List ℕ) (m c n : ℕ) → (n ≡ 0 → ⊥) → dumps_refusal xs ys m ≡ n → next_difference xs ys m c ≡ Next.Refused n
+pub next-refused : (xs ys : List ℕ) (m c n : ℕ) → (n ≡ 0 → ⊥) → dumps_refusal xs ys m ≡ n → next_difference xs ys m c ≡ Err (refused_by n)
 unfolding next_difference
 next-refused xs ys m c n h e = rw (e, ne_eqb n 0 h)
+
+pub next-err : (xs ys : List ℕ) (m c : ℕ) (r : Refused) → dumps_taken xs ys m ≡ Err r → next_difference xs ys m c ≡ Err r
+unfolding dumps_taken next_difference
+next-err xs ys m c r e =
+    by_cases (eqb (dumps_refusal xs ys m) 0)
+    (λ a. let h = rw a at e in let z : ◌≡◌ {A = ℕ} 0 1 = cc in absurd (omega arith))
+    (λ a. let h = rw a at e in rw a cc)
 
 -- a place's member and chunk
 pub place-of : (q : ℕ) → place_of (q / 4096) (q % 4096 + 1) ≡ suc q

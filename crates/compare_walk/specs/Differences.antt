@@ -1,11 +1,11 @@
 -- Where two map dumps differ. The places of a map in order are its members' chunks: place 4096m + c is chunk c of member m, and there are 65,536. No chunk count is known here, so
 -- every bit of a row counts.
-use Rattle.std.specs.Prelude.{Bool, List, [], ◌∷◌, ℕ, zero, suc, ◌+◌, ◌-◌, ◌*◌, ◌/◌, ◌%◌, min, eqb, ltb}
+use Rattle.std.specs.Prelude.{Result, Ok, Err, Option, Some, None, Bool, List, [], ◌∷◌, ℕ, zero, suc, ◌+◌, ◌-◌, ◌*◌, ◌/◌, ◌%◌, min, eqb, ltb}
 use Rattle.laws_words.specs.Words.{pick}
 use Rattle.rules_base.specs.Chunk.{dirty}
-use Rattle.compare_walk.specs.Dumps.{dumps_refusal}
+use Rattle.compare_walk.specs.Dumps.{dumps_refusal, refused_by}
 use Rattle.compare_walk.specs.declared.differences.Difference.{Difference}
-use Rattle.compare_walk.specs.declared.differences.Next.{Next}
+use Rattle.compare_walk.specs.declared.dumps.Refused.{Refused}
 
 -- 1 where member m's chunk c is dirty in the first dump only, 2 in the second only, 0 in both or in neither
 abbrev pub which_of : Bool → Bool → ℕ
@@ -27,16 +27,16 @@ first_place xs ys p zero = p
 first_place xs ys p (suc n) = pick (eqb (which_at xs ys p) 0) (first_place xs ys (suc p) n) p
 
 -- what is told of the place that was found
-abbrev pub told : List ℕ → List ℕ → ℕ → Next
-told xs ys p = pick (ltb p 65536) (Next.Found (difference_at xs ys p)) Next.Over
+abbrev pub told : List ℕ → List ℕ → ℕ → Option Difference
+told xs ys p = pick (ltb p 65536) (Some (difference_at xs ys p)) None
 
 -- the place at which a search from member m's chunk c begins; after a row's last chunk that is the next row's first
 abbrev pub place_of : ℕ → ℕ → ℕ
 place_of m c = 4096 * m + min c 4096
 
--- the first difference at or after member m's chunk c; two dumps or a member that are refused give the number
-unfoldable pub next_difference : List ℕ → List ℕ → ℕ → ℕ → Next
-next_difference xs ys m c = pick (eqb (dumps_refusal xs ys m) 0) (told xs ys (first_place xs ys (place_of m c) (65536 - place_of m c))) (Next.Refused (dumps_refusal xs ys m))
+-- the first difference at or after member m's chunk c; two dumps or a member that are refused give the refusal
+unfoldable pub next_difference : List ℕ → List ℕ → ℕ → ℕ → Result (Option Difference) Refused
+next_difference xs ys m c = pick (eqb (dumps_refusal xs ys m) 0) (Ok (told xs ys (first_place xs ys (place_of m c) (65536 - place_of m c)))) (Err (refused_by (dumps_refusal xs ys m)))
 
 -- ---- all of them
 -- the differences at the n places from p on
@@ -48,10 +48,10 @@ unfoldable pub differences : List ℕ → List ℕ → List Difference
 differences xs ys = list_from xs ys 0 65536
 
 -- a difference that was found, with those that follow it
-abbrev pub with_rest : Next → (Difference → List Difference) → List Difference
-with_rest (Next.Refused n) rest = []
-with_rest (Next.Found d) rest = d ∷ rest d
-with_rest Next.Over rest = []
+abbrev pub with_rest : Result (Option Difference) Refused → (Difference → List Difference) → List Difference
+with_rest (Err r) rest = []
+with_rest (Ok (Some d)) rest = d ∷ rest d
+with_rest (Ok None) rest = []
 
 -- what n questions find, the first from member m's chunk c, each other from the chunk after the one that was found
 unfoldable pub walk : ℕ → List ℕ → List ℕ → ℕ → ℕ → List Difference

@@ -1,8 +1,8 @@
 -- What must hold of the list of differences and of the walk. Each is a type; the files of proofs/ have its proof under the same name in small letters.
-use Rattle.std.specs.Prelude.{◌≡◌, ◌⊎◌, List, [], ◌∷◌, ℕ, ◌≤◌, ◌<◌, length, replicate, set}
+use Rattle.std.specs.Prelude.{◌≡◌, ◌⊎◌, Ok, Err, Some, None, List, [], ◌∷◌, ℕ, ◌≤◌, ◌<◌, length, replicate, set}
 use Rattle.rules_base.specs.Chunk.{dirty}
 use Rattle.compare_walk.specs.declared.differences.Difference.{Difference}
-use Rattle.compare_walk.specs.declared.differences.Next.{Next}
+use Rattle.compare_walk.specs.declared.dumps.Refused.{Refused}
 use Rattle.compare_walk.specs.Differences.{next_difference, list_from, differences, walk}
 
 -- d is in the list
@@ -47,8 +47,8 @@ Walked = (xs ys : List ℕ) (n : ℕ) → length xs ≡ 8192 → length ys ≡ 8
 
 -- The refusals: a dump of another length, whatever the member; then a member above 15.
 pub record Refusals : Type 0 where
-  pub short : (xs ys : List ℕ) (m c : ℕ) → ((length xs ≡ 8192 → ⊥) ⊎ (length ys ≡ 8192 → ⊥)) → next_difference xs ys m c ≡ Next.Refused 2
-  pub no_member : (xs ys : List ℕ) (m c : ℕ) → length xs ≡ 8192 → length ys ≡ 8192 → 16 ≤ m → next_difference xs ys m c ≡ Next.Refused 3
+  pub short : (xs ys : List ℕ) (m c : ℕ) → ((length xs ≡ 8192 → ⊥) ⊎ (length ys ≡ 8192 → ⊥)) → next_difference xs ys m c ≡ Err Refused.Dump
+  pub no_member : (xs ys : List ℕ) (m c : ℕ) → length xs ≡ 8192 → length ys ≡ 8192 → 16 ≤ m → next_difference xs ys m c ≡ Err Refused.Member
 
 -- ---- the ends of rows, computed: in a byte 1 is its first chunk, 128 its last
 abbrev pub empty : List ℕ
@@ -63,9 +63,9 @@ abbrev pub late : List ℕ
 late = set empty 8191 128
 
 pub record Ends : Type 0 where
-  pub last-of-a-row : next_difference early empty 0 4000 ≡ Next.Found (difference 0 4095 1)
-  pub first-of-the-next : next_difference empty early 0 4096 ≡ Next.Found (difference 1 0 2)
-  pub last-of-all : next_difference empty late 15 4000 ≡ Next.Found (difference 15 4095 2)
-  pub dirty-in-both : next_difference late late 15 4000 ≡ Next.Over
-  pub after-the-last : next_difference empty late 15 4096 ≡ Next.Over
+  pub last-of-a-row : next_difference early empty 0 4000 ≡ Ok (Some (difference 0 4095 1))
+  pub first-of-the-next : next_difference empty early 0 4096 ≡ Ok (Some (difference 1 0 2))
+  pub last-of-all : next_difference empty late 15 4000 ≡ Ok (Some (difference 15 4095 2))
+  pub dirty-in-both : next_difference late late 15 4000 ≡ Ok None
+  pub after-the-last : next_difference empty late 15 4096 ≡ Ok None
   pub across-a-row : list_from early empty 4090 10 ≡ difference 0 4095 1 ∷ difference 1 0 1 ∷ []

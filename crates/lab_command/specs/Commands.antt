@@ -1,74 +1,74 @@
 -- A line of a history, its newline cut off, to its command.
-use Rattle.std.specs.Prelude.{ℕ, Bool, true, ◌&&◌, ◌||◌, List, [], ◌∷◌, length, ltb, eqb}
+use Rattle.std.specs.Prelude.{ℕ, Bool, true, ◌&&◌, ◌||◌, List, [], ◌∷◌, length, ltb, eqb, Option, None}
+use Rattle.std.specs.Bool.{then_some}
+use Rattle.std.specs.Option.{option_or, unwrap_or}
 use Rattle.laws_words.specs.Words.{pick}
 use Rattle.text_words.specs.Lines.{line_of}
 use Rattle.text_words.specs.declared.lines.Line.{Line}
-use Rattle.text_words.specs.Names.{POKE, CLIENT, ROW, STAGING, BYTE, STAGING-BYTE, LEND, LEND-STAGING, POKE-NODE, SESSION, VERSION, COUNT, CHUNKS, MEMBERS, CUT, POKE-GOT, LOOK, WRITTEN, ASSEMBLED, TICK, DUE, ONCE, RECORD, SUMMARY}
+use Rattle.text_words.specs.declared.names.Name.{Name}
 use Rattle.lab_form.specs.declared.Form.{Form}
+use Rattle.lab_form.specs.declared.Head.{Head}
 use Rattle.lab_form.specs.declared.Which.{Which}
 use Rattle.lab_form.specs.declared.Command.{Command}
-use Rattle.lab_form.specs.Forms.{form_of, plain, pair}
+use Rattle.lab_form.specs.Forms.{form_of, num}
 use Rattle.event_number.specs.Values.{session_of, maybe_session}
 use Rattle.lab_command.specs.Events.{client_events, check_events, search_events, whole_events, store_events, service_events, transfer_events}
 
 -- The dirty chunks of a member, and how much of a map is lent.
-unfoldable pub looks : Form → Command → Command
-looks f rest =
-    pick (pair f ROW CLIENT 3 && ltb f.x2 16) (Command.Row Which.Client f.x2)
-    (pick (plain f ROW 3 && (ltb f.x1 16 && ltb f.x2 16)) (Command.Row (Which.Node f.x1) f.x2)
-    (pick (plain f STAGING 3 && (ltb f.x1 16 && ltb f.x2 16)) (Command.Row (Which.Staging f.x1) f.x2)
-    (pick (pair f LEND CLIENT 3 && ltb f.x2 8193) (Command.Lend Which.Client f.x2)
-    (pick (plain f LEND 3 && (ltb f.x1 16 && ltb f.x2 8193)) (Command.Lend (Which.Node f.x1) f.x2)
-    (pick (plain f LEND-STAGING 3 && (ltb f.x1 16 && ltb f.x2 8193)) (Command.Lend (Which.Staging f.x1) f.x2)
-    rest)))))
+unfoldable pub looks : Head → Form → Option Command
+looks (Head.Pair Name.Row Name.Client) f = then_some (eqb f.count 3 && ltb (num f 2) 16) (Command.Row Which.Client (num f 2))
+looks (Head.Plain Name.Row) f = then_some (eqb f.count 3 && (ltb (num f 1) 16 && ltb (num f 2) 16)) (Command.Row (Which.Node (num f 1)) (num f 2))
+looks (Head.Plain Name.Staging) f = then_some (eqb f.count 3 && (ltb (num f 1) 16 && ltb (num f 2) 16)) (Command.Row (Which.Staging (num f 1)) (num f 2))
+looks (Head.Pair Name.Lend Name.Client) f = then_some (eqb f.count 3 && ltb (num f 2) 8193) (Command.Lend Which.Client (num f 2))
+looks (Head.Plain Name.Lend) f = then_some (eqb f.count 3 && (ltb (num f 1) 16 && ltb (num f 2) 8193)) (Command.Lend (Which.Node (num f 1)) (num f 2))
+looks (Head.Plain Name.LendStaging) f = then_some (eqb f.count 3 && (ltb (num f 1) 16 && ltb (num f 2) 8193)) (Command.Lend (Which.Staging (num f 1)) (num f 2))
+looks _ f = None
 
 -- A byte stored in a map, and a number put into the client's state.
-unfoldable pub stores : Form → Command → Command
-stores f rest =
-    pick (pair f BYTE CLIENT 4 && (ltb f.x2 8192 && ltb f.x3 256)) (Command.Byte Which.Client f.x2 f.x3)
-    (pick (plain f BYTE 4 && (ltb f.x1 16 && (ltb f.x2 8192 && ltb f.x3 256))) (Command.Byte (Which.Node f.x1) f.x2 f.x3)
-    (pick (plain f STAGING-BYTE 4 && (ltb f.x1 16 && (ltb f.x2 8192 && ltb f.x3 256))) (Command.Byte (Which.Staging f.x1) f.x2 f.x3)
-    (pick (pair f POKE VERSION 3) (Command.PokeVersion f.x2)
-    (pick (pair f POKE COUNT 3 && ltb f.x2 65536) (Command.PokeCount f.x2)
-    (pick (pair f POKE CHUNKS 3 && ltb f.x2 65536) (Command.PokeChunks f.x2)
-    (pick (pair f POKE MEMBERS 3 && ltb f.x2 65536) (Command.PokeMembers f.x2)
-    rest))))))
+unfoldable pub stores : Head → Form → Option Command
+stores (Head.Pair Name.Byte Name.Client) f = then_some (eqb f.count 4 && (ltb (num f 2) 8192 && ltb (num f 3) 256)) (Command.Byte Which.Client (num f 2) (num f 3))
+stores (Head.Plain Name.Byte) f = then_some (eqb f.count 4 && (ltb (num f 1) 16 && (ltb (num f 2) 8192 && ltb (num f 3) 256))) (Command.Byte (Which.Node (num f 1)) (num f 2) (num f 3))
+stores (Head.Plain Name.StagingByte) f = then_some (eqb f.count 4 && (ltb (num f 1) 16 && (ltb (num f 2) 8192 && ltb (num f 3) 256))) (Command.Byte (Which.Staging (num f 1)) (num f 2) (num f 3))
+stores (Head.Pair Name.Poke Name.Version) f = then_some (eqb f.count 3) (Command.PokeVersion (num f 2))
+stores (Head.Pair Name.Poke Name.Count) f = then_some (eqb f.count 3 && ltb (num f 2) 65536) (Command.PokeCount (num f 2))
+stores (Head.Pair Name.Poke Name.Chunks) f = then_some (eqb f.count 3 && ltb (num f 2) 65536) (Command.PokeChunks (num f 2))
+stores (Head.Pair Name.Poke Name.Members) f = then_some (eqb f.count 3 && ltb (num f 2) 65536) (Command.PokeMembers (num f 2))
+stores _ f = None
 
 -- A session put into the client's state, and a node's state.
-unfoldable pub pokes : Form → Command → Command
-pokes f rest =
-    pick (pair f POKE SESSION 8 && (ltb f.x2 16 && maybe_session f.x3 f.x4 f.x5 f.x6 f.x7)) (Command.PokeSession f.x2 (session_of f.x3 f.x4 f.x5 f.x6 f.x7))
-    (pick (plain f POKE-NODE 8 && (ltb f.x1 16 && (ltb f.x2 5 && (ltb f.x3 2 && (ltb f.x4 2 && (ltb f.x5 65536 && ltb f.x7 3)))))) (Command.PokeNode f.x1 f.x2 (eqb f.x3 1) (eqb f.x4 1) f.x5 f.x6 f.x7)
-    rest)
+unfoldable pub pokes : Head → Form → Option Command
+pokes (Head.Pair Name.Poke Name.Session) f = then_some (eqb f.count 8 && (ltb (num f 2) 16 && maybe_session (num f 3) (num f 4) (num f 5) (num f 6) (num f 7))) (Command.PokeSession (num f 2) (session_of (num f 3) (num f 4) (num f 5) (num f 6) (num f 7)))
+pokes (Head.Plain Name.PokeNode) f = then_some (eqb f.count 8 && (ltb (num f 1) 16 && (ltb (num f 2) 5 && (ltb (num f 3) 2 && (ltb (num f 4) 2 && (ltb (num f 5) 65536 && ltb (num f 7) 3)))))) (Command.PokeNode (num f 1) (num f 2) (eqb (num f 3) 1) (eqb (num f 4) 1) (num f 5) (num f 6) (num f 7))
+pokes _ f = None
 
 -- The further fields of the pool and of a node: what they are, put into them; and how long the parts of a map are.
-unfoldable pub fields : Form → Command → Command
-fields f rest =
-    pick (plain f LOOK 1) Command.Look
-    (pick (plain f LOOK 2 && ltb f.x1 16) (Command.LookNode f.x1)
-    (pick (plain f POKE-GOT 3 && (ltb f.x1 16 && ltb f.x2 65536)) (Command.PokeGot f.x1 f.x2)
-    (pick (pair f POKE WRITTEN 3 && ltb f.x2 2) (Command.PokeWritten (eqb f.x2 1))
-    (pick (pair f POKE ASSEMBLED 3 && ltb f.x2 2) (Command.PokeAssembled (eqb f.x2 1))
-    (pick (plain f CUT 2 && (ltb 0 f.x1 && ltb f.x1 1025)) (Command.Cut f.x1)
-    rest)))))
+unfoldable pub fields : Head → Form → Option Command
+fields (Head.Plain Name.Look) f = option_or (then_some (eqb f.count 1) Command.Look) (then_some (eqb f.count 2 && ltb (num f 1) 16) (Command.LookNode (num f 1)))
+fields (Head.Plain Name.PokeGot) f = then_some (eqb f.count 3 && (ltb (num f 1) 16 && ltb (num f 2) 65536)) (Command.PokeGot (num f 1) (num f 2))
+fields (Head.Pair Name.Poke Name.Written) f = then_some (eqb f.count 3 && ltb (num f 2) 2) (Command.PokeWritten (eqb (num f 2) 1))
+fields (Head.Pair Name.Poke Name.Assembled) f = then_some (eqb f.count 3 && ltb (num f 2) 2) (Command.PokeAssembled (eqb (num f 2) 1))
+fields (Head.Plain Name.Cut) f = then_some (eqb f.count 2 && (ltb 0 (num f 1) && ltb (num f 1) 1025)) (Command.Cut (num f 1))
+fields _ f = None
 
 -- What map check knows, put into the client; and the record of its last event, looked at.
-unfoldable pub checks : Form → Command → Command
-checks f rest =
-    pick (plain f RECORD 1) Command.Record
-    (pick (pair f POKE TICK 3 && ltb f.x2 4294967296) (Command.PokeTick f.x2)
-    (pick (pair f POKE DUE 3 && ltb f.x2 65536) (Command.PokeDue f.x2)
-    (pick (pair f POKE ONCE 3 && ltb f.x2 65536) (Command.PokeOnce f.x2)
-    rest)))
+unfoldable pub checks : Head → Form → Option Command
+checks (Head.Plain Name.Record) f = then_some (eqb f.count 1) Command.Record
+checks (Head.Pair Name.Poke Name.Tick) f = then_some (eqb f.count 3 && ltb (num f 2) 4294967296) (Command.PokeTick (num f 2))
+checks (Head.Pair Name.Poke Name.Due) f = then_some (eqb f.count 3 && ltb (num f 2) 65536) (Command.PokeDue (num f 2))
+checks (Head.Pair Name.Poke Name.Once) f = then_some (eqb f.count 3 && ltb (num f 2) 65536) (Command.PokeOnce (num f 2))
+checks _ f = None
 
 -- A word put into a node's summaries.
-unfoldable pub words : Form → Command → Command
-words f rest = pick (plain f SUMMARY 4 && (ltb f.x1 16 && ltb f.x2 96)) (Command.Summary f.x1 f.x2 f.x3) rest
+unfoldable pub words : Head → Form → Option Command
+words (Head.Plain Name.Summary) f = then_some (eqb f.count 4 && (ltb (num f 1) 16 && ltb (num f 2) 96)) (Command.Summary (num f 1) (num f 2) (num f 3))
+words _ f = None
 
 -- What a line of words says. Each form stands once, and no two have the same words, so the order is free.
-unfoldable pub meaning : Line → Command
-meaning l =
-    client_events (form_of l) (check_events (form_of l) (search_events (form_of l) (whole_events (form_of l) (transfer_events (form_of l) (service_events (form_of l) (store_events (form_of l) (stores (form_of l) (looks (form_of l) (pokes (form_of l) (fields (form_of l) (checks (form_of l) (words (form_of l) Command.Unreadable))))))))))))
+unfoldable pub said : Form → Command
+said f = unwrap_or (option_or (option_or (option_or (option_or (option_or (option_or (option_or (option_or (option_or (option_or (option_or (option_or (client_events f.head f) (check_events f.head f)) (search_events f.head f)) (whole_events f.head f)) (transfer_events f.head f)) (service_events f.head f)) (store_events f.head f)) (stores f.head f)) (looks f.head f)) (pokes f.head f)) (fields f.head f)) (checks f.head f)) (words f.head f)) Command.Unreadable
+
+abbrev pub meaning : Line → Command
+meaning l = said (form_of l)
 
 -- An empty line is passed over, and one that begins with # (35), a comment, or with > (62), an answer that is expected.
 abbrev pub marks : ℕ → Bool

@@ -1,160 +1,162 @@
 // A line of a history to the command that it is.
 ghost use Rattle.std.specs.Prelude.{◌≡◌};
-ghost use Rattle.lab_command.specs.Commands.{marks, looks as Commands·looks, stores as Commands·stores, pokes as Commands·pokes, fields as Commands·fields, checks as Commands·checks, words as Commands·words, meaning, command_of};
+ghost use Rattle.lab_command.specs.Commands.{looks as Commands·looks, stores as Commands·stores, pokes as Commands·pokes, fields as Commands·fields, checks as Commands·checks, words as Commands·words, said as Commands·said, command_of};
 
-use lab_form::{Command, Form, Which, first, pair, plain};
-use text_words::lines::Line;
+use crate::events;
+use lab_form::Head::{Pair, Plain};
+use lab_form::{Command, Form, Which};
+use text_words::lines;
+use text_words::names::Name;
 
 // The dirty chunks of a member, and how much of a map is lent.
-fn looks(f: Form, rest: Command) -> Command
-    ensures { result ≡ Commands·looks f rest }
+#[tactic(auto, unfolding(crate::specs::Commands::looks))]
+fn looks(f: Form) -> Option<Command>
+    ensures { result ≡ Commands·looks f.head f }
 {
-    let x1 = f.x1;
-    let x2 = f.x2;
-    let is = plain(f, text_words::names::LEND_STAGING, 3) & ((x1 < 16) & (x2 < 8193));
-    let r = first(is, Command::Lend(Which::Staging(x1), x2), rest);
-    let is = plain(f, text_words::names::LEND, 3) & ((x1 < 16) & (x2 < 8193));
-    let r = first(is, Command::Lend(Which::Node(x1), x2), r);
-    let is = pair(f, text_words::names::LEND, text_words::names::CLIENT, 3) & (x2 < 8193);
-    let r = first(is, Command::Lend(Which::Client, x2), r);
-    let is = plain(f, text_words::names::STAGING, 3) & ((x1 < 16) & (x2 < 16));
-    let r = first(is, Command::Row(Which::Staging(x1), x2), r);
-    let is = plain(f, text_words::names::ROW, 3) & ((x1 < 16) & (x2 < 16));
-    let r = first(is, Command::Row(Which::Node(x1), x2), r);
-    let is = pair(f, text_words::names::ROW, text_words::names::CLIENT, 3) & (x2 < 16);
-    first(is, Command::Row(Which::Client, x2), r)
+    let [_, x1, x2, ..] = f.x;
+    Some(match (f.head, f.count) {
+        (Pair(Name::Row, Name::Client), 3) if x2 < 16 => Command::Row(Which::Client, x2),
+        (Plain(Name::Row), 3) if x1 < 16 && x2 < 16 => Command::Row(Which::Node(x1), x2),
+        (Plain(Name::Staging), 3) if x1 < 16 && x2 < 16 => Command::Row(Which::Staging(x1), x2),
+        (Pair(Name::Lend, Name::Client), 3) if x2 < 8193 => Command::Lend(Which::Client, x2),
+        (Plain(Name::Lend), 3) if x1 < 16 && x2 < 8193 => Command::Lend(Which::Node(x1), x2),
+        (Plain(Name::LendStaging), 3) if x1 < 16 && x2 < 8193 => Command::Lend(
+            Which::Staging(x1),
+            x2,
+        ),
+        _ => return None,
+    })
 }
 
 // A byte stored in a map, and a number put into the client's state.
-fn stores(f: Form, rest: Command) -> Command
-    ensures { result ≡ Commands·stores f rest }
+#[tactic(auto, unfolding(crate::specs::Commands::stores))]
+fn stores(f: Form) -> Option<Command>
+    ensures { result ≡ Commands·stores f.head f }
 {
-    let x1 = f.x1;
-    let x2 = f.x2;
-    let x3 = f.x3;
-    let is = pair(f, text_words::names::POKE, text_words::names::MEMBERS, 3) & (x2 < 65536);
-    let r = first(is, Command::PokeMembers(x2), rest);
-    let is = pair(f, text_words::names::POKE, text_words::names::CHUNKS, 3) & (x2 < 65536);
-    let r = first(is, Command::PokeChunks(x2), r);
-    let is = pair(f, text_words::names::POKE, text_words::names::COUNT, 3) & (x2 < 65536);
-    let r = first(is, Command::PokeCount(x2), r);
-    let is = pair(f, text_words::names::POKE, text_words::names::VERSION, 3);
-    let r = first(is, Command::PokeVersion(x2), r);
-    let is = plain(f, text_words::names::STAGING_BYTE, 4)
-        & ((x1 < 16) & ((x2 < 8192) & (x3 < 256)));
-    let r = first(is, Command::Byte(Which::Staging(x1), x2, x3), r);
-    let is = plain(f, text_words::names::BYTE, 4) & ((x1 < 16) & ((x2 < 8192) & (x3 < 256)));
-    let r = first(is, Command::Byte(Which::Node(x1), x2, x3), r);
-    let is = pair(f, text_words::names::BYTE, text_words::names::CLIENT, 4)
-        & ((x2 < 8192) & (x3 < 256));
-    first(is, Command::Byte(Which::Client, x2, x3), r)
+    let [_, x1, x2, x3, ..] = f.x;
+    Some(match (f.head, f.count) {
+        (Pair(Name::Byte, Name::Client), 4) if x2 < 8192 && x3 < 256 => Command::Byte(
+            Which::Client,
+            x2,
+            x3,
+        ),
+        (Plain(Name::Byte), 4) if x1 < 16 && x2 < 8192 && x3 < 256 => Command::Byte(
+            Which::Node(x1),
+            x2,
+            x3,
+        ),
+        (Plain(Name::StagingByte), 4) if x1 < 16 && x2 < 8192 && x3 < 256 => Command::Byte(
+            Which::Staging(x1),
+            x2,
+            x3,
+        ),
+        (Pair(Name::Poke, Name::Version), 3) => Command::PokeVersion(x2),
+        (Pair(Name::Poke, Name::Count), 3) if x2 < 65536 => Command::PokeCount(x2),
+        (Pair(Name::Poke, Name::Chunks), 3) if x2 < 65536 => Command::PokeChunks(x2),
+        (Pair(Name::Poke, Name::Members), 3) if x2 < 65536 => Command::PokeMembers(x2),
+        _ => return None,
+    })
 }
 
 // A session put into the client's state, and a node's state.
-fn pokes(f: Form, rest: Command) -> Command
-    ensures { result ≡ Commands·pokes f rest }
+#[tactic(auto, unfolding(crate::specs::Commands::pokes))]
+fn pokes(f: Form) -> Option<Command>
+    ensures { result ≡ Commands·pokes f.head f }
 {
-    let x1 = f.x1;
-    let x2 = f.x2;
-    let x3 = f.x3;
-    let x4 = f.x4;
-    let x5 = f.x5;
-    let x6 = f.x6;
-    let x7 = f.x7;
-    let may = event_number::maybe(x3, x4, x5, x6, x7);
-    let s = event_number::session_of(x3, x4, x5, x6, x7);
-    let is = plain(f, text_words::names::POKE_NODE, 8)
-        & ((x1 < 16) & ((x2 < 5) & ((x3 < 2) & ((x4 < 2) & ((x5 < 65536) & (x7 < 3))))));
-    let r = first(
-        is,
-        Command::PokeNode(x1, x2, x3 == 1, x4 == 1, x5, x6, x7),
-        rest,
-    );
-    let is = pair(f, text_words::names::POKE, text_words::names::SESSION, 8) & ((x2 < 16) & may);
-    first(is, Command::PokeSession(x2, s), r)
+    let [_, x1, x2, x3, x4, x5, x6, x7] = f.x;
+    Some(match (f.head, f.count) {
+        (Pair(Name::Poke, Name::Session), 8)
+            if x2 < 16 && event_number::maybe(x3, x4, x5, x6, x7) => Command::PokeSession(
+            x2,
+            event_number::session_of(x3, x4, x5, x6, x7),
+        ),
+        (Plain(Name::PokeNode), 8)
+            if x1 < 16 && x2 < 5 && x3 < 2 && x4 < 2 && x5 < 65536 && x7 < 3 => Command::PokeNode(
+            x1,
+            x2,
+            x3 == 1,
+            x4 == 1,
+            x5,
+            x6,
+            x7,
+        ),
+        _ => return None,
+    })
 }
 
 // The further fields of the pool and of a node: what they are, put into them; and how long the parts of a map are.
-fn fields(f: Form, rest: Command) -> Command
-    ensures { result ≡ Commands·fields f rest }
+#[tactic(auto, unfolding(crate::specs::Commands::fields))]
+fn fields(f: Form) -> Option<Command>
+    ensures { result ≡ Commands·fields f.head f }
 {
-    let x1 = f.x1;
-    let x2 = f.x2;
-    let is = plain(f, text_words::names::CUT, 2) & ((0 < x1) & (x1 < 1025));
-    let r = first(is, Command::Cut(x1), rest);
-    let is = pair(f, text_words::names::POKE, text_words::names::ASSEMBLED, 3) & (x2 < 2);
-    let r = first(is, Command::PokeAssembled(x2 == 1), r);
-    let is = pair(f, text_words::names::POKE, text_words::names::WRITTEN, 3) & (x2 < 2);
-    let r = first(is, Command::PokeWritten(x2 == 1), r);
-    let is = plain(f, text_words::names::POKE_GOT, 3) & ((x1 < 16) & (x2 < 65536));
-    let r = first(is, Command::PokeGot(x1, x2), r);
-    let is = plain(f, text_words::names::LOOK, 2) & (x1 < 16);
-    let r = first(is, Command::LookNode(x1), r);
-    let is = plain(f, text_words::names::LOOK, 1);
-    first(is, Command::Look, r)
+    let [_, x1, x2, ..] = f.x;
+    Some(match (f.head, f.count) {
+        (Plain(Name::Look), 1) => Command::Look,
+        (Plain(Name::Look), 2) if x1 < 16 => Command::LookNode(x1),
+        (Plain(Name::PokeGot), 3) if x1 < 16 && x2 < 65536 => Command::PokeGot(x1, x2),
+        (Pair(Name::Poke, Name::Written), 3) if x2 < 2 => Command::PokeWritten(x2 == 1),
+        (Pair(Name::Poke, Name::Assembled), 3) if x2 < 2 => Command::PokeAssembled(x2 == 1),
+        (Plain(Name::Cut), 2) if 0 < x1 && x1 < 1025 => Command::Cut(x1),
+        _ => return None,
+    })
 }
 
 // What map check knows, put into the client; and the record of its last event, looked at.
-fn checks(f: Form, rest: Command) -> Command
-    ensures { result ≡ Commands·checks f rest }
+#[tactic(auto, unfolding(crate::specs::Commands::checks))]
+fn checks(f: Form) -> Option<Command>
+    ensures { result ≡ Commands·checks f.head f }
 {
-    let x2 = f.x2;
-    let is = pair(f, text_words::names::POKE, text_words::names::ONCE, 3) & (x2 < 65536);
-    let r = first(is, Command::PokeOnce(x2), rest);
-    let is = pair(f, text_words::names::POKE, text_words::names::DUE, 3) & (x2 < 65536);
-    let r = first(is, Command::PokeDue(x2), r);
-    let is = pair(f, text_words::names::POKE, text_words::names::TICK, 3) & (x2 < 4294967296);
-    let r = first(is, Command::PokeTick(x2), r);
-    let is = plain(f, text_words::names::RECORD, 1);
-    first(is, Command::Record, r)
+    let [_, _, x2, ..] = f.x;
+    Some(match (f.head, f.count) {
+        (Plain(Name::Record), 1) => Command::Record,
+        (Pair(Name::Poke, Name::Tick), 3) if x2 < 4294967296 => Command::PokeTick(x2),
+        (Pair(Name::Poke, Name::Due), 3) if x2 < 65536 => Command::PokeDue(x2),
+        (Pair(Name::Poke, Name::Once), 3) if x2 < 65536 => Command::PokeOnce(x2),
+        _ => return None,
+    })
 }
 
 // A word put into a node's summaries.
-fn words(f: Form, rest: Command) -> Command
-    ensures { result ≡ Commands·words f rest }
+#[tactic(auto, unfolding(crate::specs::Commands::words))]
+fn words(f: Form) -> Option<Command>
+    ensures { result ≡ Commands·words f.head f }
 {
-    let x1 = f.x1;
-    let x2 = f.x2;
-    let x3 = f.x3;
-    let is = plain(f, text_words::names::SUMMARY, 4) & ((x1 < 16) & (x2 < 96));
-    first(is, Command::Summary(x1, x2, x3), rest)
+    let [_, x1, x2, x3, ..] = f.x;
+    Some(match (f.head, f.count) {
+        (Plain(Name::Summary), 4) if x1 < 16 && x2 < 96 => Command::Summary(x1, x2, x3),
+        _ => return None,
+    })
 }
 
-fn parse(l: Line) -> Command
-    ensures { result ≡ meaning l }
+// The command of a form. Each form stands once, so the order is free.
+#[tactic(auto, unfolding(crate::specs::Commands::said))]
+fn said(f: Form) -> Command
+    ensures { result ≡ Commands·said f }
 {
-    let f = lab_form::form_of(l);
-    let u = pokes(f, fields(f, checks(f, words(f, Command::Unreadable))));
-    let v = stores(f, looks(f, u));
-    let w = crate::events::transfer_events(
-        f,
-        crate::events::service_events(f, crate::events::store_events(f, v)),
-    );
-    let e = crate::events::search_events(f, crate::events::whole_events(f, w));
-    crate::events::client_events(f, crate::events::check_events(f, e))
+    events::client_events(f)
+        .or(events::check_events(f))
+        .or(events::search_events(f))
+        .or(events::whole_events(f))
+        .or(events::transfer_events(f))
+        .or(events::service_events(f))
+        .or(events::store_events(f))
+        .or(stores(f))
+        .or(looks(f))
+        .or(pokes(f))
+        .or(fields(f))
+        .or(checks(f))
+        .or(words(f))
+        .unwrap_or(Command::Unreadable)
 }
 
-// What a line that is passed over begins with: # for a comment, > for an answer that is expected.
-fn is_mark(b: u8) -> bool
-    ensures { result ≡ marks b }
-{
-    (b == 35) | (b == 62)
-}
-
-// A line, its newline cut off, to its command. A line longer than 255 bytes is none.
+// A line, its newline cut off, to its command. A line longer than 255 bytes is none; one that is empty, or begins with # for a comment or > for an answer that is expected, is passed over.
+#[tactic(auto, unfolding(crate::specs::Commands::command_of))]
 pub fn read(s: &[u8]) -> Command
     ensures { result ≡ command_of s.now }
 {
-    if s.len() == 0 {
-        return Command::Passed;
+    match s {
+        [] | [b'#' | b'>', ..] => Command::Passed,
+        _ if 255 < s.len() => Command::Unreadable,
+        _ => said(lab_form::form_of(lines::read_line(s))),
     }
-    let b = s[0];
-    let over = is_mark(b);
-    if over {
-        return Command::Passed;
-    }
-    if 255 < s.len() {
-        return Command::Unreadable;
-    }
-    parse(text_words::lines::read_line(s))
 }

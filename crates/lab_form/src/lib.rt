@@ -2,12 +2,12 @@
 #![tactic(auto)]
 
 ghost use Rattle.std.specs.Prelude.{◌≡◌};
-ghost use Rattle.laws_words.specs.Words.{pick};
-ghost use Rattle.lab_form.specs.Forms.{form_of, plain as Forms·plain, pair as Forms·pair, node as Forms·node};
+ghost use Rattle.lab_form.specs.Forms.{head_of, form_of};
 
 use event::{Event, NodeEvent, Question};
 use rules_pool::Session;
-use text_words::lines::Line;
+use text_words::lines::{self, Line, Token};
+use text_words::names::Name;
 
 // A map: the client's, a node's, a node's staging map.
 #[derive(Clone, Copy)]
@@ -56,77 +56,47 @@ pub enum Command {
     Record,
 }
 
-// What tells one form of a line from another: the names of its first three words (NUMBER for a number), how many words there are (9 where a later word is
-// no number), and the numbers from the second word on. A word that is not there is the number 0.
-#[derive(Clone, Copy)]
-pub struct Form {
-    pub a: u64,
-    pub b: u64,
-    pub c: u64,
-    pub count: u64,
-    pub x1: u64,
-    pub x2: u64,
-    pub x3: u64,
-    pub x4: u64,
-    pub x5: u64,
-    pub x6: u64,
-    pub x7: u64,
+// How a line begins. Plain: a name, then no other. Pair: two names, then no other. Node: the name of a node that there is, and a name. Other: anything else, as a line in
+// which a later word is no number.
+#[derive(Clone, Copy, PartialEq, Eq)]
+pub enum Head {
+    Plain(Name),
+    Pair(Name, Name),
+    Node(Name),
+    Other,
 }
 
-const NUMBER: u64 = 0;
+// What tells one form of a line from another: how it begins, how many words there are, and each word's number. A word that is not there is the number 0, as a name is.
+#[derive(Clone, Copy)]
+pub struct Form {
+    pub head: Head,
+    pub count: u64,
+    pub x: [u64; 8],
+}
 
-pub fn form_of(l: Line) -> Form
-    ensures { result ≡ form_of l }
+fn head_of(a: Token, b: Token, c: Token) -> Head
+    ensures { result ≡ head_of a b c }
 {
-    let t0 = l.toks[0];
-    let t1 = l.toks[1];
-    let t2 = l.toks[2];
-    let t3 = l.toks[3];
-    let t4 = l.toks[4];
-    let t5 = l.toks[5];
-    let t6 = l.toks[6];
-    let t7 = l.toks[7];
-    let rest = (t3.name == 0)
-        & ((t4.name == 0) & ((t5.name == 0) & ((t6.name == 0) & (t7.name == 0))));
-    Form {
-        a: t0.name,
-        b: t1.name,
-        c: t2.name,
-        count: map_numbers::numbers::choose(rest, l.count, 9),
-        x1: t1.num,
-        x2: t2.num,
-        x3: t3.num,
-        x4: t4.num,
-        x5: t5.num,
-        x6: t6.num,
-        x7: t7.num,
+    match (a, b, c) {
+        (Token::Word(name), Token::Number(_), Token::Number(_)) => Head::Plain(name),
+        (Token::Word(name), Token::Word(other), Token::Number(_)) => Head::Pair(name, other),
+        (Token::Word(Name::Node), Token::Number(n), Token::Word(name)) if n < 16 => Head::Node(name),
+        _ => Head::Other,
     }
 }
 
-// A name and numbers, n words in all.
-pub fn plain(f: Form, name: u64, n: u64) -> bool
-    ensures { result ≡ Forms·plain f name n }
+#[tactic(auto, unfolding(crate::specs::Forms::form_of))]
+pub fn form_of(l: Line) -> Form
+    ensures { result ≡ form_of l }
 {
-    (f.a == name) & ((f.b == NUMBER) & ((f.c == NUMBER) & (f.count == n)))
-}
-
-// Two names and numbers, n words in all.
-pub fn pair(f: Form, name: u64, other: u64, n: u64) -> bool
-    ensures { result ≡ Forms·pair f name other n }
-{
-    (f.a == name) & ((f.b == other) & ((f.c == NUMBER) & (f.count == n)))
-}
-
-// A node that there is, a name and numbers, n words in all.
-pub fn node(f: Form, name: u64, n: u64) -> bool
-    ensures { result ≡ Forms·node f name n }
-{
-    (f.a == text_words::names::NODE)
-        & ((f.b == NUMBER) & ((f.c == name) & ((f.count == n) & (f.x1 < 16))))
-}
-
-pub fn first(test: bool, command: Command, rest: Command) -> Command
-    ensures { result ≡ pick test command rest }
-{
-    if test { command } else { rest }
+    let head = if lines::are_numbers(&l.toks[3..]) {
+        head_of(l.toks[0], l.toks[1], l.toks[2])
+    } else {
+        Head::Other
+    };
+    Form {
+        head,
+        count: l.count,
+        x: l.toks.map(|t| t.number()),
+    }
 }

@@ -4,7 +4,6 @@ ghost use Rattle.text_bytes.specs.Ink.{emits};
 ghost use Rattle.lab_say.specs.NodeLine.{state_text, transfer_number, kept_text, front_text, node_text, look_text};
 
 use crate::say::{put_pair, put_sign};
-use map_numbers::numbers::one;
 use node_state::states;
 use rules_node::{Node, State};
 use text_bytes::page::Page;
@@ -27,7 +26,7 @@ fn transfer_number(t: Option<u64>) -> u64
     if states::is_whole(t) {
         2
     } else {
-        one(states::in_hand(t))
+        u64::from(states::in_hand(t))
     }
 }
 
@@ -51,8 +50,8 @@ fn put_front(page: &mut Page, n: Node)
 {
     put_pair(page, b"ok node=", n.id);
     put_state(page, n.state);
-    put_pair(page, b" store=", one(n.store));
-    put_pair(page, b" create=", one(n.create));
+    put_pair(page, b" store=", u64::from(n.store));
+    put_pair(page, b" create=", u64::from(n.create));
 }
 
 // The line of an accepted event, without its newline.

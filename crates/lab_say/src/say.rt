@@ -5,7 +5,6 @@ ghost use Rattle.rules_base.specs.Sets.{has};
 ghost use Rattle.text_bytes.specs.Ink.{emits, decimal as Ink·decimal};
 ghost use Rattle.lab_say.specs.Say.{paired, said, message_text, awaited_text, told_to, each, told_text};
 
-use map_numbers::numbers::one;
 use map_numbers::sets::has;
 use rules_base::Op;
 use rules_pool::{Message, Told};
@@ -44,10 +43,10 @@ fn put_message(page: &mut Page, m: Message)
     match m {
         Message::Nothing => {}
         Message::GetVersion(to) => put_numbers(page, b" | MAP_GET_VER", &[to]),
-        Message::Ready(to, keep) => put_numbers(page, b" | MAP_READY", &[to, one(keep)]),
+        Message::Ready(to, keep) => put_numbers(page, b" | MAP_READY", &[to, u64::from(keep)]),
         Message::Send(to, receiver) => put_numbers(page, b" | MAP_SEND", &[to, receiver]),
         Message::Done(to, enable, version, set) => {
-            put_numbers(page, b" | MAP_DONE", &[to, one(enable), version, set])
+            put_numbers(page, b" | MAP_DONE", &[to, u64::from(enable), version, set])
         }
         Message::LastIo(to, chosen) => put_numbers(page, b" | LAST_IO", &[to, chosen]),
         Message::Enable(to, version, set) => {

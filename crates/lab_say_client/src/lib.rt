@@ -7,7 +7,6 @@ ghost use Rattle.lab_say_client.specs.Client.{letter, phase_text, job_text, outc
 
 use client_state::roster::ids;
 use lab_say::say::{put_awaited, put_pair, put_told};
-use map_numbers::numbers::one;
 use rules_client::Check;
 use rules_pool::{Job, Kind, Outcome, Past, Phase, Pool, Roster, Sent, Session, State};
 use text_bytes::page::Page;
@@ -64,7 +63,7 @@ fn put_outcome(page: &mut Page, o: Outcome)
         Outcome::Plain => {}
         Outcome::Taken(taken) => put_pair(page, b" taken=", taken),
         Outcome::Written(acked, list) => {
-            put_pair(page, b" acked=", one(acked));
+            put_pair(page, b" acked=", u64::from(acked));
             put_pair(page, b" list=", list);
         }
         Outcome::Picked(id) => put_pair(page, b" id=", id),
@@ -105,8 +104,8 @@ pub fn put_client(page: &mut Page, p: Pool, sent: Sent)
 fn put_past(page: &mut Page, past: Past)
     ensures { page.new ≡ emits page.old (past_text past) }
 {
-    put_pair(page, b"look written=", one(past.written));
-    put_pair(page, b" assembled=", one(past.assembled));
+    put_pair(page, b"look written=", u64::from(past.written));
+    put_pair(page, b" assembled=", u64::from(past.assembled));
 }
 
 fn put_check(page: &mut Page, k: Check)

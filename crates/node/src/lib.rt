@@ -2,9 +2,8 @@
 // the answer. The rules stand in the crates below; here the lent maps are checked, and what is due to them is carried out.
 #![tactic(auto)]
 
-ghost use Rattle.std.specs.Prelude.{◌≡◌, ◌&&◌, []};
+ghost use Rattle.std.specs.Prelude.{◌≡◌, []};
 ghost use Rattle.rules_base.specs.Limits.{numbers};
-ghost use Rattle.rules_base.specs.Map.{sound};
 ghost use Rattle.rules_node.specs.Events.{Event, turn_of};
 ghost use Rattle.rules_node.specs.Face.{lent_number, Lent, map_by, staging_by, words_by};
 ghost use Rattle.rules_node.specs.Unique.{Meets};
@@ -13,7 +12,7 @@ ghost use Rattle.node.specs.Face.{held, came, fresh_node, handed, checked, next_
 
 use event::NodeEvent;
 use map_summary::summaries::Summaries;
-use rules_base::{Numbers, Op};
+use rules_base::{Numbers, Op, Refusal};
 use rules_node::{Answer, Checked, Next, Node, Turn};
 
 // The state of the rules, and the summaries of the map.
@@ -68,9 +67,8 @@ impl StorageNode {
     pub fn fresh(id: u64, chunks: u64) -> StorageNode
         ensures { result ≡ fresh_node id chunks }
     {
-        let n = node_state::change::fresh(id, chunks);
         StorageNode {
-            node: n,
+            node: node_state::change::fresh(id, chunks),
             summaries: [0; 96],
         }
     }
@@ -184,16 +182,11 @@ impl StorageNode {
     pub fn take_part(self, map: &mut [u8], staging: &mut [u8], offset: u64, part: &[u8]) -> Out
         ensures { Meets (Event.take_part offset part.now) (held self) map.old staging.old (came result) map.new staging.new }
     {
-        let n = self.node;
-        let w = self.summaries;
-        let lent = lent_number(n.chunks, w, map, staging);
-        let clean = map_whole::parts::is_clean(part, n.chunks, offset);
-        let length = part.len() as u64;
-        let t = node_transfer::hand::take_part(n, lent, offset, length, clean);
-        let e = t.effect;
-        let s = e.staging;
-        let out = finish(t, lent, w, map, staging);
-        node_bytes::maps::take_in(s, part, staging);
+        let lent = lent_number(self, map, staging);
+        let clean = map_whole::parts::is_clean(part, self.node.chunks, offset);
+        let t = node_transfer::hand::take_part(self.node, lent, offset, part.len() as u64, clean);
+        let out = finish(t, lent, self.summaries, map, staging);
+        node_bytes::maps::take_in(t.effect.staging, part, staging);
         out
     }
 
@@ -248,13 +241,10 @@ impl StorageNode {
     pub fn map_check(self, map: &[u8], staging: &[u8]) -> Asked
         ensures { result ≡ checked self map.now staging.now }
     {
-        let n = self.node;
-        let w = self.summaries;
-        let lent = lent_number(n.chunks, w, map, staging);
-        let clean = map_whole::emptyrows::is_empty(map, n.id);
-        let answer = node_ask::checks::map_check(n, lent, clean);
+        let lent = lent_number(self, map, staging);
+        let clean = map_whole::emptyrows::is_empty(map, self.node.id);
         Asked {
-            answer: answer,
+            answer: node_ask::checks::map_check(self.node, lent, clean),
             node: self,
         }
     }
@@ -263,14 +253,10 @@ impl StorageNode {
     pub fn next(self, map: &[u8], staging: &[u8], member: u64, start: u64) -> Searched
         ensures { result ≡ next_at self map.now staging.now member start }
     {
-        let n = self.node;
-        let w = self.summaries;
-        let lent = lent_number(n.chunks, w, map, staging);
-        let s = map_summary::searching::search_row(&w, map, member, start);
-        let found = s.found;
-        let answer = node_ask::next::next_dirty(n, lent, member, start, found);
+        let lent = lent_number(self, map, staging);
+        let sought = map_summary::searching::search_row(&self.summaries, map, member, start);
         Searched {
-            answer: answer,
+            answer: node_ask::next::next_dirty(self.node, lent, member, start, sought.found),
             node: self,
         }
     }
@@ -280,11 +266,9 @@ impl StorageNode {
 pub fn event(s: StorageNode, e: NodeEvent, map: &mut [u8], staging: &mut [u8]) -> Out
     ensures { Meets (event_of e []) (held s) map.old staging.old (came result) map.new staging.new }
 {
-    let n = s.node;
-    let w = s.summaries;
-    let lent = lent_number(n.chunks, w, map, staging);
-    let t = turn_of(n, lent, e);
-    finish(t, lent, w, map, staging)
+    let lent = lent_number(s, map, staging);
+    let t = turn_of(s.node, lent, e);
+    finish(t, lent, s.summaries, map, staging)
 }
 
 // What the rules say to such an event, with the number that the lent maps refuse with.
@@ -315,7 +299,7 @@ fn turn_of(n: Node, lent: u64, e: NodeEvent) -> Turn
         NodeEvent::GivePart(offset, length) => node_transfer::serve::give_part(
             n, lent, offset, length,
         ),
-        NodeEvent::TakePart(offset, length, m) => node_transfer::hand::take_part(
+        NodeEvent::TakePart(offset, _, _) => node_transfer::hand::take_part(
             n, lent, offset, 0, true,
         ),
         NodeEvent::MapDone(enabling, version, set) => node_transfer::hand::map_done(
@@ -328,18 +312,17 @@ fn turn_of(n: Node, lent: u64, e: NodeEvent) -> Turn
 }
 
 // The number that the lent maps refuse with, 0 where they do not.
-fn lent_number(chunks: u64, words: Summaries, map: &[u8], staging: &[u8]) -> u64
-    ensures { result ≡ lent_number chunks words map.now staging.now }
+fn lent_number(s: StorageNode, map: &[u8], staging: &[u8]) -> u64
+    ensures { result ≡ lent_number s.node.chunks s.summaries map.now staging.now }
 {
-    let both = both_sound(chunks, map, staging);
-    let agreed = map_summary::summaries::agree(words, map);
-    map_numbers::refusals::first(!both, 2, map_numbers::refusals::first(!agreed, 18, 0))
-}
-
-fn both_sound(chunks: u64, map: &[u8], staging: &[u8]) -> bool
-    ensures { result ≡ (sound chunks map.now && sound chunks staging.now) }
-{
-    map_whole::maps::is_sound(map, chunks) & map_whole::maps::is_sound(staging, chunks)
+    let chunks = s.node.chunks;
+    if !map_whole::maps::is_sound(map, chunks) || !map_whole::maps::is_sound(staging, chunks) {
+        Refusal::BadMap.number()
+    } else if !map_summary::summaries::agree(s.summaries, map) {
+        Refusal::BadSummary.number()
+    } else {
+        0
+    }
 }
 
 // Carries out what is due to the maps, has the summaries follow, and hands the answer back with the state.
@@ -349,17 +332,12 @@ fn finish(t: Turn, lent: u64, words: Summaries, map: &mut [u8], staging: &mut [u
     ensures map_after { map.new ≡ map_by t map.old staging.old }
     ensures staging_after { staging.new ≡ staging_by t map.old staging.old }
 {
-    let e = t.effect;
-    let a = t.answer;
-    let n = t.node;
-    let m = e.map;
-    node_bytes::maps::carry(e, n, map, staging);
-    let w = node_bytes::summaries::after(lent, m, words, map);
+    node_bytes::maps::carry(t.effect, t.node, map, staging);
     Out {
-        answer: a,
+        answer: t.answer,
         node: StorageNode {
-            node: n,
-            summaries: w,
+            node: t.node,
+            summaries: node_bytes::summaries::after(lent, t.effect.map, words, map),
         },
     }
 }

@@ -12,7 +12,7 @@ fn next_allowed(n: Node, lent: u64, member: u64, start: u64) -> Result<(), Refus
     ensures { number_of result ≡ next_refusal n lent member start }
 {
     turns::allowed(n, lent)?;
-    if 15 < n.id || 15 < member {
+    if 15 < member {
         return Err(Refusal::BadId);
     }
     if n.chunks <= start {

@@ -10,10 +10,8 @@ pub fn carry(e: Effect, n: Node, map: &mut [u8], staging: &mut [u8])
     ensures map_after { map.new ≡ map_after e.map n staging.old map.old }
     ensures staging_after { staging.new ≡ staging_after e.staging (map_after e.map n staging.old map.old) staging.old }
 {
-    let m = e.map;
-    let s = e.staging;
-    carry_map(m, n, map, staging);
-    carry_staging(s, map, staging);
+    carry_map(e.map, n, map, staging);
+    carry_staging(e.staging, map, staging);
 }
 
 #[tactic(auto, unfolding(rules_node::specs::Carry::map_after))]
@@ -46,10 +44,9 @@ fn carry_staging(e: OnStaging, map: &[u8], staging: &mut [u8])
     ensures { staging.new ≡ staging_after e map.now staging.old }
 {
     match e {
-        OnStaging::Keep => {}
         OnStaging::Zero => map_whole::maps::zero(staging),
         OnStaging::Fill => map_whole::maps::copy(staging, map),
-        OnStaging::Or(offset) => {}
+        OnStaging::Keep | OnStaging::Or(_) => {}
     }
 }
 
@@ -58,22 +55,18 @@ fn carry_staging(e: OnStaging, map: &[u8], staging: &mut [u8])
 pub fn take_in(e: OnStaging, part: &[u8], staging: &mut [u8])
     ensures { staging.new ≡ taken_in e part.now staging.old }
 {
-    match e {
-        OnStaging::Keep => {}
-        OnStaging::Zero => {}
-        OnStaging::Fill => {}
-        OnStaging::Or(offset) => map_whole::parts::or_part(staging, offset, part),
+    if let OnStaging::Or(offset) = e {
+        map_whole::parts::or_part(staging, offset, part);
     }
 }
 
 // LAST_IO_TO_MAP: each kept chunk, in order of arrival.
+#[tactic(auto, unfolding(rules_node::specs::Carry::last_ios))]
 fn last_ios(n: Node, chosen: u64, map: &mut [u8])
     ensures { map.new ≡ last_ios n chosen map.old }
 {
-    let mut i: usize = 0;
-    while i < 16 {
+    for i in 0..16usize {
         last_io_at(n, chosen, i, map);
-        i += 1;
     }
 }
 
@@ -82,12 +75,9 @@ fn last_io_at(n: Node, chosen: u64, i: usize, map: &mut [u8])
     requires { i < 16 }
     ensures { map.new ≡ last_io_at n chosen i map.old }
 {
-    let left = (16 - i) as u64;
-    let chunk = n.kept[i];
-    if n.held < left {
-        return;
+    if (16 - i) as u64 <= n.held {
+        last_io(n.members, chosen, n.kept[i], map);
     }
-    last_io(n.members, chosen, chunk, map);
 }
 
 // A chunk that is dirty for the chosen was missed by it: it has nothing to tell the others.
@@ -95,9 +85,8 @@ fn last_io_at(n: Node, chosen: u64, i: usize, map: &mut [u8])
 fn last_io(members: u64, chosen: u64, chunk: u64, map: &mut [u8])
     ensures { map.new ≡ last_io members chosen chunk map.old }
 {
-    if map_chunk::test(map, chosen, chunk) {
-        return;
+    if !map_chunk::test(map, chosen, chunk) {
+        let others = map_numbers::sets::without(members, chosen);
+        map_chunk::mark_for(map, others, chunk);
     }
-    let others = map_numbers::sets::without(members, chosen);
-    map_chunk::mark_for(map, others, chunk);
 }

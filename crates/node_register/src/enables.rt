@@ -12,7 +12,7 @@ fn enable1_allowed(n: Node, lent: u64, version: u64, set: u64) -> Result<(), Ref
     ensures { number_of result ≡ enable1_refusal n lent version set }
 {
     turns::allowed(n, lent)?;
-    if 15 < n.id || 65535 < set {
+    if 65535 < set {
         return Err(Refusal::BadId);
     }
     if !states::is_serving(n) {
@@ -57,9 +57,6 @@ fn stop_allowed(n: Node, lent: u64) -> Result<(), Refusal>
     ensures { number_of result ≡ stop_refusal n lent }
 {
     turns::allowed(n, lent)?;
-    if 15 < n.id {
-        return Err(Refusal::BadId);
-    }
     if !matches!(n.state, State::Normal | State::NoIo) {
         return Err(Refusal::NotAllowed);
     }

@@ -32,7 +32,7 @@ fn join_create_allowed(n: Node, lent: u64, set: u64) -> Result<(), Refusal>
     ensures { number_of result ≡ join_create_refusal n lent set }
 {
     turns::allowed(n, lent)?;
-    if 15 < n.id || 65535 < set {
+    if 65535 < set {
         return Err(Refusal::BadId);
     }
     if n.state != State::Registered || !n.create {
@@ -69,9 +69,6 @@ fn assemble_allowed(n: Node, lent: u64) -> Result<(), Refusal>
     ensures { number_of result ≡ assemble_refusal n lent }
 {
     turns::allowed(n, lent)?;
-    if 15 < n.id {
-        return Err(Refusal::BadId);
-    }
     if !assembles(n.state, n.store, n.create) {
         return Err(Refusal::NotAllowed);
     }
@@ -110,9 +107,6 @@ fn leave_allowed(n: Node, lent: u64) -> Result<(), Refusal>
     ensures { number_of result ≡ leave_refusal n lent }
 {
     turns::allowed(n, lent)?;
-    if 15 < n.id {
-        return Err(Refusal::BadId);
-    }
     if !states::is_joined(n.state) {
         return Err(Refusal::NotAllowed);
     }

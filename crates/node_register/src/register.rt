@@ -29,9 +29,6 @@ fn register_create_allowed(n: Node, lent: u64) -> Result<(), Refusal>
     ensures { number_of result ≡ register_create_refusal n lent }
 {
     turns::allowed(n, lent)?;
-    if 15 < n.id {
-        return Err(Refusal::BadId);
-    }
     if n.state != State::Empty {
         return Err(Refusal::NotAllowed);
     }
@@ -64,7 +61,7 @@ fn register_add_allowed(n: Node, lent: u64, set: u64, version: u64) -> Result<()
     ensures { number_of result ≡ register_add_refusal n lent set version }
 {
     turns::allowed(n, lent)?;
-    if 15 < n.id || 65535 < set {
+    if 65535 < set {
         return Err(Refusal::BadId);
     }
     if !takes_store(n.state, n.store) {
@@ -124,9 +121,6 @@ fn unregister_allowed(n: Node, lent: u64, delete: bool) -> Result<(), Refusal>
     ensures { number_of result ≡ unregister_refusal n lent delete }
 {
     turns::allowed(n, lent)?;
-    if 15 < n.id {
-        return Err(Refusal::BadId);
-    }
     if !gives_store(n.state, n.store, delete) {
         return Err(Refusal::NotAllowed);
     }

@@ -1,5 +1,5 @@
 // How a turn is put together: refused, or done.
-ghost use Rattle.std.specs.Prelude.{not, ◌≡◌, eqb};
+ghost use Rattle.std.specs.Prelude.{not, ◌≡◌, eqb, ltb};
 ghost use Rattle.laws_words.specs.Words.{pick};
 ghost use Rattle.rules_base.specs.Refusals.{number, number_of};
 ghost use Rattle.rules_node.specs.StateRules.{valid};
@@ -9,10 +9,10 @@ use crate::state_rules;
 use rules_base::Refusal;
 use rules_node::{Answer, Effect, Node, OnMap, OnStaging, Turn};
 
-// What every event tests before its own tests: the state rules, and what the lent maps refuse with.
+// What every event tests before its own tests: the state rules, what the lent maps refuse with, the node's own id.
 // lent is a number and no Refusal: of it the events ask for 2 and 18 alone, and any other lets them by.
 pub fn allowed(n: Node, lent: u64) -> Result<(), Refusal>
-    ensures { number_of result ≡ pick (not (valid n)) 1 (pick (eqb lent 2) 2 (pick (eqb lent 18) 18 0)) }
+    ensures { number_of result ≡ pick (not (valid n)) 1 (pick (eqb lent 2) 2 (pick (eqb lent 18) 18 (pick (ltb 15 n.id) 3 0))) }
 {
     if !state_rules::valid(n) {
         return Err(Refusal::BadState);
@@ -22,6 +22,9 @@ pub fn allowed(n: Node, lent: u64) -> Result<(), Refusal>
     }
     if lent == 18 {
         return Err(Refusal::BadSummary);
+    }
+    if 15 < n.id {
+        return Err(Refusal::BadId);
     }
     Ok(())
 }

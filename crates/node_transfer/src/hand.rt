@@ -13,9 +13,6 @@ fn hand_allowed(n: Node, lent: u64) -> Result<(), Refusal>
     ensures { number_of result ≡ hand_refusal n lent }
 {
     turns::allowed(n, lent)?;
-    if 15 < n.id {
-        return Err(Refusal::BadId);
-    }
     if n.transfer.is_none() {
         return Err(Refusal::NoTransfer);
     }
@@ -74,7 +71,7 @@ fn map_done_allowed(n: Node, lent: u64, version: u64, set: u64) -> Result<(), Re
     ensures { number_of result ≡ map_done_refusal n lent version set }
 {
     turns::allowed(n, lent)?;
-    if 15 < n.id || 65535 < set {
+    if 65535 < set {
         return Err(Refusal::BadId);
     }
     if !map_numbers::sets::has(set, n.id) {

@@ -13,9 +13,6 @@ fn serve_allowed(n: Node, lent: u64) -> Result<(), Refusal>
     ensures { number_of result ≡ serve_refusal n lent }
 {
     turns::allowed(n, lent)?;
-    if 15 < n.id {
-        return Err(Refusal::BadId);
-    }
     if !states::is_serving(n) {
         return Err(Refusal::NotAllowed);
     }
@@ -56,9 +53,6 @@ fn give_part_allowed(n: Node, lent: u64, offset: u64, length: u64) -> Result<(),
     ensures { number_of result ≡ give_part_refusal n lent offset length }
 {
     turns::allowed(n, lent)?;
-    if 15 < n.id {
-        return Err(Refusal::BadId);
-    }
     if !states::is_serving(n) {
         return Err(Refusal::NotAllowed);
     }
@@ -99,7 +93,7 @@ fn last_io_allowed(n: Node, lent: u64, chosen: u64) -> Result<(), Refusal>
     ensures { number_of result ≡ last_io_refusal n lent chosen }
 {
     turns::allowed(n, lent)?;
-    if 15 < n.id || 15 < chosen {
+    if 15 < chosen {
         return Err(Refusal::BadId);
     }
     if !states::is_serving(n) {

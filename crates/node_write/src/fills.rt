@@ -12,7 +12,7 @@ fn fill_allowed(n: Node, lent: u64, member: u64, version: u64) -> Result<(), Ref
     ensures { number_of result ≡ fill_refusal n lent member version }
 {
     turns::allowed(n, lent)?;
-    if 15 < n.id || 15 < member {
+    if 15 < member {
         return Err(Refusal::BadId);
     }
     if !states::is_joined(n.state) {

@@ -13,14 +13,15 @@ use lib.ListN.{length}
 use lib.Seq.{sets}
 use Rattle.laws_words.specs.Words.{pick}
 use Rattle.laws_words.specs.Tests.{by_cases, clash, and_left, and_right, and-false}
-use Rattle.status_row.specs.Volume.{row_sound, volume_good}
+use Rattle.std.specs.Prelude.{Result, Ok, Err}
+use Rattle.status_row.specs.Volume.{number, refused_by, row_sound, volume_good}
 use Rattle.status_row.specs.Descriptors.{Desc, total, word_at, descs_from, descs_of}
 use Rattle.status_row.proofs.DescriptorsLaws.{size-cases, volume}
-use Rattle.status_row.specs.declared.writer.Wrote.{Wrote}
+use Rattle.status_row.specs.declared.descriptors.Refused.{Refused}
 use Rattle.status_row.specs.Writing.{status_of, write_refusal, write_answer, write_leaves}
-use Rattle.status_row.specs.Reading.{desc_good, every_good, status_good, flags_of, painted, read_refusal, read_leaves}
+use Rattle.status_row.specs.Reading.{desc_good, every_good, status_good, flags_of, painted, read_refusal, read_answer, read_leaves}
 use Rattle.status_row.proofs.ReaderLaws.{good_from, good-descs}
-use Rattle.status_proof.specs.Laws.{Writes, Largest, SameRow, TakenMost, Untouched, BadInput, Worked}
+use Rattle.status_proof.specs.Laws.{Writes, Largest, SameRow, TakenMost, Untouched, Numbered, number_of, BadInput, Worked}
 use Rattle.status_proof.proofs.Back.{back}
 use Rattle.status_proof.proofs.Written.{written}
 use Rattle.status_proof.proofs.Cases.{two_runs, longest-clean, longest-dirty, alternating, same-neighbours}
@@ -38,11 +39,11 @@ largest n s g =
 
 -- ---- the same row
 -- a row that was written was sound, of a good volume, with room for it
-taken : (n s : ℕ) (xs out : List ℕ) (k : ℕ) → write_answer n s xs out ≡ Wrote.Bytes k → (row_sound n xs ≡ true) × ((volume_good n s ≡ true) × (leb 32768 (length out) ≡ true))
+taken : (n s : ℕ) (xs out : List ℕ) (k : ℕ) → write_answer n s xs out ≡ Ok k → (row_sound n xs ≡ true) × ((volume_good n s ≡ true) × (leb 32768 (length out) ≡ true))
 unfolding write_answer write_refusal
 taken n s xs out k w = go (row_sound n xs) refl (volume_good n s) refl (leb 32768 (length out)) refl w
   where
-    go : (a : Bool) → row_sound n xs ≡ a → (b : Bool) → volume_good n s ≡ b → (c : Bool) → leb 32768 (length out) ≡ c → pick (eqb (pick a (pick (b && c) 0 20) 2) 0) (Wrote.Bytes (length (status_of n s xs))) (Wrote.Refused (pick a (pick (b && c) 0 20) 2)) ≡ Wrote.Bytes k → (row_sound n xs ≡ true) × ((volume_good n s ≡ true) × (leb 32768 (length out) ≡ true))
+    go : (a : Bool) → row_sound n xs ≡ a → (b : Bool) → volume_good n s ≡ b → (c : Bool) → leb 32768 (length out) ≡ c → ◌≡◌ {A = Result ℕ Refused} (pick (eqb (pick a (pick (b && c) 0 20) 2) 0) (Ok (length (status_of n s xs))) (Err (refused_by (pick a (pick (b && c) 0 20) 2)))) (Ok k) → (row_sound n xs ≡ true) × ((volume_good n s ≡ true) × (leb 32768 (length out) ≡ true))
     go true p true q true r z = (p, (q, r))
     go true p true q false r z = absurd (let y : ◌≡◌ {A = ℕ} 0 1 = cc in let w : ⊥ = omega arith in w)
     go true p false q c r z = absurd (let y : ◌≡◌ {A = ℕ} 0 1 = cc in let w : ⊥ = omega arith in w)
@@ -55,7 +56,7 @@ same_row n s xs ys out k a b q w =
     let e : k ≡ length (status_of n s xs) = bytes (sym w ∙ v.answer) in
     rw (e, v.front) (back n s xs ys a b t.0 q t.1.0)
   where
-    bytes : {i j : ℕ} → Wrote.Bytes i ≡ Wrote.Bytes j → i ≡ j
+    bytes : {i j : ℕ} → ◌≡◌ {A = Result ℕ Refused} (Ok i) (Ok j) → i ≡ j
     bytes z = cc
 
 -- ---- what is taken
@@ -93,14 +94,17 @@ taken-most n s bs g e =
     whole-bytes n s bs e = unfold status_good in eqb-true (length bs % 8) 0 (and_left (eqb (length bs % 8) 0) _ e)
 
 -- ---- what is refused
-write-refused : (n s : ℕ) (xs out : List ℕ) (r : ℕ) → write_answer n s xs out ≡ Wrote.Refused r → ((r ≡ 2) ⊎ (r ≡ 20)) × (write_leaves n s xs out ≡ out)
+numbers : (q : Refused) {r : Refused} → ◌≡◌ {A = Result ℕ Refused} (Err q) (Err r) → number r ≡ number q
+numbers q z = let e : q ≡ _ = cc in sym (ap number e)
+
+write-refused : (n s : ℕ) (xs out : List ℕ) (r : Refused) → write_answer n s xs out ≡ Err r → ((number r ≡ 2) ⊎ (number r ≡ 20)) × (write_leaves n s xs out ≡ out)
 unfolding write_answer write_leaves write_refusal
 write-refused n s xs out r w = go (row_sound n xs) (volume_good n s && leb 32768 (length out)) (length (status_of n s xs)) (sets out 0 (status_of n s xs)) w
   where
-    go : (a b : Bool) (k : ℕ) (ys : List ℕ) → pick (eqb (pick a (pick b 0 20) 2) 0) (Wrote.Bytes k) (Wrote.Refused (pick a (pick b 0 20) 2)) ≡ Wrote.Refused r → ((r ≡ 2) ⊎ (r ≡ 20)) × (pick (eqb (pick a (pick b 0 20) 2) 0) ys out ≡ out)
+    go : (a b : Bool) (k : ℕ) (ys : List ℕ) → ◌≡◌ {A = Result ℕ Refused} (pick (eqb (pick a (pick b 0 20) 2) 0) (Ok k) (Err (refused_by (pick a (pick b 0 20) 2)))) (Err r) → ((number r ≡ 2) ⊎ (number r ≡ 20)) × (pick (eqb (pick a (pick b 0 20) 2) 0) ys out ≡ out)
     go true true k ys z = absurd (let y : ◌≡◌ {A = ℕ} 0 1 = cc in let w : ⊥ = omega arith in w)
-    go true false k ys z = (inr cc, refl)
-    go false b k ys z = (inl cc, refl)
+    go true false k ys z = (inr (numbers Refused.Volume z), refl)
+    go false b k ys z = (inl (numbers Refused.Row z), refl)
 
 read-refused : (n s : ℕ) (bs xs : List ℕ) → (read_refusal n s bs xs ≡ 0) ⊎ (((read_refusal n s bs xs ≡ 2) ⊎ (read_refusal n s bs xs ≡ 20)) × (read_leaves n s bs xs ≡ xs))
 unfolding read_leaves read_refusal
@@ -110,6 +114,15 @@ read-refused n s bs xs = go (row_sound n xs) (volume_good n s && status_good n s
     go true true ys = inl refl
     go true false ys = inr (inr refl, refl)
     go false b ys = inr (inl refl, refl)
+
+pub numbered : Numbered
+unfolding read_answer read_refusal
+numbered n s bs xs = go (row_sound n xs) (volume_good n s && status_good n s bs)
+  where
+    go : (a b : Bool) → ◌≡◌ {A = ℕ} (number_of (pick (eqb (pick a (pick b 0 20) 2) 0) (Ok tt) (Err (refused_by (pick a (pick b 0 20) 2))))) (pick a (pick b 0 20) 2)
+    go true true = refl
+    go true false = refl
+    go false b = refl
 
 pub untouched : Untouched
 untouched = record { writing = write-refused; reading = read-refused }

@@ -1,10 +1,10 @@
 -- What must hold of writing a row as descriptors and of reading them back. Each statement is a type; proofs/Laws.antt has its proof under the same name in small letters.
-use Rattle.std.specs.Prelude.{◌≡◌, ◌⊎◌, Bool, true, false, not, ◌&&◌, ◌||◌, List, [], ◌∷◌, ℕ, ◌+◌, ◌*◌, ◌/◌, ◌%◌, ◌^◌, ◌≤◌, ◌<◌, eqb, length, get_or, take, drop, replicate}
-use Rattle.status_row.specs.Volume.{row_sound, volume_good}
+use Rattle.std.specs.Prelude.{◌≡◌, ◌⊎◌, Result, Ok, Err, Bool, true, false, not, ◌&&◌, ◌||◌, List, [], ◌∷◌, ℕ, ◌+◌, ◌*◌, ◌/◌, ◌%◌, ◌^◌, ◌≤◌, ◌<◌, eqb, length, get_or, take, drop, replicate}
+use Rattle.status_row.specs.Volume.{number, row_sound, volume_good}
 use Rattle.status_row.specs.Descriptors.{Desc, total, word_at, descs_of}
-use Rattle.status_row.specs.declared.writer.Wrote.{Wrote}
+use Rattle.status_row.specs.declared.descriptors.Refused.{Refused}
 use Rattle.status_row.specs.Writing.{status_of, write_answer, write_leaves}
-use Rattle.status_row.specs.Reading.{desc_good, status_good, read_refusal, read_leaves}
+use Rattle.status_row.specs.Reading.{desc_good, status_good, read_refusal, read_answer, read_leaves}
 
 -- ---- what is written
 -- no descriptor covers nothing
@@ -23,7 +23,7 @@ neighbours_differ s (d ∷ ds) = follow s d.bytes d.flags ds
 
 pub record Written (n s : ℕ) (xs out : List ℕ) : Type 0 where
   -- the number written is in the answer, the descriptors stand first, and the bytes after them stay
-  pub answer : write_answer n s xs out ≡ Wrote.Bytes (length (status_of n s xs))
+  pub answer : write_answer n s xs out ≡ Ok (length (status_of n s xs))
   pub front : take (length (status_of n s xs)) (write_leaves n s xs out) ≡ status_of n s xs
   pub rest : drop (length (status_of n s xs)) (write_leaves n s xs out) ≡ drop (length (status_of n s xs)) out
   -- whole descriptors, at most 4,096 of them, that cover the volume exactly
@@ -49,7 +49,7 @@ pub record Row (xs : List ℕ) : Type 0 where
 
 -- Writing then reading gives the same row: the k bytes that writing says it wrote are taken into any sound row, which is then the one that was written.
 abbrev pub SameRow : Type 0
-SameRow = (n s : ℕ) (xs ys out : List ℕ) (k : ℕ) → Row xs → Row ys → row_sound n ys ≡ true → write_answer n s xs out ≡ Wrote.Bytes k → (read_refusal n s (take k (write_leaves n s xs out)) ys ≡ 0) × (read_leaves n s (take k (write_leaves n s xs out)) ys ≡ xs)
+SameRow = (n s : ℕ) (xs ys out : List ℕ) (k : ℕ) → Row xs → Row ys → row_sound n ys ≡ true → write_answer n s xs out ≡ Ok k → (read_refusal n s (take k (write_leaves n s xs out)) ys ≡ 0) × (read_leaves n s (take k (write_leaves n s xs out)) ys ≡ xs)
 
 -- What is taken has at most a descriptor for each chunk, so no more than 32,768 bytes.
 abbrev pub TakenMost : Type 0
@@ -58,8 +58,16 @@ TakenMost = (n s : ℕ) (bs : List ℕ) → volume_good n s ≡ true → status_
 -- ---- what is refused
 -- A refusal is 2 or 20, and touches nothing.
 pub record Untouched : Type 0 where
-  pub writing : (n s : ℕ) (xs out : List ℕ) (r : ℕ) → write_answer n s xs out ≡ Wrote.Refused r → ((r ≡ 2) ⊎ (r ≡ 20)) × (write_leaves n s xs out ≡ out)
+  pub writing : (n s : ℕ) (xs out : List ℕ) (r : Refused) → write_answer n s xs out ≡ Err r → ((number r ≡ 2) ⊎ (number r ≡ 20)) × (write_leaves n s xs out ≡ out)
   pub reading : (n s : ℕ) (bs xs : List ℕ) → (read_refusal n s bs xs ≡ 0) ⊎ (((read_refusal n s bs xs ≡ 2) ⊎ (read_refusal n s bs xs ≡ 20)) × (read_leaves n s bs xs ≡ xs))
+
+-- The number of what reading answers is the refusal's, and 0 where nothing is refused.
+abbrev pub number_of : Result (Unit {0}) Refused → ℕ
+number_of (Ok _) = 0
+number_of (Err r) = number r
+
+abbrev pub Numbered : Type 0
+Numbered = (n s : ℕ) (bs xs : List ℕ) → number_of (read_answer n s bs xs) ≡ read_refusal n s bs xs
 
 -- With a sound row lent, each input that the request names is refused with 20.
 pub record Refuses (n s : ℕ) (bs xs : List ℕ) : Type 0 where

@@ -1,7 +1,27 @@
 // A row's chunks as flags, and the tests that writing and reading of descriptors begin with. Every operation takes a row of any length and any numbers.
 ghost use Rattle.std.specs.Prelude.{◌≡◌};
 ghost use Rattle.rules_base.specs.Chunk.{dirty};
-ghost use Rattle.status_row.specs.Volume.{row_sound, size_good, volume_good};
+ghost use Rattle.status_row.specs.Volume.{number, row_sound, size_good, volume_good};
+
+// Why writing or reading is refused: the row or the map that is lent, the member, or else the volume, its descriptors or their room.
+#[derive(Clone, Copy, PartialEq, Eq)]
+pub enum Refused {
+    Row,
+    Member,
+    Volume,
+}
+
+impl Refused {
+    pub fn number(self) -> u64
+        ensures { result ≡ number self }
+    {
+        match self {
+            Refused::Row => 2,
+            Refused::Member => 3,
+            Refused::Volume => 20,
+        }
+    }
+}
 
 // Chunk c of the row: 1 dirty, 0 clean.
 pub fn flag(row: &[u8], c: u64) -> u64
@@ -17,17 +37,16 @@ pub fn row_sound(row: &[u8], n: u64) -> bool
     if row.len() != 512 {
         return false;
     }
-    let mut c = n;
-    while c < 4096 {
+    for c in n..4096 {
         if flag(row, c) != 0 {
             return false;
         }
-        c += 1;
     }
     true
 }
 
 // Whether s is a power of two from 4,096 to 1,048,576.
+// A list, as the definition is: both are read off at a glance, and they are one.
 fn size_good(s: u64) -> bool
     ensures { result ≡ size_good s }
 {
@@ -42,9 +61,20 @@ fn size_good(s: u64) -> bool
         | (s == 1048576)
 }
 
-// Whether a volume may have n chunks of s bytes.
-pub fn volume_good(n: u64, s: u64) -> bool
-    ensures { result ≡ volume_good n s }
-{
-    (0 < n) & ((n <= map_numbers::refusals::CHUNK_LIMIT) & size_good(s))
+// A chunk count and a chunk size, whatever they are.
+#[derive(Clone, Copy)]
+pub struct Volume {
+    pub chunks: u64,
+    pub size: u64,
+}
+
+impl Volume {
+    // Whether a volume may have so many chunks of such a size.
+    #[tactic(auto, unfolding(crate::specs::Volume::volume_good))]
+    pub fn good(self) -> bool
+        ensures { result ≡ volume_good self.chunks self.size }
+    {
+        (0 < self.chunks)
+            & ((self.chunks <= map_numbers::refusals::CHUNK_LIMIT) & size_good(self.size))
+    }
 }

@@ -4,29 +4,17 @@ ghost use Rattle.std.proofs.lemmas.List.Edits.{sets};
 ghost use Rattle.status_row.specs.Descriptors.{word};
 ghost use Rattle.status_row.specs.Writing.{joins, status_of, write_answer, write_leaves, member_answer, member_leaves};
 
-// How many of the lent bytes were written, or the refusal's number.
-#[derive(Clone, Copy)]
-pub enum Wrote {
-    Refused(u64),
-    Bytes(usize),
-}
+use crate::descriptors::{Refused, Volume, flag, row_sound};
 
-fn low(x: u64) -> u8
-    requires { x < 256 }
-    ensures { result ≡ x }
-{
-    x as u8
-}
-
-// Stores 32 bits, big-endian.
+// Stores 32 bits, big-endian. Byte by byte, as `word` says it: v may be above 32 bits, so `to_be_bytes` would need its remainder first.
 fn put32(out: &mut [u8], at: usize, v: u64)
     requires { at + 4 ≤ length out.old }
     ensures { out.new ≡ sets out.old at (word v) }
 {
-    out[at] = low(v / 16777216 % 256);
-    out[at + 1] = low(v / 65536 % 256);
-    out[at + 2] = low(v / 256 % 256);
-    out[at + 3] = low(v % 256);
+    out[at] = (v / 16777216 % 256) as u8;
+    out[at + 1] = (v / 65536 % 256) as u8;
+    out[at + 2] = (v / 256 % 256) as u8;
+    out[at + 3] = (v % 256) as u8;
 }
 
 // Stores one descriptor.
@@ -46,58 +34,54 @@ fn joins(f: u64, g: u64, next: u64) -> bool
 }
 
 // Stores the row's descriptors, and says how many bytes they are. The open run has b bytes and flag f.
-fn put_status(row: &[u8], n: u64, s: u64, out: &mut [u8]) -> usize
-    requires { (0 < n) × ((n ≤ 4096) × ((s ≤ 1048576) × (32768 ≤ length out.old))) }
-    ensures { (result ≡ length (status_of n s row.now)) × (out.new ≡ sets out.old 0 (status_of n s row.now)) }
+fn put_status(row: &[u8], v: Volume, out: &mut [u8]) -> usize
+    requires { (0 < v.chunks) × ((v.chunks ≤ 4096) × ((v.size ≤ 1048576) × (32768 ≤ length out.old))) }
+    ensures { (result ≡ length (status_of v.chunks v.size row.now)) × (out.new ≡ sets out.old 0 (status_of v.chunks v.size row.now)) }
 {
-    let mut f = crate::descriptors::flag(row, 0);
-    let mut b = s;
+    let mut f = flag(row, 0);
+    let mut b = v.size;
     let mut at: usize = 0;
-    let mut c: u64 = 1;
-    while c < n {
-        let g = crate::descriptors::flag(row, c);
-        let next = b + s;
+    for c in 1..v.chunks {
+        let g = flag(row, c);
+        let next = b + v.size;
         if joins(f, g, next) {
             b = next;
         } else {
             put_desc(out, at, b, f);
             at += 8;
             f = g;
-            b = s;
+            b = v.size;
         }
-        c += 1;
     }
     put_desc(out, at, b, f);
     at + 8
 }
 
-// Writes the descriptors of a row of n chunks of s bytes into what is lent.
-pub fn write(row: &[u8], n: u64, s: u64, out: &mut [u8]) -> Wrote
-    ensures { (result ≡ write_answer n s row.now out.old) × (out.new ≡ write_leaves n s row.now out.old) }
+// Writes the descriptors of a row of the volume into what is lent, and says how many bytes they are.
+pub fn write(row: &[u8], v: Volume, out: &mut [u8]) -> Result<usize, Refused>
+    ensures { (result ≡ write_answer v.chunks v.size row.now out.old) × (out.new ≡ write_leaves v.chunks v.size row.now out.old) }
 {
-    if !crate::descriptors::row_sound(row, n) {
-        return Wrote::Refused(2);
+    if !row_sound(row, v.chunks) {
+        return Err(Refused::Row);
     }
-    if !crate::descriptors::volume_good(n, s) {
-        return Wrote::Refused(20);
+    if !v.good() {
+        return Err(Refused::Volume);
     }
     if out.len() < 32768 {
-        return Wrote::Refused(20);
+        return Err(Refused::Volume);
     }
-    let k = put_status(row, n, s, out);
-    Wrote::Bytes(k)
+    Ok(put_status(row, v, out))
 }
 
 // The same for member m's row of a whole map.
-pub fn write_member(map: &[u8], m: u64, n: u64, s: u64, out: &mut [u8]) -> Wrote
-    ensures { (result ≡ member_answer n s map.now m out.old) × (out.new ≡ member_leaves n s map.now m out.old) }
+pub fn write_member(map: &[u8], m: u64, v: Volume, out: &mut [u8]) -> Result<usize, Refused>
+    ensures { (result ≡ member_answer v.chunks v.size map.now m out.old) × (out.new ≡ member_leaves v.chunks v.size map.now m out.old) }
 {
     if map.len() != map_numbers::refusals::MAP_BYTES {
-        return Wrote::Refused(2);
+        return Err(Refused::Row);
     }
     if 15 < m {
-        return Wrote::Refused(3);
+        return Err(Refused::Member);
     }
-    let row = map_whole::maps::row(map, m);
-    write(row, n, s, out)
+    write(map_whole::maps::row(map, m), v, out)
 }

@@ -6,12 +6,12 @@ ghost use Rattle.std.specs.Prelude.{◌≡◌, ◌≤◌, length};
 ghost use Rattle.text_bytes.specs.Ink.{ink, emits_all};
 ghost use Rattle.status_tool.specs.Lines.{refused_line};
 
-use status_row::writer::Wrote;
+use status_row::descriptors::Volume;
 use std::env::FillError;
 use std::io::{ErrorKind, Print, Read};
 use std::rt::{Env, Files};
 use std::{fs, io, str};
-use text_bytes::{Num, failing};
+use text_bytes::failing;
 
 // MAP MEMBER CHUNKS CHUNK_SIZE writes descriptors; read CHUNKS CHUNK_SIZE reads them. The program lends the buffers: `map` has a byte more than a map and `bytes` a
 // descriptor more than a volume can have, so that what is too long is refused for it.
@@ -23,16 +23,11 @@ pub fn run(
     bytes: &mut [u8],
     row: &mut [u8],
 ) {
-    let words = word_count(rt);
-    if words == 5 {
-        write_status(rt, errors, map, bytes);
-        return;
+    match word_count(rt) {
+        5 => write_status(rt, errors, map, bytes),
+        4 => read_status(rt, input, errors, bytes, row),
+        _ => say_usage(errors),
     }
-    if words == 4 {
-        read_status(rt, input, errors, bytes, row);
-        return;
-    }
-    say_usage(errors);
 }
 
 fn write_status(
@@ -41,15 +36,15 @@ fn write_status(
     map: &mut [u8],
     out: &mut [u8],
 ) {
-    let Num::Is(m) = number_at(rt, 2) else {
+    let Some(m) = number_at(rt, 2) else {
         say_usage(errors);
         return;
     };
-    let Num::Is(n) = number_at(rt, 3) else {
+    let Some(n) = number_at(rt, 3) else {
         say_usage(errors);
         return;
     };
-    let Num::Is(s) = number_at(rt, 4) else {
+    let Some(s) = number_at(rt, 4) else {
         say_usage(errors);
         return;
     };
@@ -57,11 +52,10 @@ fn write_status(
         return;
     };
     let got = read_full(&mut file, map);
-    let z = 0;
-    let w = status_row::writer::write_member(&map[z..got], m, n, s, out);
-    match w {
-        Wrote::Refused(r) => say_refused(errors, r),
-        Wrote::Bytes(k) => give(rt, errors, k, out),
+    let v = Volume { chunks: n, size: s };
+    match status_row::writer::write_member(&map[..got], m, v, out) {
+        Ok(k) => give(rt, errors, k, out),
+        Err(why) => say_refused(errors, why.number()),
     }
 }
 
@@ -76,50 +70,44 @@ fn read_status(
         say_usage(errors);
         return;
     }
-    let Num::Is(n) = number_at(rt, 2) else {
+    let Some(n) = number_at(rt, 2) else {
         say_usage(errors);
         return;
     };
-    let Num::Is(s) = number_at(rt, 3) else {
+    let Some(s) = number_at(rt, 3) else {
         say_usage(errors);
         return;
     };
     let got = read_full(input, bytes);
-    let z = 0;
-    let r = status_row::reader::read(&bytes[z..got], n, s, row);
-    if r != 0 {
-        say_refused(errors, r);
-        return;
+    let v = Volume { chunks: n, size: s };
+    match status_row::reader::read(&bytes[..got], v, row) {
+        Ok(()) => give(rt, errors, row.len(), row),
+        Err(why) => say_refused(errors, why.number()),
     }
-    give(rt, errors, row.len(), row);
 }
 
 // Whether word 1 is `read`.
 fn is_read(rt: &impl Env) -> bool {
     let mut word = [0u8; 4];
     let n = word_at(rt, 1, &mut word);
-    let z = 0;
-    text_bytes::same(&word[z..n], b"read")
+    text_bytes::same(&word[..n], b"read")
 }
 
 // Word i as a number.
-fn number_at(rt: &impl Env, i: usize) -> Num {
+fn number_at(rt: &impl Env, i: usize) -> Option<u64> {
     let mut word = [0u8; 32];
     let n = word_at(rt, i, &mut word);
-    let z = 0;
-    text_bytes::number(&word[z..n])
+    text_bytes::number(&word[..n])
 }
 
 // How many words there are, the program's own name among them; 6 where there are more.
 fn word_count(rt: &impl Env) -> usize {
-    let mut n = 0;
-    while n < 6 {
+    for n in 0..6 {
         if !is_word(rt, n) {
             return n;
         }
-        n += 1;
     }
-    n
+    6
 }
 
 fn is_word(rt: &impl Env, i: usize) -> bool {
@@ -131,21 +119,17 @@ fn is_word(rt: &impl Env, i: usize) -> bool {
 fn word_at(rt: &impl Env, i: usize, buf: &mut [u8]) -> usize
     ensures { result ≤ length buf.new }
 {
-    match rt.arg(i, buf) {
-        Ok(n) => n,
-        Err(_) => 0,
-    }
+    rt.arg(i, buf).unwrap_or(0)
 }
 
 // The file that word 1 names, opened; none where that can't be done, and then it was said why.
 fn open_map<R: Env + Files>(rt: &R, errors: &impl Print) -> Option<R::File> {
     let mut path = [0u8; 4096];
     let n = word_at(rt, 1, &mut path);
-    let z = 0;
-    match open(rt, &path[z..n]) {
+    match open(rt, &path[..n]) {
         Ok(file) => Some(file),
         Err(e) => {
-            failing::say(errors, &path[z..n], e);
+            failing::say(errors, &path[..n], e);
             None
         }
     }
@@ -178,8 +162,7 @@ fn give(rt: &impl Print, errors: &impl Print, k: usize, bytes: &[u8]) {
     if bytes.len() < k {
         return;
     }
-    let z = 0;
-    if let Err(e) = rt.write_all(&bytes[z..k]) {
+    if let Err(e) = rt.write_all(&bytes[..k]) {
         failing::say(errors, b"standard output", e);
     }
 }
@@ -191,8 +174,7 @@ fn say_refused(errors: &impl Print, number: u64) {
     if 32 < n {
         return;
     }
-    let z = 0;
-    let _ = errors.write_all(&line[z..n]);
+    let _ = errors.write_all(&line[..n]);
 }
 
 // Puts a refusal's line at the start of out, and says how long it is.

@@ -1,5 +1,5 @@
 -- A line: its words, each a number, a name or neither.
-use Rattle.std.specs.Prelude.{ℕ, ◌+◌, List, [], ◌∷◌, ◌++◌, Option, Some, None, set, replicate, ltb, eqb}
+use Rattle.std.specs.Prelude.{ℕ, Bool, true, false, ◌+◌, List, [], ◌∷◌, ◌++◌, Option, Some, None, set, replicate, ltb, eqb}
 use Rattle.laws_words.specs.Words.{pick}
 use Rattle.text_bytes.specs.Numbers.{num_of}
 use Rattle.text_words.specs.Names.{name_of}
@@ -15,6 +15,15 @@ tok_from None None = Token.Unknown
 
 unfoldable pub tok_of : List ℕ → Token
 tok_of w = tok_from (num_of w) (name_of w)
+
+abbrev pub is_number : Token → Bool
+is_number (Token.Number v) = true
+is_number _ = false
+
+-- the number, 0 for a word
+abbrev pub number_in : Token → ℕ
+number_in (Token.Number v) = v
+number_in _ = 0
 
 abbrev pub no_tok : Token
 no_tok = Token.Number 0

@@ -1,6 +1,7 @@
 // A line cut at single spaces into words, each a number, a name or neither.
 ghost use Rattle.std.specs.Prelude.{◌≡◌};
-ghost use Rattle.text_words.specs.Lines.{tok_of, empty as Lines·empty, pushed, line_of};
+ghost use Rattle.std.specs.List.{list_all};
+ghost use Rattle.text_words.specs.Lines.{is_number, number_in, tok_of, empty as Lines·empty, pushed, line_of};
 
 use crate::names::{self, Name};
 
@@ -10,6 +11,30 @@ pub enum Token {
     Number(u64),
     Word(Name),
     Unknown,
+}
+
+impl Token {
+    pub fn is_number(self) -> bool
+        ensures { result ≡ is_number self }
+    {
+        matches!(self, Token::Number(_))
+    }
+
+    // The number, 0 for a word.
+    pub fn number(self) -> u64
+        ensures { result ≡ number_in self }
+    {
+        match self {
+            Token::Number(n) => n,
+            _ => 0,
+        }
+    }
+}
+
+pub fn are_numbers(words: &[Token]) -> bool
+    ensures { result ≡ list_all is_number words.now }
+{
+    words.iter().all(|t| t.is_number())
 }
 
 // count is 9 where the line has more than eight words. A word that is not there is the number 0.

@@ -1,10 +1,6 @@
 use Rattle.rules_client.specs.Client.{clean_to}
-use Prim.Native.Nat.{◌-◌, ◌≤◌}
 use mathlib.Core.Path.{◌≡◌}
 use Rattle.client.proofs.clean_ids.Given as goal
 
 abbrev pub invariant-loop-m : goal.invariant-loop-m
-invariant-loop-m l = (l.m ≤ 16) × (l.ids ≡ clean_to l.map l.chunk l.m)
-
-abbrev pub decreases-loop-m : goal.decreases-loop-m
-decreases-loop-m l = 16 - l.m
+invariant-loop-m l = l.ids ≡ clean_to l.map l.chunk l.m

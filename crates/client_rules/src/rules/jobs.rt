@@ -7,21 +7,13 @@ use rules_pool::{Job, Stage};
 pub fn is_idle(j: Job) -> bool
     ensures { result ≡ is_idle j }
 {
-    match j {
-        Job::Idle => true,
-        Job::Running(r) => false,
-        Job::Removing(m) => false,
-    }
+    matches!(j, Job::Idle)
 }
 
 pub fn is_running(j: Job) -> bool
     ensures { result ≡ is_running j }
 {
-    match j {
-        Job::Idle => false,
-        Job::Running(r) => true,
-        Job::Removing(m) => false,
-    }
+    matches!(j, Job::Running(_))
 }
 
 pub fn peer_at(s: Stage, id: u64) -> u64
@@ -37,12 +29,5 @@ pub fn peer_at(s: Stage, id: u64) -> u64
 pub fn is_peer(j: Job, id: u64) -> bool
     ensures { result ≡ is_peer j id }
 {
-    match j {
-        Job::Idle => false,
-        Job::Running(r) => false,
-        Job::Removing(m) => {
-            let s = m.stage;
-            peer_at(s, m.id) == id
-        }
-    }
+    matches!(j, Job::Removing(m) if peer_at(m.stage, m.id) == id)
 }

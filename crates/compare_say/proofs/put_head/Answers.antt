@@ -4,16 +4,16 @@ use Rattle.text_bytes.proofs.Laws.{emits-parts, emits-end}
 use Rattle.compare_say.specs.Said.{head_text}
 use Rattle.compare_say.proofs.put_head.Goals as goal
 
-pub returns-in-Refused : goal.returns-in-Refused
+pub returns-in-Err : goal.returns-in-Err
 unfolding head_text emits
-returns-in-Refused c =
-    rw (← c.next_difference.ensures, c.in-Refused.is)
-    (emits-parts _ _ (rw (c.put.ensures, c.put_number-b.ensures, c.put_bytes-a.ensures)))
+returns-in-Err c =
+    rw (← c.next_difference.ensures, c.in-Err.is)
+    (emits-parts _ _ (rw (c.put.ensures, c.put_number-b.ensures, c.number.ensures, c.put_bytes-a.ensures)))
 
-pub returns-in-Found : goal.returns-in-Found
+pub returns-in-Ok-Some : goal.returns-in-Ok-Some
 unfolding head_text
-returns-in-Found c = rw (← c.next_difference.ensures, c.in-Found.is) (sym (emits-end _))
+returns-in-Ok-Some c = rw (← c.next_difference.ensures, c.in-Ok-Some.is, c.in-Ok-Some.field-0-is) (sym (emits-end _))
 
-pub returns-in-Over : goal.returns-in-Over
+pub returns-in-Ok-None : goal.returns-in-Ok-None
 unfolding head_text joined
-returns-in-Over c = rw (← c.next_difference.ensures, c.in-Over.is) c.put_bytes.ensures
+returns-in-Ok-None c = rw (← c.next_difference.ensures, c.in-Ok-None.is, c.in-Ok-None.field-0-is) c.put_bytes.ensures

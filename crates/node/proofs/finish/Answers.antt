@@ -9,7 +9,7 @@ returns c =
     let k = c.carry.ensures in
     let e = words-by s.lent s.t s.words s.map.now s.staging.now c.requires in
     record {
-      value = rw (c.after-w.ensures, k.map_after, e);
+      value = rw (c.after.ensures, k.map_after, e);
       map_after = k.map_after;
       staging_after = k.staging_after;
     }

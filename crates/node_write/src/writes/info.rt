@@ -12,7 +12,7 @@ fn pool_info_allowed(n: Node, lent: u64, op: Op, member: u64) -> Result<(), Refu
     ensures { number_of result ≡ pool_info_refusal n lent op member }
 {
     turns::allowed(n, lent)?;
-    if 15 < n.id || 15 < member {
+    if 15 < member {
         return Err(Refusal::BadId);
     }
     if !states::is_joined(n.state) {

@@ -12,7 +12,7 @@ fn write_allowed(n: Node, lent: u64, chunk: u64, set: u64, version: u64) -> Resu
     ensures { number_of result ≡ write_refusal n lent chunk set version }
 {
     turns::allowed(n, lent)?;
-    if 15 < n.id || 65535 < set {
+    if 65535 < set {
         return Err(Refusal::BadId);
     }
     if n.chunks <= chunk {
@@ -57,7 +57,7 @@ fn synced_allowed(n: Node, lent: u64, member: u64, chunk: u64) -> Result<(), Ref
     ensures { number_of result ≡ synced_refusal n lent member chunk }
 {
     turns::allowed(n, lent)?;
-    if 15 < n.id || 15 < member {
+    if 15 < member {
         return Err(Refusal::BadId);
     }
     if n.chunks <= chunk {

@@ -5,13 +5,13 @@ use lib.ListN.{length}
 use Rattle.audit_list.proofs.AuditorLaws.{walk_more, walk-done}
 use Rattle.audit_list.proofs.auditor.audit.Goals as goal
 
-pub loop-i-preserved : goal.loop-i-preserved
-loop-i-preserved c =
-    let v = c.loop-i in
-    let small : v.i < length c.args.log.now = omega arith in
-    (omega arith, rw (c.turn-w.ensures, add-one) (walk_more v.w _ c.args.log.now v.i _ small v.invariant.1))
+pub loop-r-preserved : goal.loop-r-preserved
+loop-r-preserved c =
+    let v = c.loop-r in
+    let small : v.r-index < length c.args.log.now = omega arith in
+    rw (c.turn-w.ensures, add-one) (walk_more v.w _ c.args.log.now v.r-index _ small v.invariant)
 
 pub returns : goal.returns
 returns c =
-    let v = c.loop-i in
-    walk-done v.w _ c.args.log.now v.i (omega arith) v.invariant.1
+    let v = c.loop-r in
+    walk-done v.w _ c.args.log.now v.r-index (omega arith) v.invariant

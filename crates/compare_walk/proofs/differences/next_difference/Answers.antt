@@ -1,37 +1,29 @@
-use Rattle.std.proofs.Common.{◌≡◌, ◌+◌, ◌*◌, ◌<◌, sym, ◌∙◌, arith}
+use Rattle.std.proofs.Common.{◌≡◌, ◌+◌, ◌*◌, ◌<◌, sym, ap, ◌∙◌, arith, Err}
+use Rattle.std.proofs.lemmas.Result.{err_from_is_err_and}
 use Rattle.compare_walk.specs.Differences.{place_of}
 use Rattle.compare_walk.specs.Dumps.{dumps_refusal}
-use Rattle.compare_walk.proofs.DumpsLaws.{good}
-use Rattle.compare_walk.proofs.Places.{next-taken, next-refused, is_found, is-over}
+use Rattle.compare_walk.proofs.DumpsLaws.{good, is-taken}
+use Rattle.compare_walk.proofs.Places.{next-taken, next-err}
 use Rattle.compare_walk.proofs.differences.next_difference.Goals as goal
 
-pub returns-then-n-ne0 : goal.returns-then-n-ne0
-returns-then-n-ne0 c = sym (next-refused _ _ _ _ _ c.if-n-ne0.true (sym c.refusal-n.ensures))
+pub returns-in_err-refusal : goal.returns-in_err-refusal
+returns-in_err-refusal c =
+    let p = err_from_is_err_and c.from_residual.result c.from_residual.ensures.1 in
+    p.1 ∙ ap Err p.2 ∙ sym (next-err _ _ _ _ _ (sym c.refusal.ensures ∙ c.in_err-refusal.was))
 
 pub overflow_mul-member : goal.overflow_mul-member
 overflow_mul-member c =
-    let b = c.args in
-    let e : dumps_refusal b.first.now b.second.now b.member ≡ 0 = sym c.refusal-n.ensures ∙ c.if-n-ne0.false in
-    let g : b.member < 16 = (good _ _ _ e).member in
+    let g : c.args.member < 16 = (good _ _ _ (is-taken _ _ _ _ (sym c.refusal.ensures ∙ c.in_ok-refusal.was))).member in
     omega arith
 
 pub overflow_add-member : goal.overflow_add-member
 overflow_add-member c =
-    let b = c.args in
-    let e : dumps_refusal b.first.now b.second.now b.member ≡ 0 = sym c.refusal-n.ensures ∙ c.if-n-ne0.false in
-    let g : b.member < 16 = (good _ _ _ e).member in
-    omega (arith, c.least.ensures)
-
-pub returns-then-p-lt-PLACES : goal.returns-then-p-lt-PLACES
-returns-then-p-lt-PLACES c =
-    let b = c.args in
-    let e : dumps_refusal b.first.now b.second.now b.member ≡ 0 = sym c.refusal-n.ensures ∙ c.if-n-ne0.false in
-    let a : place_of b.member b.chunk ≡ 4096 * b.member + c.least.result = omega (arith, c.least.ensures) in
-    rw (next-taken _ _ _ b.chunk e, a, ← c.seek-p.ensures, is_found _ _ _ c.if-p-lt-PLACES.true, c.which-w.ensures)
+    let g : c.args.member < 16 = (good _ _ _ (is-taken _ _ _ _ (sym c.refusal.ensures ∙ c.in_ok-refusal.was))).member in
+    omega (arith, c.min.ensures)
 
 pub returns : goal.returns
 returns c =
     let b = c.args in
-    let e : dumps_refusal b.first.now b.second.now b.member ≡ 0 = sym c.refusal-n.ensures ∙ c.if-n-ne0.false in
-    let a : place_of b.member b.chunk ≡ 4096 * b.member + c.least.result = omega (arith, c.least.ensures) in
-    rw (next-taken _ _ _ b.chunk e, a, ← c.seek-p.ensures, is-over _ _ _ c.if-p-lt-PLACES.false)
+    let e : dumps_refusal b.first.now b.second.now b.member ≡ 0 = is-taken _ _ _ _ (sym c.refusal.ensures ∙ c.in_ok-refusal.was) in
+    let a : place_of b.member b.chunk ≡ 4096 * b.member + c.min.result = omega (arith, c.min.ensures) in
+    rw (next-taken _ _ _ b.chunk e, a, ← c.seek.ensures)

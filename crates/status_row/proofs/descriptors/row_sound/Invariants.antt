@@ -4,6 +4,3 @@ use Rattle.status_row.proofs.descriptors.row_sound.Given as goal
 
 abbrev pub invariant-loop-c : goal.invariant-loop-c
 invariant-loop-c l = all_clean l.row l.c (4096 - l.c) ≡ row_sound l.n l.row
-
-abbrev pub decreases-loop-c : goal.decreases-loop-c
-decreases-loop-c l = 4096 - l.c

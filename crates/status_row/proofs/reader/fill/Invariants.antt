@@ -1,9 +1,5 @@
-use Rattle.std.proofs.Common.{◌-◌, ◌/◌, length}
 use Rattle.status_row.proofs.ReaderLaws.{Filling}
 use Rattle.status_row.proofs.reader.fill.Given as goal
 
 abbrev pub invariant-loop-i : goal.invariant-loop-i
-invariant-loop-i l = Filling l.s l.n l.bytes l.fn.row l.c l.i l.row
-
-abbrev pub decreases-loop-i : goal.decreases-loop-i
-decreases-loop-i l = length l.bytes / 8 - l.i
+invariant-loop-i l = Filling l.v.size l.v.chunks l.bytes l.fn.row l.c l.i l.row

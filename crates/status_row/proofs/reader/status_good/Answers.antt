@@ -13,10 +13,10 @@ pub returns-then-not-desc_good : goal.returns-then-not-desc_good
 returns-then-not-desc_good c = checking-bad _ _ _ _ _ _ _ c.loop-i.invariant c.loop-i-test.true c.get32-b.ensures.0 c.get32-f.ensures.0 (sym c.desc_good.ensures ∙ c.if-not-desc_good.true)
 
 pub overflow_add-next : goal.overflow_add-next
-overflow_add-next c = omega (arith, c.get32-b.ensures.1, c.loop-i.invariant.low, div-le_self c.get32-b.result c.args.s)
+overflow_add-next c = omega (arith, c.get32-b.ensures.1, c.loop-i.invariant.low, div-le_self c.get32-b.result c.args.v.size)
 
-pub returns-then-n-next : goal.returns-then-n-next
-returns-then-n-next c = checking-over _ _ _ _ _ _ _ c.loop-i.invariant c.loop-i-test.true c.get32-b.ensures.0 c.get32-f.ensures.0 (omega arith)
+pub returns-then-v-next : goal.returns-then-v-next
+returns-then-v-next c = checking-over _ _ _ _ _ _ _ c.loop-i.invariant c.loop-i-test.true c.get32-b.ensures.0 c.get32-f.ensures.0 (omega arith)
 
 pub loop-i-preserved : goal.loop-i-preserved
 loop-i-preserved c = checking-more _ _ _ _ _ _ _ c.loop-i.invariant c.loop-i-test.true c.get32-b.ensures.0 c.get32-f.ensures.0 (sym c.desc_good.ensures ∙ c.if-not-desc_good.false) (omega arith)

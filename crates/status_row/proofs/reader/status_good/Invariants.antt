@@ -1,9 +1,5 @@
-use Rattle.std.proofs.Common.{◌-◌, ◌/◌, length}
 use Rattle.status_row.proofs.ReaderLaws.{Checking}
 use Rattle.status_row.proofs.reader.status_good.Given as goal
 
 abbrev pub invariant-loop-i : goal.invariant-loop-i
-invariant-loop-i l = Checking l.s l.n l.bytes l.c l.i
-
-abbrev pub decreases-loop-i : goal.decreases-loop-i
-decreases-loop-i l = length l.bytes / 8 - l.i
+invariant-loop-i l = Checking l.v.size l.v.chunks l.bytes l.c l.i

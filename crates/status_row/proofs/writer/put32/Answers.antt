@@ -9,4 +9,4 @@ returns c =
     let p : i + 1 ≡ suc i = omega arith in
     let q : i + 2 ≡ suc (suc i) = omega arith in
     let w : i + 3 ≡ suc (suc (suc i)) = omega arith in
-    rw (p, q, w, c.low.ensures, c.low-2.ensures, c.low-3.ensures, c.low-4.ensures)
+    rw (p, q, w)

@@ -1,38 +1,37 @@
-use Rattle.std.proofs.Common.{sym, ap, ◌∙◌}
+use Rattle.std.proofs.Common.{Ok, sym, ap, ◌∙◌}
 use borrow.Author.Tests.{le-leb, lt-leb}
 use Rattle.status_row.proofs.DescriptorsLaws.{volume}
 use Rattle.status_row.specs.Writing.{write_refusal, write_answer, write_leaves}
-use Rattle.status_row.specs.declared.writer.Wrote.{Wrote}
 use Rattle.status_row.proofs.writer.write.Goals as goal
 
 pub returns-then-not-row_sound : goal.returns-then-not-row_sound
 unfolding write_refusal write_answer write_leaves
 returns-then-not-row_sound c = let e = sym c.row_sound.ensures ∙ c.if-not-row_sound.true in (rw e, rw e)
 
-pub returns-then-not-volume_good : goal.returns-then-not-volume_good
+pub returns-then-not-good : goal.returns-then-not-good
 unfolding write_refusal write_answer write_leaves
-returns-then-not-volume_good c =
+returns-then-not-good c =
     let e = sym c.row_sound.ensures ∙ c.if-not-row_sound.false in
-    let q = sym c.volume_good.ensures ∙ c.if-not-volume_good.true in
+    let q = sym c.good.ensures ∙ c.if-not-good.true in
     (rw (e, q), rw (e, q))
 
 pub returns-then-out-lt32768 : goal.returns-then-out-lt32768
 unfolding write_refusal write_answer write_leaves
 returns-then-out-lt32768 c =
     let e = sym c.row_sound.ensures ∙ c.if-not-row_sound.false in
-    let q = sym c.volume_good.ensures ∙ c.if-not-volume_good.false in
+    let q = sym c.good.ensures ∙ c.if-not-good.false in
     let l = lt-leb 32768 _ c.if-out-lt32768.true in
     (rw (e, q, l), rw (e, q, l))
 
-pub put_status-k-requires : goal.put_status-k-requires
-put_status-k-requires c =
-    let v = volume _ _ (sym c.volume_good.ensures ∙ c.if-not-volume_good.false) in
+pub put_status-requires : goal.put_status-requires
+put_status-requires c =
+    let v = volume _ _ (sym c.good.ensures ∙ c.if-not-good.false) in
     (v.from, (v.upto, (v.most, c.if-out-lt32768.false)))
 
 pub returns : goal.returns
 unfolding write_refusal write_answer write_leaves
 returns c =
     let e = sym c.row_sound.ensures ∙ c.if-not-row_sound.false in
-    let q = sym c.volume_good.ensures ∙ c.if-not-volume_good.false in
+    let q = sym c.good.ensures ∙ c.if-not-good.false in
     let l = le-leb 32768 _ c.if-out-lt32768.false in
-    (rw (e, q, l) (ap Wrote.Bytes c.put_status-k.ensures.0), rw (e, q, l) c.put_status-k.ensures.1)
+    (rw (e, q, l) (ap Ok c.put_status.ensures.0), rw (e, q, l) c.put_status.ensures.1)

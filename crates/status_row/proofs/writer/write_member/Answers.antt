@@ -20,5 +20,5 @@ unfolding member_answer member_leaves
 returns c =
     let e = eq-eqb _ map_bytes c.if-map-ne-MAP_BYTES.false in
     let l = lt-ltb c.args.m 16 (omega arith) in
-    let r = c.row-row.ensures in
+    let r = c.row.ensures in
     (rw (e, l, ← r) c.write.ensures.0, rw (e, l, ← r) c.write.ensures.1)

@@ -1,6 +1,0 @@
-use Rattle.rules_client.specs.Client.{check_turn}
-use Rattle.client.proofs.Client.check_answer.Goals as goal
-
-pub returns : goal.returns
-unfolding check_turn
-returns c = c.on_map.ensures

@@ -1,6 +1,0 @@
-use Rattle.rules_client.specs.Client.{extend_turn}
-use Rattle.client.proofs.Client.extend.Goals as goal
-
-pub returns : goal.returns
-unfolding extend_turn
-returns c = c.on_map.ensures

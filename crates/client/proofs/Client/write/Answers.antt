@@ -1,6 +1,0 @@
-use Rattle.rules_client.specs.Client.{write_turn}
-use Rattle.client.proofs.Client.write.Goals as goal
-
-pub returns : goal.returns
-unfolding write_turn
-returns c = c.on_map.ensures

@@ -1,7 +1,0 @@
-use Rattle.lab_command.specs.Events.{transfer_events}
-use mathlib.Core.Path.{refl}
-use Rattle.lab_command.proofs.events.transfer_events.Goals as goal
-
-pub returns : goal.returns
-unfolding transfer_events
-returns c = rw (c.first.ensures, c.node-4.ensures, c.first-r-6.ensures, c.node-is-3.ensures, c.first-r-5.ensures, c.node-3.ensures, c.first-r-4.ensures, c.node-2.ensures, c.first-r-3.ensures, c.node.ensures, c.first-r-2.ensures, c.node-is-2.ensures, c.first-r.ensures, c.node-is.ensures) refl
