@@ -4,7 +4,6 @@ use mathlib.Core.List.{List, [], ◌∷◌, map}
 use native.Mathlib.Omega.{arith}
 use lib.ListN.{length}
 use Rattle.text_bytes.specs.Bytes.{bytes}
-use Rattle.text_bytes.specs.Ink.{decimal}
 use Rattle.text_bytes.proofs.Meaning.{joined_length, decimal-length}
 use Rattle.lab_say.specs.Say.{spaced, said}
 use Rattle.audit_record.specs.declared.records.Record.{Record}

@@ -1,23 +1,24 @@
 // What is written of the record of the client's last event.
 ghost use Rattle.std.specs.Prelude.{◌≡◌};
-ghost use Rattle.text_bytes.specs.Ink.{ink, emits};
+ghost use Rattle.text_bytes.specs.Ink.{emits};
 ghost use Rattle.lab_say.specs.Text.{record_text, last_text};
 
 use audit_record::journal::Last;
 use audit_record::records::Record;
+use text_bytes::page::Page;
 
-pub fn put_last(out: &mut [u8], at: usize, l: Last) -> usize
-    ensures { ink out.new result ≡ emits (ink out.old at) (last_text l) }
+pub fn put_last(page: &mut Page, l: Last)
+    ensures { page.new ≡ emits page.old (last_text l) }
 {
     match l {
-        Last::Nothing => text_bytes::put_bytes(out, at, b"none"),
-        Last::Is(r) => put_record(out, at, r),
+        Last::Nothing => page.put_bytes(b"none"),
+        Last::Is(r) => put_record(page, r),
     }
 }
 
-fn put_record(out: &mut [u8], at: usize, r: Record) -> usize
-    ensures { ink out.new result ≡ emits (ink out.old at) (record_text r) }
+fn put_record(page: &mut Page, r: Record)
+    ensures { page.new ≡ emits page.old (record_text r) }
 {
-    let to = crate::say::put4(out, at, b"record", r.sequence, r.kind, r.member, r.set);
-    crate::say::put4(out, to, b"", r.number, r.version, r.count, r.causes)
+    crate::say::put_numbers(page, b"record", &[r.sequence, r.kind, r.member, r.set]);
+    crate::say::put_numbers(page, b"", &[r.number, r.version, r.count, r.causes]);
 }

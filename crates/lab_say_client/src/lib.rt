@@ -2,157 +2,132 @@
 #![tactic(auto)]
 
 ghost use Rattle.std.specs.Prelude.{◌≡◌, map};
-ghost use Rattle.text_bytes.specs.Ink.{ink, emits};
+ghost use Rattle.text_bytes.specs.Ink.{emits};
 ghost use Rattle.lab_say_client.specs.Client.{letter, phase_text, job_text, outcome_text, roster_text, flags_text, client_text, past_text, check_text, causes_text, look_text};
 
+use client_state::roster::ids;
+use lab_say::say::{put_awaited, put_pair, put_told};
 use rules_client::Check;
 use rules_pool::{Job, Kind, Outcome, Past, Phase, Pool, Roster, Sent, Session, State};
+use text_bytes::page::Page;
 
+#[tactic(auto, unfolding(crate::specs::Client::letter))]
 fn letter_of(s: Session) -> u8
     ensures { result ≡ letter s }
 {
-    let st = s.state;
-    match st {
-        State::Free => 46,
-        State::Created => 67,
-        State::Normal => 78,
-        State::Failed(cause) => 70,
-        State::Reconnecting => 82,
-        State::Removing(mode, owed) => 88,
+    match s.state {
+        State::Free => b'.',
+        State::Created => b'C',
+        State::Normal => b'N',
+        State::Failed(_) => b'F',
+        State::Reconnecting => b'R',
+        State::Removing(_, _) => b'X',
     }
 }
 
-fn put_letters(out: &mut [u8], at: usize, ss: [Session; 16]) -> usize
-    ensures { ink out.new result ≡ emits (ink out.old at) (map letter ss) }
+fn put_letters(page: &mut Page, ss: [Session; 16])
+    ensures { page.new ≡ emits page.old (map letter ss) }
 {
-    let mut to = at;
-    let mut i = 0;
-    while i < 16 {
-        let s = ss[i];
-        to = text_bytes::put(out, to, letter_of(s));
-        i += 1;
+    for s in &ss {
+        page.put(letter_of(*s));
     }
-    to
 }
 
-fn put_phase(out: &mut [u8], at: usize, p: Phase) -> usize
-    ensures { ink out.new result ≡ emits (ink out.old at) (phase_text p) }
+fn put_phase(page: &mut Page, p: Phase)
+    ensures { page.new ≡ emits page.old (phase_text p) }
 {
-    match p {
-        Phase::Versions(top) => text_bytes::put_bytes(out, at, b" job=run:versions"),
-        Phase::Base(step) => text_bytes::put_bytes(out, at, b" job=run:base"),
-        Phase::LastIo => text_bytes::put_bytes(out, at, b" job=run:last_io"),
-        Phase::Gather(step) => text_bytes::put_bytes(out, at, b" job=run:gather"),
-        Phase::Enable(every) => text_bytes::put_bytes(out, at, b" job=run:enable"),
-        Phase::Spread(step) => text_bytes::put_bytes(out, at, b" job=run:spread"),
-    }
+    page.put_bytes(match p {
+        Phase::Versions(_) => b" job=run:versions",
+        Phase::Base(_) => b" job=run:base",
+        Phase::LastIo => b" job=run:last_io",
+        Phase::Gather(_) => b" job=run:gather",
+        Phase::Enable(_) => b" job=run:enable",
+        Phase::Spread(_) => b" job=run:spread",
+    });
 }
 
-fn put_job(out: &mut [u8], at: usize, j: Job) -> usize
-    ensures { ink out.new result ≡ emits (ink out.old at) (job_text j) }
+fn put_job(page: &mut Page, j: Job)
+    ensures { page.new ≡ emits page.old (job_text j) }
 {
     match j {
-        Job::Idle => text_bytes::put_bytes(out, at, b" job=none"),
-        Job::Running(run) => {
-            let phase = run.phase;
-            put_phase(out, at, phase)
-        }
-        Job::Removing(removal) => lab_say::say::put_pair(out, at, b" job=remove:", removal.id),
+        Job::Idle => page.put_bytes(b" job=none"),
+        Job::Running(run) => put_phase(page, run.phase),
+        Job::Removing(removal) => put_pair(page, b" job=remove:", removal.id),
     }
 }
 
-fn put_written(out: &mut [u8], at: usize, acked: bool, list: u64) -> usize
-    ensures { ink out.new result ≡ emits (ink out.old at) (outcome_text (Outcome.Written acked list)) }
-{
-    let to = lab_say::say::put_pair(out, at, b" acked=", u64::from(acked));
-    lab_say::say::put_pair(out, to, b" list=", list)
-}
-
-fn put_outcome(out: &mut [u8], at: usize, o: Outcome) -> usize
-    ensures { ink out.new result ≡ emits (ink out.old at) (outcome_text o) }
+fn put_outcome(page: &mut Page, o: Outcome)
+    ensures { page.new ≡ emits page.old (outcome_text o) }
 {
     match o {
-        Outcome::Plain => at,
-        Outcome::Taken(taken) => lab_say::say::put_pair(out, at, b" taken=", taken),
-        Outcome::Written(acked, list) => put_written(out, at, acked, list),
-        Outcome::Picked(id) => lab_say::say::put_pair(out, at, b" id=", id),
+        Outcome::Plain => {}
+        Outcome::Taken(taken) => put_pair(page, b" taken=", taken),
+        Outcome::Written(acked, list) => {
+            put_pair(page, b" acked=", u64::from(acked));
+            put_pair(page, b" list=", list);
+        }
+        Outcome::Picked(id) => put_pair(page, b" id=", id),
     }
 }
 
-fn put_roster(out: &mut [u8], at: usize, ro: Roster) -> usize
-    ensures { ink out.new result ≡ emits (ink out.old at) (roster_text ro) }
+fn put_roster(page: &mut Page, ro: Roster)
+    ensures { page.new ≡ emits page.old (roster_text ro) }
 {
-    let ss = ro.sessions;
-    let to = lab_say::say::put_pair(out, at, b"ok version=", ro.version);
-    let to = lab_say::say::put_pair(out, to, b" count=", ro.count);
-    let to = lab_say::say::put_pair(out, to, b" members=", ro.members);
-    let to = text_bytes::put_bytes(out, to, b" sessions=");
-    put_letters(out, to, ss)
+    put_pair(page, b"ok version=", ro.version);
+    put_pair(page, b" count=", ro.count);
+    put_pair(page, b" members=", ro.members);
+    page.put_bytes(b" sessions=");
+    put_letters(page, ro.sessions);
 }
 
-fn put_flags(out: &mut [u8], at: usize, ro: Roster) -> usize
-    ensures { ink out.new result ≡ emits (ink out.old at) (flags_text ro) }
+fn put_flags(page: &mut Page, ro: Roster)
+    ensures { page.new ≡ emits page.old (flags_text ro) }
 {
-    let maint = client_state::roster::ids(Kind::Maintained, ro);
-    let marked = client_state::roster::ids(Kind::Marked, ro);
-    let delete = client_state::roster::ids(Kind::Deleting, ro);
-    let owed = client_state::roster::ids(Kind::Owed, ro);
-    let to = lab_say::say::put_pair(out, at, b" maint=", maint);
-    let to = lab_say::say::put_pair(out, to, b" marked=", marked);
-    let to = lab_say::say::put_pair(out, to, b" delete=", delete);
-    lab_say::say::put_pair(out, to, b" owed=", owed)
+    put_pair(page, b" maint=", ids(Kind::Maintained, ro));
+    put_pair(page, b" marked=", ids(Kind::Marked, ro));
+    put_pair(page, b" delete=", ids(Kind::Deleting, ro));
+    put_pair(page, b" owed=", ids(Kind::Owed, ro));
 }
 
 // The line of an accepted event, without its newline.
-pub fn put_client(out: &mut [u8], at: usize, p: Pool, sent: Sent) -> usize
-    ensures { ink out.new result ≡ emits (ink out.old at) (client_text p sent) }
+pub fn put_client(page: &mut Page, p: Pool, sent: Sent)
+    ensures { page.new ≡ emits page.old (client_text p sent) }
 {
-    let ro = p.roster;
-    let job = p.job;
-    let outcome = sent.outcome;
-    let told = sent.told;
-    let awaited = sent.awaited;
-    let to = put_roster(out, at, ro);
-    let to = put_flags(out, to, ro);
-    let to = put_job(out, to, job);
-    let to = put_outcome(out, to, outcome);
-    let to = lab_say::say::put_told(out, to, told);
-    lab_say::say::put_awaited(out, to, awaited, sent.number as u64)
+    put_roster(page, p.roster);
+    put_flags(page, p.roster);
+    put_job(page, p.job);
+    put_outcome(page, sent.outcome);
+    put_told(page, sent.told);
+    put_awaited(page, sent.awaited, u64::from(sent.number));
 }
 
-fn put_past(out: &mut [u8], at: usize, past: Past) -> usize
-    ensures { ink out.new result ≡ emits (ink out.old at) (past_text past) }
+fn put_past(page: &mut Page, past: Past)
+    ensures { page.new ≡ emits page.old (past_text past) }
 {
-    let written = u64::from(past.written);
-    let assembled = u64::from(past.assembled);
-    let to = lab_say::say::put_pair(out, at, b"look written=", written);
-    lab_say::say::put_pair(out, to, b" assembled=", assembled)
+    put_pair(page, b"look written=", u64::from(past.written));
+    put_pair(page, b" assembled=", u64::from(past.assembled));
 }
 
-fn put_check(out: &mut [u8], at: usize, k: Check) -> usize
-    ensures { ink out.new result ≡ emits (ink out.old at) (check_text k) }
+fn put_check(page: &mut Page, k: Check)
+    ensures { page.new ≡ emits page.old (check_text k) }
 {
-    let to = lab_say::say::put_pair(out, at, b" tick=", k.tick as u64);
-    let to = lab_say::say::put_pair(out, to, b" due=", k.due as u64);
-    lab_say::say::put_pair(out, to, b" once=", k.once as u64)
+    put_pair(page, b" tick=", u64::from(k.tick));
+    put_pair(page, b" due=", u64::from(k.due));
+    put_pair(page, b" once=", u64::from(k.once));
 }
 
-fn put_causes(out: &mut [u8], at: usize, ro: Roster) -> usize
-    ensures { ink out.new result ≡ emits (ink out.old at) (causes_text ro) }
+fn put_causes(page: &mut Page, ro: Roster)
+    ensures { page.new ≡ emits page.old (causes_text ro) }
 {
-    let link = client_state::roster::ids(Kind::Link, ro);
-    let io = client_state::roster::ids(Kind::Io, ro);
-    let to = lab_say::say::put_pair(out, at, b" link=", link);
-    lab_say::say::put_pair(out, to, b" io=", io)
+    put_pair(page, b" link=", ids(Kind::Link, ro));
+    put_pair(page, b" io=", ids(Kind::Io, ro));
 }
 
 // The line of the further fields, without its newline.
-pub fn put_look(out: &mut [u8], at: usize, p: Pool, k: Check) -> usize
-    ensures { ink out.new result ≡ emits (ink out.old at) (look_text p k) }
+pub fn put_look(page: &mut Page, p: Pool, k: Check)
+    ensures { page.new ≡ emits page.old (look_text p k) }
 {
-    let ro = p.roster;
-    let past = ro.past;
-    let to = put_past(out, at, past);
-    let to = put_check(out, to, k);
-    put_causes(out, to, ro)
+    put_past(page, p.roster.past);
+    put_check(page, k);
+    put_causes(page, p.roster);
 }

@@ -6,4 +6,4 @@ use Rattle.lab_say_client.proofs.put_causes.Goals as goal
 
 pub returns : goal.returns
 unfolding causes_text
-returns c = emits-parts _ _ (emits_then (emits_then refl (ap (paired _) c.ids-link.ensures) c.put_pair-to.ensures) (ap (paired _) c.ids-io.ensures) c.put_pair.ensures)
+returns c = emits-parts _ _ (emits_then (emits_then refl (ap (paired _) c.ids.ensures) c.put_pair.ensures) (ap (paired _) c.ids-2.ensures) c.put_pair-2.ensures)

@@ -6,4 +6,4 @@ use Rattle.lab_say_client.proofs.put_flags.Goals as goal
 
 pub returns : goal.returns
 unfolding flags_text
-returns c = emits-parts _ _ (emits_then (emits_then (emits_then (emits_then refl (ap (paired _) c.ids-maint.ensures) c.put_pair-to.ensures) (ap (paired _) c.ids-marked.ensures) c.put_pair-to-2.ensures) (ap (paired _) c.ids-delete.ensures) c.put_pair-to-3.ensures) (ap (paired _) c.ids-owed.ensures) c.put_pair.ensures)
+returns c = emits-parts _ _ (emits_then (emits_then (emits_then (emits_then refl (ap (paired _) c.ids.ensures) c.put_pair.ensures) (ap (paired _) c.ids-2.ensures) c.put_pair-2.ensures) (ap (paired _) c.ids-3.ensures) c.put_pair-3.ensures) (ap (paired _) c.ids-4.ensures) c.put_pair-4.ensures)

@@ -1,14 +1,23 @@
-use Rattle.lab_say.proofs.NodeLineLaws.{chunks-none, chunks-some}
-use Rattle.lab_say.specs.NodeLine.{kept_text}
-use Rattle.text_bytes.proofs.Laws.{emits-parts, emits_then}
-use mathlib.Core.Path.{refl}
+use Prim.Native.Nat.{◌+◌}
+use mathlib.Core.Path.{sym, ap, ◌∙◌}
 use native.Mathlib.Omega.{arith}
+use borrow.Author.Rules.{rules}
+use Rattle.lab_say.specs.NodeLine.{commas, kept_text}
+use Rattle.lab_say.proofs.NodeLineLaws.{commas-more, commas-end, kept-rest, chunks-none, chunks-some}
+use Rattle.text_bytes.proofs.Laws.{emits-parts, emits_then, rest_more, rest-done}
 use Rattle.lab_say.proofs.node_line.put_kept.Goals as goal
 
-pub returns-then-from-gt15 : goal.returns-then-from-gt15
+pub returns-then-from-eq16 : goal.returns-then-from-eq16
 unfolding kept_text
-returns-then-from-gt15 c = rw (← c.first_kept-from.ensures, chunks-none c.args.kept c.first_kept-from.result (omega arith)) c.put_bytes.ensures
+returns-then-from-eq16 c = let i = c.saturating_sub-from.result in
+    rw (← c.saturating_sub-from.ensures, chunks-none c.args.kept i (omega arith)) c.put_bytes.ensures
+
+pub loop-n-preserved : goal.loop-n-preserved
+loop-n-preserved c = rest_more _ c.loop-n.invariant (search rules) (commas-more _ _ _ c.put_sign.ensures)
 
 pub returns : goal.returns
 unfolding kept_text
-returns c = rw (← c.first_kept-from.ensures, chunks-some c.args.kept c.first_kept-from.result (omega arith)) (emits-parts _ _ (emits_then c.put_number-to.ensures refl c.put_commas.ensures))
+returns c = let i = c.saturating_sub-from.result in
+    let e = sym (commas-end _) ∙ rest-done c.loop-n.invariant (search rules) in
+    rw (← c.saturating_sub-from.ensures, chunks-some c.args.kept i (omega arith))
+    (emits-parts _ _ (emits_then c.put_number.ensures (ap commas (kept-rest c.args.kept (i + 1) (search rules))) e))

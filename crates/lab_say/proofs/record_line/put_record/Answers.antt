@@ -5,4 +5,4 @@ use Rattle.lab_say.proofs.record_line.put_record.Goals as goal
 
 pub returns : goal.returns
 unfolding record_text
-returns c = emits-parts _ _ (emits_then (emits_then refl refl c.put4-to.ensures) refl c.put4.ensures)
+returns c = emits-parts _ _ (emits_then (emits_then refl refl c.put_numbers.ensures) refl c.put_numbers-2.ensures)

@@ -1,19 +1,16 @@
+use mathlib.Core.Path.{sym, ap, ◌∙◌}
 use borrow.Author.Rules.{rules}
-use Rattle.lab_say.proofs.RowLineLaws.{Ranged, ranged-start, ranged-dirty, ranged-clean, ranged-done}
-use Rattle.lab_say.specs.Row.{ranges, is_dirty}
-use Rattle.text_bytes.specs.Ink.{ink, emits}
-use lib.ListN.{length}
-use mathlib.Core.Bool.{false}
-use Prim.Native.Nat.{◌-◌}
-use Rattle.text_bytes.proofs.Laws.{emits-length}
-use mathlib.Core.Path.{◌≡◌, refl, sym, ap, ◌∙◌}
+use Rattle.std.specs.Prelude.{Some}
+use Rattle.lab_say.proofs.RowLineLaws.{ranged-dirty, ranged-clean, ranged-done}
+use Rattle.lab_say.proofs.row_line.put_ranges.Goals.{then-test, else-test}
 use Rattle.lab_say.proofs.row_line.put_ranges.Goals as goal
 
-pub loop-c-preserved-then-d : goal.loop-c-preserved-then-d
-loop-c-preserved-then-d c = let k = c.loop-c in (k.invariant.0, ranged-dirty k.invariant.1 (search rules) (sym c.test-d.ensures ∙ c.if-d.true) c.choose-a.ensures)
-
 pub loop-c-preserved : goal.loop-c-preserved
-loop-c-preserved c = let k = c.loop-c in (ap (λ x. length x.buf) c.put_begun-to.ensures ∙ emits-length _ _ ∙ k.invariant.0, ranged-clean k.invariant.1 (search rules) (sym c.test-d.ensures ∙ c.if-d.false) c.put_begun-to.ensures)
+loop-c-preserved c =
+    elim c.if-test.branch [
+      | then-test w ↦ rw w.page-is (ranged-dirty c.loop-c.invariant (search rules) (sym c.test.ensures ∙ w.if-test.true) (w.begun-is ∙ ap Some w.unwrap_or.ensures))
+      | else-test w ↦ rw (w.page-is, w.begun-is) (ranged-clean c.loop-c.invariant (search rules) (sym c.test.ensures ∙ w.if-test.false) w.put_begun.ensures)
+    ]
 
 pub returns : goal.returns
-returns c = ranged-done c.loop-c.invariant.1 (search rules) c.put_begun.ensures
+returns c = ranged-done c.loop-c.invariant (search rules) c.put_begun-2.ensures

@@ -1,12 +1,13 @@
 use Rattle.lab_say.specs.Say.{awaited_text}
-use Rattle.text_bytes.proofs.Laws.{emits-end, emits-parts}
+use Rattle.text_bytes.proofs.Laws.{emits-end}
+use Rattle.lab_say.proofs.SayLaws.{awaited-of}
 use mathlib.Core.Path.{sym}
 use Rattle.lab_say.proofs.say.put_awaited.Goals as goal
 
-pub returns-then-none : goal.returns-then-none
+pub returns-then-is_nothing : goal.returns-then-is_nothing
 unfolding awaited_text
-returns-then-none c = rw (← c.is_nothing-none.ensures, c.if-none.true) (sym (emits-end _))
+returns-then-is_nothing c = rw (← c.is_nothing.ensures, c.if-is_nothing.true) (sym (emits-end _))
 
 pub returns : goal.returns
 unfolding awaited_text
-returns c = rw (← c.is_nothing-none.ensures, c.if-none.false) (emits-parts _ _ cc)
+returns c = rw (← c.is_nothing.ensures, c.if-is_nothing.false) (awaited-of _ _ _ _ c.put_message.ensures c.put_pair.ensures)

@@ -1,5 +1,4 @@
 use Rattle.text_bytes.proofs.Laws.{emits-parts}
-use borrow.Author.Rules.{rules}
 use Rattle.lab_say.proofs.say.put_pair.Goals as goal
 
 pub returns : goal.returns

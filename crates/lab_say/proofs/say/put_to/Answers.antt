@@ -6,7 +6,7 @@ pub returns-in-Nothing : goal.returns-in-Nothing
 returns-in-Nothing c = rw c.in-Nothing.is (sym (emits-end _))
 
 pub returns-in-Infos : goal.returns-in-Infos
-returns-in-Infos c = rw (c.in-Infos.is, ← c.op_number.ensures) c.put3_in-in-Infos.ensures
+returns-in-Infos c = rw (c.in-Infos.is, ← c.op_number.ensures) c.put_in-in-Infos.ensures
 
 pub returns-in-Disable : goal.returns-in-Disable
 returns-in-Disable c = rw c.in-Disable.is (sym (emits-end _))
@@ -15,4 +15,4 @@ pub returns-in-Off : goal.returns-in-Off
 returns-in-Off c = rw c.in-Off.is (sym (emits-end _))
 
 pub returns-in-Checks : goal.returns-in-Checks
-returns-in-Checks c = rw c.in-Checks.is c.put2_in.ensures
+returns-in-Checks c = rw c.in-Checks.is c.put_in-in-Checks.ensures

@@ -1,6 +1,0 @@
-use Rattle.text_bytes.proofs.Laws.{emits-parts}
-use borrow.Author.Rules.{rules}
-use Rattle.lab_say.proofs.say.put4.Goals as goal
-
-pub returns : goal.returns
-returns c = emits-parts _ _ cc

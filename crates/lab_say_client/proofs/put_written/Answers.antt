@@ -1,5 +1,0 @@
-use Rattle.text_bytes.proofs.Laws.{emits-parts}
-use Rattle.lab_say_client.proofs.put_written.Goals as goal
-
-pub returns : goal.returns
-returns c = emits-parts _ _ cc
