@@ -3,15 +3,14 @@ ghost use Rattle.std.specs.Prelude.{◌≡◌};
 ghost use Rattle.text_bytes.specs.Ink.{ink, emits};
 ghost use Rattle.lab_say.specs.Text.{record_text, last_text};
 
-use audit_record::journal::Last;
 use audit_record::records::Record;
 
-pub fn put_last(out: &mut [u8], at: usize, l: Last) -> usize
-    ensures { ink out.new result ≡ emits (ink out.old at) (last_text l) }
+pub fn put_last(out: &mut [u8], at: usize, last: Option<Record>) -> usize
+    ensures { ink out.new result ≡ emits (ink out.old at) (last_text last) }
 {
-    match l {
-        Last::Nothing => text_bytes::put_bytes(out, at, b"none"),
-        Last::Is(r) => put_record(out, at, r),
+    match last {
+        None => text_bytes::put_bytes(out, at, b"none"),
+        Some(r) => put_record(out, at, r),
     }
 }
 
