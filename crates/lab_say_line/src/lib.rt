@@ -10,7 +10,7 @@ ghost use Rattle.lab_say.specs.NodeLine.{node_text, look_text};
 ghost use Rattle.lab_say.specs.Text.{last_text};
 ghost use Rattle.lab_say_line.specs.Lines.{ended, asked_text, found_text, next_text, line_in, row_of, row_in};
 
-use audit_record::journal::Last;
+use audit_record::records::Record;
 use lab_form::Which;
 use rules_client::Check;
 use rules_node::Node;
@@ -33,7 +33,7 @@ pub enum Said {
     Row(Which, u64),
     Look,
     LookNode(u64),
-    Record(Last),
+    Record(Option<Record>),
 }
 
 // The line: p and k are the client's state after the command, n the state of the node that it went to. A row is written by put_row.
@@ -136,7 +136,7 @@ fn look_line(out: &mut [u8], at: usize, n: Node) -> usize
     text_bytes::put(out, to, 10)
 }
 
-fn record_line(out: &mut [u8], at: usize, l: Last) -> usize
+fn record_line(out: &mut [u8], at: usize, l: Option<Record>) -> usize
     ensures { ink out.new result ≡ ended (ink out.old at) (last_text l) }
 {
     let to = lab_say::record_line::put_last(out, at, l);
