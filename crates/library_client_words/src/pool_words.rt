@@ -4,6 +4,7 @@ ghost use Rattle.std.specs.Prelude.{◌≡◌, map, ◌+◌, ◌<◌};
 ghost use Rattle.laws_words.specs.Words.{pick};
 ghost use Rattle.library_client_words.specs.PoolWords.{state_word, session_word, session_in, step_word, step_of, phase_tag, phase_data, phase_of, stage_words, job_words, job_of, run_words};
 
+use map_numbers::numbers::pick;
 use rules_pool::{Cause, Job, Phase, Removal, Run, Session, Stage, State, Step};
 
 fn state_word(s: State) -> u64
@@ -24,10 +25,10 @@ fn flags(word: u64, maintenance: bool, mark: bool, disassembled: bool, owed: boo
     requires { word < 8 }
     ensures { result ≡ word + pick maintenance 8 0 + pick mark 16 0 + pick disassembled 32 0 + pick owed 64 0 }
 {
-    let two = word
-        + map_numbers::numbers::when(maintenance, 8)
-        + map_numbers::numbers::when(mark, 16);
-    two + map_numbers::numbers::when(disassembled, 32) + map_numbers::numbers::when(owed, 64)
+    word + pick(maintenance, 8, 0)
+        + pick(mark, 16, 0)
+        + pick(disassembled, 32, 0)
+        + pick(owed, 64, 0)
 }
 
 #[tactic(auto, using(crate::proofs::PoolInverse::state_small))]
