@@ -104,7 +104,7 @@ impl Stand {
     }
 }
 
-// The node that a command went to or looks at; the first where there is none.
+// The node that a command went to or looks at; the first where there is none, since every line is written beside some node.
 fn number_of(s: Said) -> u64 {
     match s {
         Said::Node(n) | Said::Asked(n, _) | Said::Next(n, _) | Said::LookNode(n) => n,

@@ -144,7 +144,7 @@ fn found_empty(f: Finding) -> bool
     matches!(f, Finding::Empty(true))
 }
 
-// Whom a map check asks: the lowest due member; 16, none, where nobody is due.
+// Whom a map check asks: the lowest due member; 16, no node, where nobody is due, as of any empty set.
 pub fn check_asked(k: Check) -> u64
     ensures { result ≡ check_asked k }
 {

@@ -1,4 +1,4 @@
-// The lab's bench: one client, what is lent of the maps, and what a command does to them. The nodes and the maps stand on the bench of crate lab_places.
+// What the lab knows beside its nodes and maps (crate lab_places): one client, what is lent of the maps, and what a command does to them.
 #![tactic(auto)]
 
 ghost use Rattle.std.specs.Prelude.{◌≡◌, set};

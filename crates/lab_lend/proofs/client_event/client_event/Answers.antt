@@ -1,4 +1,4 @@
-use Rattle.std.proofs.Common.{refl, arith, ℕ, List, [], ◌≡◌, ◌-◌, length, take, drop}
+use Rattle.std.proofs.Common.{refl, arith, [], ◌≡◌, ◌-◌, length, take, drop}
 use Rattle.event_ask.proofs.Parts.{part-is}
 use Rattle.lab_lend.specs.Client.{lender, read_of}
 use Rattle.lab_lend.proofs.ClientLent.{lent-meets}
