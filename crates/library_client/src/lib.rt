@@ -10,7 +10,7 @@ use client::Client;
 use event::Event;
 use rules_pool::{Mode, Reply};
 
-// The event that four numbers stand for. The kinds 1 to 15 are those of a log record.
+// The event that four numbers stand for: numbers, as C hands them over. The kinds 1 to 15 are those of a log record.
 #[tactic(auto, unfolding(crate::specs::Library::numbered))]
 fn event_of(kind: u64, a: u64, b: u64, c: u64) -> Event
     ensures { result ≡ numbered kind a b c }

@@ -110,6 +110,7 @@ fn phase_data(p: Phase) -> u64
     }
 }
 
+// From numbers, as C keeps them.
 fn phase_of(tag: u64, a: u64) -> Phase
     ensures { result ≡ phase_of tag a }
 {

@@ -10,7 +10,7 @@ use event_ask::ask::Finding;
 use node::StorageNode;
 use rules_node::Answer;
 
-// The event that four numbers stand for. The part that TakePart takes is lent beside them.
+// The event that four numbers stand for: numbers, as C hands them over. The part that TakePart takes is lent beside them.
 #[tactic(auto, unfolding(crate::specs::Library::numbered))]
 fn event_of(kind: u64, a: u64, b: u64, c: u64) -> NodeEvent
     ensures { result ≡ numbered kind a b c }
