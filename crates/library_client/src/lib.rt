@@ -1,4 +1,4 @@
-// The compute client for programs in C: its state in 32 words that the caller keeps (crate clientwords), an event as four numbers, its answer in 16 words (crate answerwords).
+// The compute client for programs in C: its state in 32 words that the caller keeps (crate library_client_words), an event as four numbers, its answer in 16 words (crate library_answer).
 #![tactic(auto)]
 
 ghost use Rattle.std.specs.Prelude.{◌≡◌, ltb};

@@ -1,4 +1,4 @@
-// The storage node for programs in C: its state in 32 words that the caller keeps (crate nodewords), its summaries in 96, an event as four numbers, its answer in 4 words.
+// The storage node for programs in C: its state in 32 words that the caller keeps (crate event_words), its summaries in 96, an event as four numbers, its answer in 4 words.
 #![tactic(auto)]
 
 ghost use Rattle.std.specs.Prelude.{◌≡◌};
