@@ -1,10 +1,9 @@
 -- What is written of the record of the client's last event.
-use Rattle.std.specs.Prelude.{List, [], ◌∷◌, ℕ}
+use Rattle.std.specs.Prelude.{Option, Some, None, List, [], ◌∷◌, ℕ}
 use Rattle.text_bytes.specs.Bytes.{bytes}
 use Rattle.text_bytes.specs.Ink.{joined}
 use Rattle.lab_say.specs.Say.{said}
 use Rattle.audit_record.specs.declared.records.Record.{Record}
-use Rattle.audit_record.specs.declared.journal.Last.{Last}
 
 -- `record` and its eight numbers, each after a space
 unfoldable pub record_text : Record → List ℕ
@@ -14,6 +13,6 @@ record_text r =
     ∷ said [] (r.number ∷ r.version ∷ r.count ∷ r.causes ∷ [])
     ∷ [])
 
-abbrev pub last_text : Last → List ℕ
-last_text Last.Nothing = bytes "none"
-last_text (Last.Is r) = record_text r
+abbrev pub last_text : Option Record → List ℕ
+last_text None = bytes "none"
+last_text (Some r) = record_text r

@@ -3,16 +3,15 @@ ghost use Rattle.std.specs.Prelude.{◌≡◌};
 ghost use Rattle.text_bytes.specs.Ink.{emits};
 ghost use Rattle.lab_say.specs.Text.{record_text, last_text};
 
-use audit_record::journal::Last;
 use audit_record::records::Record;
 use text_bytes::page::Page;
 
-pub fn put_last(page: &mut Page, l: Last)
+pub fn put_last(page: &mut Page, l: Option<Record>)
     ensures { page.new ≡ emits page.old (last_text l) }
 {
     match l {
-        Last::Nothing => page.put_bytes(b"none"),
-        Last::Is(r) => put_record(page, r),
+        None => page.put_bytes(b"none"),
+        Some(r) => put_record(page, r),
     }
 }
 
