@@ -5,6 +5,7 @@
 use audit_list::batches::Batch;
 use std::io;
 use std::io::{Print, Read};
+use text_bytes::page::Page;
 use text_words::fetching::{Cur, Got};
 
 // Where a run stands: the records so far, the reading, and whether to go on.
@@ -86,10 +87,7 @@ fn take_last(b: Batch, n: usize, line: &[u8]) -> Batch {
 fn answer(rt: &impl Print, b: Batch, out: &mut [u8]) -> io::Result<()> {
     let w = audit_list::batches::close(b);
     let v = audit_replay::auditing::verdict_of(w);
-    let at = audit_line::put_verdict(out, 0, v);
-    if at <= out.len() {
-        let z = 0;
-        rt.write_all(&out[z..at])?;
-    }
-    Ok(())
+    let mut page = Page::new(out, 0);
+    audit_line::put_verdict(&mut page, v);
+    rt.write_all(page.text())
 }

@@ -12,6 +12,7 @@ use rules_client::Check;
 use rules_pool::Pool;
 use std::io;
 use std::io::{Print, Read};
+use text_bytes::page::Page;
 use text_words::fetching::{Cur, Got};
 
 // Where a run stands: the lab and its log, the reading, how many bytes of the output are not written yet, and whether to go on.
@@ -207,16 +208,13 @@ fn write_line(
     let s = d.said;
     let n = lab_places::state_in(number_of(s), states);
     let to = room(rt, at, out)?;
-    let to = lab_say_line::put_line(out, to, s, pool_of(l), check_of(l), n);
-    Ok(row_line(to, s, own, maps, stagings, out))
-}
-
-// Where it is a row that is looked at, its line.
-fn row_line(at: usize, s: Said, own: &[u8], maps: &[u8], stagings: &[u8], out: &mut [u8]) -> usize {
-    let Said::Row(w, m) = s else {
-        return at;
-    };
-    lab_say_line::put_row(out, at, w, m, own, maps, stagings)
+    let mut page = Page::new(out, to);
+    lab_say_line::put_line(&mut page, s, pool_of(l), check_of(l), n);
+    // Where it is a row that is looked at, its line.
+    if let Said::Row(w, m) = s {
+        lab_say_line::put_row(&mut page, w, m, own, maps, stagings);
+    }
+    Ok(page.at())
 }
 
 fn pool_of(l: Lab) -> Pool {
