@@ -4,7 +4,7 @@ ghost use Rattle.audit_record.specs.Records.{no_record, cause_number, causes_in,
 
 use rules_pool::{Cause, Mode, Outcome, Reply, Roster, Session, State};
 
-// sequence is the record's place in its log, from 1. A field that its kind does not use is 0.
+// sequence is the record's place in its log, from 1. A field that its kind does not use is 0. kind is a number: a record is read from a line, where any may stand (event_in).
 #[derive(Clone, Copy, PartialEq, Eq)]
 pub struct Record {
     pub sequence: u64,
@@ -34,7 +34,7 @@ pub enum Logged {
     Extend,
 }
 
-// What a record says of its event.
+// What a record says of its event, in the record's own numbers.
 #[derive(Clone, Copy)]
 pub struct Entry {
     pub kind: u64,

@@ -6,15 +6,7 @@ use audit_list::batches::Batch;
 use std::io;
 use std::io::{Print, Read};
 use text_bytes::page::Page;
-use text_words::fetching::{Cur, Got};
-
-// Where a run stands: the records so far, the reading, and whether to go on.
-#[derive(Clone, Copy)]
-pub struct Stand {
-    pub batch: Batch,
-    pub cur: Cur,
-    pub go: bool,
-}
+use text_words::fetching::Got;
 
 // The turns are counted so that the loop ends whatever is read; no run uses them up.
 pub fn run(
@@ -24,56 +16,28 @@ pub fn run(
     line: &mut [u8],
     out: &mut [u8],
 ) -> io::Result<()> {
-    let mut s = begin();
-    let mut turns = u64::MAX;
-    while turns > 0 && s.go {
-        s = turn(input, s, buf, line)?;
-        turns -= 1;
+    let mut batch = audit_list::batches::begin();
+    let mut cur = text_words::fetching::start();
+    for _ in 0..u64::MAX {
+        // One line, or the part of one up to the end of what was read.
+        cur = text_words::fetching::fetch(input, cur, buf, line)?;
+        match cur.kind {
+            Got::Part => {}
+            Got::Whole => {
+                batch = take(batch, cur.len, line);
+                cur = text_words::fetching::fresh(cur);
+            }
+            Got::End => {
+                batch = take_last(batch, cur.len, line);
+                break;
+            }
+        }
     }
-    let b = s.batch;
-    answer(rt, b, out)
-}
-
-fn begin() -> Stand {
-    Stand {
-        batch: audit_list::batches::begin(),
-        cur: text_words::fetching::start(),
-        go: true,
-    }
-}
-
-// One line, or the part of one up to the end of what was read.
-fn turn(input: &mut impl Read, s: Stand, buf: &mut [u8], line: &mut [u8]) -> io::Result<Stand> {
-    let b = s.batch;
-    let cur = s.cur;
-    let c = text_words::fetching::fetch(input, cur, buf, line)?;
-    Ok(step(b, c, line))
-}
-
-fn step(b: Batch, c: Cur, line: &[u8]) -> Stand {
-    let kind = c.kind;
-    match kind {
-        Got::Part => Stand {
-            batch: b,
-            cur: c,
-            go: true,
-        },
-        Got::Whole => Stand {
-            batch: take(b, c.len, line),
-            cur: text_words::fetching::fresh(c),
-            go: true,
-        },
-        Got::End => Stand {
-            batch: take_last(b, c.len, line),
-            cur: c,
-            go: false,
-        },
-    }
+    answer(rt, batch, out)
 }
 
 fn take(b: Batch, n: usize, line: &[u8]) -> Batch {
-    let r = audit_line::record_in(n, line);
-    audit_list::batches::add(b, r)
+    audit_list::batches::add(b, audit_line::record_in(n, line))
 }
 
 // A last line that no newline ends is a record too; after a last newline there is none.
@@ -85,8 +49,7 @@ fn take_last(b: Batch, n: usize, line: &[u8]) -> Batch {
 }
 
 fn answer(rt: &impl Print, b: Batch, out: &mut [u8]) -> io::Result<()> {
-    let w = audit_list::batches::close(b);
-    let v = audit_replay::auditing::verdict_of(w);
+    let v = audit_replay::auditing::verdict_of(audit_list::batches::close(b));
     let mut page = Page::new(out, 0);
     audit_line::put_verdict(&mut page, v);
     rt.write_all(page.text())

@@ -92,6 +92,7 @@ pub fn tick(p: Pool, k: Check, sound: bool, full: u64) -> Checked
         return decline(k, why);
     }
     let asked = roster::ids(Kind::Reached(full), p.roster);
+    // A cast, here and below: not every u64 is a u16, but a set of ids is.
     let next = ticked(k, asked as u16);
     Checked {
         answer: tells(Told::Checks(asked, u64::from(next.tick))),

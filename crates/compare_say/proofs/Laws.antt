@@ -1,7 +1,7 @@
 -- The laws of specs/Laws.antt. Assumes nothing.
 use mathlib.Core.Path.{◌≡◌, refl, sym, ap, ◌∙◌}
 use mathlib.Core.Logic.{◌⊎◌, inl, inr}
-use mathlib.Core.Bool.{Bool, true, false}
+use mathlib.Core.Bool.{false}
 use mathlib.Core.List.{List, [], ◌∷◌, ◌++◌, append_assoc, append-nil}
 use Prim.Native.Nat.{ℕ, zero, suc, ◌+◌, ◌*◌, ◌/◌, ◌%◌, ◌≤◌, ◌<◌}
 use native.Mathlib.Omega.{arith}
@@ -12,13 +12,13 @@ use Rattle.laws_words.specs.Bits.{upto-at}
 use Rattle.laws_words.specs.Tests.{by_cases, and-false}
 use Rattle.text_bytes.specs.Ink.{dec_from, decimal, joined}
 use Rattle.text_bytes.proofs.Meaning.{joined_length, decimal-length}
-use Rattle.rules_base.specs.Chunk.{dirty}
 use Rattle.compare_walk.specs.Dumps.{dumps_refusal, number}
 use Rattle.std.specs.Prelude.{Result, Ok, Err, Option, Some, None}
 use Rattle.compare_walk.proofs.DumpsLaws.{short, taken, good}
 use Rattle.compare_walk.specs.declared.differences.Difference.{Difference}
+use Rattle.compare_walk.specs.declared.differences.Dump.{Dump}
 use Rattle.compare_walk.specs.declared.dumps.Refused.{Refused}
-use Rattle.compare_walk.specs.Differences.{which, which_of, which_at, difference_at, first_place, next_difference, list_from, differences}
+use Rattle.compare_walk.specs.Differences.{dump_number, difference_at, first_place, next_difference, list_from, differences}
 use Rattle.compare_walk.proofs.Places.{list_on, list-here, at_place, hop-none, hop-found, is_found, is-over, next-taken, next-refused}
 use Rattle.compare_say.specs.Said.{line_text, lines_text, member_text, head_of, head_text, both_whole, answer_text}
 use Rattle.compare_say.specs.Laws.{member_texts, Printed, Fits}
@@ -110,20 +110,14 @@ one : (n : ℕ) → n < 3 → length (decimal n) ≤ 1
 unfolding decimal dec_from
 one n h = leb→le (length (decimal n)) 1 (upto-at 3 (λ k. leb (length (decimal k)) 1) tt n h)
 
-which-lt : (a b : Bool) → which_of a b < 3
-which-lt true true = omega arith
-which-lt true false = omega arith
-which-lt false true = omega arith
-which-lt false false = omega arith
-
-which-at-lt : (xs ys : List ℕ) (p : ℕ) → which_at xs ys p < 3
-unfolding which
-which-at-lt xs ys p = which-lt (eqb (dirty xs (p / 4096) (p % 4096)) 1) (eqb (dirty ys (p / 4096) (p % 4096)) 1)
+number-lt : (w : Dump) → dump_number w < 3
+number-lt Dump.First = omega arith
+number-lt Dump.Second = omega arith
 
 line-length : (xs ys : List ℕ) (p : ℕ) → p < 65536 → length (line_text (difference_at xs ys p)) ≤ 10
 line-length xs ys p h =
-    rw (joined_length (decimal (p / 4096) ∷ (32 ∷ []) ∷ decimal (p % 4096) ∷ (32 ∷ []) ∷ decimal (which_at xs ys p) ∷ (10 ∷ []) ∷ []))
-    (omega (arith, two (p / 4096) (omega arith), four (p % 4096) (omega arith), one (which_at xs ys p) (which-at-lt xs ys p)))
+    rw (joined_length (decimal (p / 4096) ∷ (32 ∷ []) ∷ decimal (p % 4096) ∷ (32 ∷ []) ∷ decimal (dump_number (difference_at xs ys p).which) ∷ (10 ∷ []) ∷ []))
+    (omega (arith, two (p / 4096) (omega arith), four (p % 4096) (omega arith), one (dump_number (difference_at xs ys p).which) (number-lt _)))
 
 lines-length : (xs ys : List ℕ) (n p : ℕ) → p + n ≤ 65536 → length (lines_text (list_from xs ys p n)) ≤ 10 * n
 unfolding list_from lines_text

@@ -7,11 +7,11 @@ use Rattle.rules_base.specs.Limits.{map_bytes}
 use Rattle.compare_walk.specs.Dumps.{dumps_refusal, number}
 use Rattle.compare_walk.specs.declared.differences.Difference.{Difference}
 use Rattle.compare_walk.specs.declared.dumps.Refused.{Refused}
-use Rattle.compare_walk.specs.Differences.{next_difference, list_from, differences}
+use Rattle.compare_walk.specs.Differences.{dump_number, next_difference, list_from, differences}
 
 -- MEMBER CHUNK WHICH and a newline: 32 is a space, 10 the newline
 abbrev pub line_text : Difference → List ℕ
-line_text d = joined (decimal d.member ∷ (32 ∷ []) ∷ decimal d.chunk ∷ (32 ∷ []) ∷ decimal d.which ∷ (10 ∷ []) ∷ [])
+line_text d = joined (decimal d.member ∷ (32 ∷ []) ∷ decimal d.chunk ∷ (32 ∷ []) ∷ decimal (dump_number d.which) ∷ (10 ∷ []) ∷ [])
 
 unfoldable pub lines_text : List Difference → List ℕ
 lines_text [] = []

@@ -15,7 +15,7 @@ fn put_line(page: &mut Page, d: Difference)
     page.put(b' ');
     page.put_number(d.chunk);
     page.put(b' ');
-    page.put_number(d.which);
+    page.put_number(d.which.number());
     page.put(b'\n');
 }
 
@@ -23,8 +23,8 @@ fn put_line(page: &mut Page, d: Difference)
 pub fn put_member(page: &mut Page, first: &[u8], second: &[u8], member: u64)
     ensures { page.new ≡ emits page.old (member_text first.now second.now member) }
 {
-    // Each search begins behind the difference found last.
     let mut c = 0;
+    // No range: each turn goes on behind the chunk that was found.
     while c < 4096 {
         match next_difference(first, second, member, c) {
             // Two arms: under one pattern for both, the proof is not told which of the two it was.

@@ -9,21 +9,10 @@ use text_bytes::failing;
 use text_bytes::page::Page;
 
 // The file's bytes, as far as buf goes: a buffer that is longer than a dump tells a longer file.
-fn read_all(file: &mut impl Read, buf: &mut [u8]) -> io::Result<usize> {
-    let mut n = 0;
-    while n < buf.len() {
-        let k = file.read(&mut buf[n..])?;
-        if k == 0 {
-            return Ok(n);
-        }
-        n += k;
-    }
-    Ok(n)
-}
-
 fn read_file(rt: &impl Files, name: &str, buf: &mut [u8]) -> io::Result<usize> {
-    let mut file = fs::open(rt, name)?;
-    read_all(&mut file, buf)
+    let file = fs::open(rt, name)?;
+    let n = io::copy(&mut file.take(buf.len() as u64), &mut &mut *buf)?;
+    Ok(n as usize)
 }
 
 // How many bytes were read; none where the file can't be read, and then it was said why.

@@ -1,5 +1,5 @@
 -- The laws of specs/Laws.antt. Assumes nothing.
-use mathlib.Core.Path.{◌≡◌, refl, sym, ap, ◌∙◌}
+use mathlib.Core.Path.{◌≡◌, refl, ap}
 use mathlib.Core.Logic.{⊎_elim, inl, inr}
 use mathlib.Core.List.{List}
 use Prim.Native.Nat.{ℕ, zero, suc, ◌+◌, ◌*◌, ◌/◌, ◌%◌, ◌≤◌, ◌<◌}
@@ -13,17 +13,19 @@ use Rattle.rules_base.proofs.Chunk.{there-no-member, there-no-chunk, dirty-lt}
 use Rattle.compare_walk.specs.Dumps.{dumps_refusal}
 use Rattle.compare_walk.proofs.DumpsLaws.{short, no_member}
 use Rattle.compare_walk.specs.declared.differences.Difference.{Difference}
+use Rattle.compare_walk.specs.declared.differences.Dump.{Dump}
+use Rattle.std.specs.Prelude.{Some, None, unwrap_or}
 use Rattle.compare_walk.specs.Differences.{which, which_at, difference_at, first_place, next_difference, list_from, differences}
 use Rattle.compare_walk.specs.DifferencesLaws.{In, difference, Complete, Differs, NothingElse, Before, Ascending, Sorted, Walked, Refusals, Ends}
-use Rattle.compare_walk.proofs.Places.{list_on, list-here, at_place, walk-list, next-refused}
+use Rattle.compare_walk.proofs.Places.{list_on, list-here, at_place, some-none, walk-list, next-refused}
 
 -- ---- a place in the list, and what is in it
-has : (xs ys : List ℕ) (n p q : ℕ) → p ≤ q → q < p + n → (which_at xs ys q ≡ 0 → ⊥) → In (difference_at xs ys q) (list_from xs ys p n)
+has : (xs ys : List ℕ) (n p q : ℕ) → p ≤ q → q < p + n → (which_at xs ys q ≡ None → ⊥) → In (difference_at xs ys q) (list_from xs ys p n)
 has xs ys zero p q h l d = absurd (omega arith)
 has xs ys (suc n) p q h l d =
     by_cases (eqb q p)
     (λ e. let z : q ≡ p = eqb-true q p e in
-    let k : which_at xs ys p ≡ 0 → ⊥ = rw z at d in
+    let k : which_at xs ys p ≡ None → ⊥ = rw z at d in
     rw (list-here xs ys p n k) (inl (ap (difference_at xs ys) z)))
     (λ e. let k : q ≡ p → ⊥ = eqb-false q p e in
     let r = has xs ys n (suc p) q (omega arith) (omega arith) d in
@@ -32,7 +34,7 @@ has xs ys (suc n) p q h l d =
 record Listed (xs ys : List ℕ) (p : ℕ) (d : Difference) : Type 0 where
   place : ℕ
   from : p ≤ place
-  differs : which_at xs ys place ≡ 0 → ⊥
+  differs : which_at xs ys place ≡ None → ⊥
   is : d ≡ difference_at xs ys place
 
 later : (xs ys : List ℕ) (p : ℕ) (d : Difference) → Listed xs ys (suc p) d → Listed xs ys p d
@@ -60,40 +62,40 @@ has-place xs m c e =
     (λ b. let z : ◌≡◌ {A = ℕ} 0 1 = rw (there-no-chunk m c (ltb-false c 4096 b)) at e in absurd (omega arith)))
     (λ a. let z : ◌≡◌ {A = ℕ} 0 1 = rw (there-no-member m c (ltb-false m 16 a)) at e in absurd (omega arith))
 
-at : (xs ys : List ℕ) (m c w : ℕ) → Has m c → which xs ys m c ≡ w → (w ≡ 0 → ⊥) → In (difference m c w) (differences xs ys)
+at : (xs ys : List ℕ) (m c : ℕ) (w : Dump) → Has m c → which xs ys m c ≡ Some w → In (difference m c w) (differences xs ys)
 unfolding differences
-at xs ys m c w v e d =
+at xs ys m c w v e =
     let h = v.member in
     let g = v.chunk in
     let q = 4096 * m + c in
     let a : q / 4096 ≡ m = omega arith in
     let b : q % 4096 ≡ c = omega arith in
-    let f : which_at xs ys q ≡ w = rw (a, b) e in
-    let z : difference m c w ≡ difference_at xs ys q = rw (a, b, e) in
-    rw z (has xs ys 65536 0 q (omega arith) (omega arith) (λ k. d (sym f ∙ k)))
+    let f : which_at xs ys q ≡ Some w = rw (a, b) e in
+    let z : difference m c w ≡ difference_at xs ys q = rw (a, b, e) refl in
+    rw z (has xs ys 65536 0 q (omega arith) (omega arith) (λ k. some-none f k))
 
 pub complete : Complete
 unfolding which
 complete =
     record {
-      first = λ xs ys m c e f. at xs ys m c 1 (has-place xs m c e) (rw (e, f)) (λ k. omega arith);
-      second = λ xs ys m c e f. at xs ys m c 2 (has-place ys m c f) (rw (e, f)) (λ k. omega arith);
+      first = λ xs ys m c e f. at xs ys m c Dump.First (has-place xs m c e) (rw (e, f) refl);
+      second = λ xs ys m c e f. at xs ys m c Dump.Second (has-place ys m c f) (rw (e, f) refl);
     }
 
 -- ---- nothing else
 one_of : (xs : List ℕ) (m c : ℕ) → (dirty xs m c ≡ 1 → ⊥) → dirty xs m c ≡ 0
 one_of xs m c h = let l = dirty-lt xs m c in omega arith
 
-differs_at : (xs ys : List ℕ) (m c : ℕ) → (which xs ys m c ≡ 0 → ⊥) → Differs xs ys (difference m c (which xs ys m c))
+differs_at : (xs ys : List ℕ) (m c : ℕ) → (which xs ys m c ≡ None → ⊥) → Differs xs ys (difference m c (unwrap_or (which xs ys m c) Dump.First))
 unfolding which
 differs_at xs ys m c h =
     by_cases (eqb (dirty xs m c) 1)
     (λ a. by_cases (eqb (dirty ys m c) 1)
-    (λ b. absurd (h (rw (a, b))))
-    (λ b. inl (rw (a, b), eqb-true (dirty xs m c) 1 a, one_of ys m c (eqb-false (dirty ys m c) 1 b))))
+    (λ b. absurd (h (rw (a, b) refl)))
+    (λ b. inl (rw (a, b) refl, eqb-true (dirty xs m c) 1 a, one_of ys m c (eqb-false (dirty ys m c) 1 b))))
     (λ a. by_cases (eqb (dirty ys m c) 1)
-    (λ b. inr (rw (a, b), one_of xs m c (eqb-false (dirty xs m c) 1 a), eqb-true (dirty ys m c) 1 b))
-    (λ b. absurd (h (rw (a, b)))))
+    (λ b. inr (rw (a, b) refl, one_of xs m c (eqb-false (dirty xs m c) 1 a), eqb-true (dirty ys m c) 1 b))
+    (λ b. absurd (h (rw (a, b) refl))))
 
 pub nothing-else : NothingElse
 unfolding differences

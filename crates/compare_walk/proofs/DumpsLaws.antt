@@ -11,7 +11,6 @@ use borrow.Author.Tests.{eq-eqb, ne_eqb, lt-ltb, le-ltb, eqb-true, eqb-false, lt
 use Rattle.laws_words.specs.Tests.{by_cases, clash}
 use Rattle.rules_base.specs.Map.{row_of}
 use Rattle.compare_walk.specs.Dumps.{dumps_refusal, refused_by, dumps_taken, newer_row}
-use Rattle.compare_walk.specs.declared.dumps.Refused.{Refused}
 use Rattle.std.specs.Prelude.{Ok, Err}
 use Rattle.std.specs.Result.{is_err}
 use Rattle.compare_walk.specs.DumpsLaws.{Short, NoMember, Taken, Numbered, Empty, FromSecond, FromFirst, Whole}

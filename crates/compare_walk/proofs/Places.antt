@@ -1,46 +1,62 @@
 -- Searching from a place: what the loop cites, and what is left of the list where the search stopped. Assumes nothing.
 use mathlib.Core.Path.{◌≡◌, refl, sym, ap, ◌∙◌}
+use mathlib.Core.Bool.{true, false}
 use mathlib.Core.List.{List, [], ◌∷◌}
 use Prim.Native.Nat.{ℕ, zero, suc, ◌+◌, ◌-◌, ◌/◌, ◌%◌, ◌≤◌, ◌<◌, min}
 use native.Mathlib.Omega.{arith}
 use native.Mathlib.Numerals.{add-one}
 use lib.Dec.{eqb, ltb}
 use lib.ListN.{length}
-use borrow.Author.Tests.{eq-eqb, ne_eqb, lt-ltb, le-ltb, eqb-true, eqb-false, ltb-true, ltb-false}
-use Rattle.laws_words.specs.Tests.{by_cases}
+use borrow.Author.Tests.{eq-eqb, ne_eqb, lt-ltb, le-ltb, ltb-true, ltb-false}
+use Rattle.laws_words.specs.Tests.{by_cases, clash}
 use Rattle.compare_walk.specs.Dumps.{dumps_refusal, refused_by, dumps_taken}
 use Rattle.compare_walk.specs.declared.dumps.Refused.{Refused}
-use Rattle.std.specs.Prelude.{Ok, Err, Some, None}
+use Rattle.std.specs.Prelude.{Ok, Err, Option, Some, None, is_none}
 use Rattle.compare_walk.proofs.DumpsLaws.{taken}
-use Rattle.compare_walk.specs.declared.dumps.Refused.{Refused}
+use Rattle.compare_walk.specs.declared.differences.Dump.{Dump}
 use Rattle.compare_walk.specs.Differences.{which_at, difference_at, first_place, told, place_of, next_difference, list_from, walk}
 
+-- ---- none
+is-none : {A : Type 0} {o : Option A} → o ≡ None → is_none o ≡ true
+is-none e = rw e refl
+
+not-none : {A : Type 0} {o : Option A} → (o ≡ None → ⊥) → is_none o ≡ false
+not-none {o = None} h = absurd (h refl)
+not-none {o = Some x} h = refl
+
+none-is : {A : Type 0} {o : Option A} → is_none o ≡ true → o ≡ None
+none-is {o = None} e = refl
+none-is {o = Some x} e = clash e refl
+
+none-not : {A : Type 0} {o : Option A} → is_none o ≡ false → o ≡ None → ⊥
+none-not e h = clash (is-none h) e
+
 -- ---- one place: nothing there, or a difference there
-place-on : (xs ys : List ℕ) (p n : ℕ) → which_at xs ys p ≡ 0 → first_place xs ys p (suc n) ≡ first_place xs ys (suc p) n
+place-on : (xs ys : List ℕ) (p n : ℕ) → which_at xs ys p ≡ None → first_place xs ys p (suc n) ≡ first_place xs ys (suc p) n
 unfolding first_place
-place-on xs ys p n e = rw (eq-eqb (which_at xs ys p) 0 e)
+place-on xs ys p n e = rw (is-none e)
 
-place_here : (xs ys : List ℕ) (p n : ℕ) → (which_at xs ys p ≡ 0 → ⊥) → first_place xs ys p (suc n) ≡ p
+place_here : (xs ys : List ℕ) (p n : ℕ) → (which_at xs ys p ≡ None → ⊥) → first_place xs ys p (suc n) ≡ p
 unfolding first_place
-place_here xs ys p n e = rw (ne_eqb (which_at xs ys p) 0 e)
+place_here xs ys p n e = rw (not-none e)
 
-pub list_on : (xs ys : List ℕ) (p n : ℕ) → which_at xs ys p ≡ 0 → list_from xs ys p (suc n) ≡ list_from xs ys (suc p) n
+pub list_on : (xs ys : List ℕ) (p n : ℕ) → which_at xs ys p ≡ None → list_from xs ys p (suc n) ≡ list_from xs ys (suc p) n
 unfolding list_from
-list_on xs ys p n e = rw (eq-eqb (which_at xs ys p) 0 e)
+list_on xs ys p n e = rw (is-none e)
 
-pub list-here : (xs ys : List ℕ) (p n : ℕ) → (which_at xs ys p ≡ 0 → ⊥) → list_from xs ys p (suc n) ≡ difference_at xs ys p ∷ list_from xs ys (suc p) n
+pub list-here : (xs ys : List ℕ) (p n : ℕ) → (which_at xs ys p ≡ None → ⊥) → list_from xs ys p (suc n) ≡ difference_at xs ys p ∷ list_from xs ys (suc p) n
 unfolding list_from
-list-here xs ys p n e = rw (ne_eqb (which_at xs ys p) 0 e)
+list-here xs ys p n e = rw (not-none e)
 
 -- whether there is a difference at a place
-pub at_place : {P : Type 0} (xs ys : List ℕ) (p : ℕ) → (which_at xs ys p ≡ 0 → P) → ((which_at xs ys p ≡ 0 → ⊥) → P) → P
-at_place xs ys p f g = by_cases (eqb (which_at xs ys p) 0) (λ e. f (eqb-true (which_at xs ys p) 0 e)) (λ e. g (eqb-false (which_at xs ys p) 0 e))
+pub at_place : {P : Type 0} (xs ys : List ℕ) (p : ℕ) → (which_at xs ys p ≡ None → P) → ((which_at xs ys p ≡ None → ⊥) → P) → P
+at_place xs ys p f g = by_cases (is_none (which_at xs ys p)) (λ e. f (none-is e)) (λ e. g (none-not e))
 
 -- ---- the loop of `seek`
-pub seek-on : (xs ys : List ℕ) (p : ℕ) → p < 65536 → which_at xs ys p ≡ 0 → first_place xs ys p (65536 - p) ≡ first_place xs ys (p + 1) (65536 - (p + 1))
+pub seek-on : (xs ys : List ℕ) (p : ℕ) → p < 65536 → which_at xs ys p ≡ None → first_place xs ys p (65536 - p) ≡ first_place xs ys (p + 1) (65536 - (p + 1))
 seek-on xs ys p h e = let q : 65536 - p ≡ suc (65536 - (p + 1)) = omega arith in rw (q, add-one p) (place-on xs ys p (65536 - suc p) e)
 
-pub seek-here : (xs ys : List ℕ) (p : ℕ) → p < 65536 → (which_at xs ys p ≡ 0 → ⊥) → first_place xs ys p (65536 - p) ≡ p
+pub seek-here : (xs ys : List ℕ) (p : ℕ) → p < 65536 → (which_at xs ys p ≡ None → ⊥) → first_place xs ys p (65536 - p) ≡ p
 seek-here xs ys p h e = let q : 65536 - p ≡ suc (65536 - (p + 1)) = omega arith in rw q (place_here xs ys p (65536 - (p + 1)) e)
 
 pub seek-end : (xs ys : List ℕ) (p : ℕ) → 65536 ≤ p → first_place xs ys p (65536 - p) ≡ p
@@ -51,7 +67,7 @@ seek-end xs ys p h = let q : 65536 - p ≡ 0 = omega arith in rw q
 pub place-from : (xs ys : List ℕ) (n p : ℕ) → p ≤ first_place xs ys p n
 unfolding first_place
 place-from xs ys zero p = omega arith
-place-from xs ys (suc n) p = at_place xs ys p (λ e. rw (eq-eqb (which_at xs ys p) 0 e) (omega (arith, place-from xs ys n (suc p)))) (λ e. rw (ne_eqb (which_at xs ys p) 0 e) (omega arith))
+place-from xs ys (suc n) p = at_place xs ys p (λ e. rw (is-none e) (omega (arith, place-from xs ys n (suc p)))) (λ e. rw (not-none e) (omega arith))
 
 pub hop-none : (xs ys : List ℕ) (n k p : ℕ) → k ≤ n → p + k ≤ first_place xs ys p n → list_from xs ys p k ≡ []
 unfolding list_from
@@ -76,6 +92,12 @@ hop-found xs ys (suc n) (suc k) p h l =
     (λ e. let z : p + suc k - suc p ≡ k = omega arith in rw (place_here xs ys p n e, z) (list-here xs ys p k e))
 
 -- ---- what is told
+pub some-none : {A P : Type 0} {o : Option A} {x : A} → o ≡ Some x → o ≡ None → P
+some-none p q = let z : ◌≡◌ {A = ℕ} 0 1 = cc in absurd (omega arith)
+
+pub is-difference : (xs ys : List ℕ) (p : ℕ) (w : Dump) → which_at xs ys p ≡ Some w → difference_at xs ys p ≡ record { member = p / 4096; chunk = p % 4096; which = w }
+is-difference xs ys p w e = rw e refl
+
 pub is_found : (xs ys : List ℕ) (p : ℕ) → p < 65536 → told xs ys p ≡ Some (difference_at xs ys p)
 is_found xs ys p h = rw (lt-ltb p 65536 h)
 

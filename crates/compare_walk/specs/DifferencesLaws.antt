@@ -2,6 +2,7 @@
 use Rattle.std.specs.Prelude.{◌≡◌, ◌⊎◌, Ok, Err, Some, None, List, [], ◌∷◌, ℕ, ◌≤◌, ◌<◌, length, replicate, set}
 use Rattle.rules_base.specs.Chunk.{dirty}
 use Rattle.compare_walk.specs.declared.differences.Difference.{Difference}
+use Rattle.compare_walk.specs.declared.differences.Dump.{Dump}
 use Rattle.compare_walk.specs.declared.dumps.Refused.{Refused}
 use Rattle.compare_walk.specs.Differences.{next_difference, list_from, differences, walk}
 
@@ -10,20 +11,20 @@ abbrev pub In : Difference → List Difference → Type 0
 In d [] = ⊥
 In d (e ∷ es) = (d ≡ e) ⊎ In d es
 
-abbrev pub difference : ℕ → ℕ → ℕ → Difference
+abbrev pub difference : ℕ → ℕ → Dump → Difference
 difference m c w = record { member = m; chunk = c; which = w }
 
 -- ---- the list: complete, nothing else, sorted, each once
--- Every member's chunk that is dirty in the first dump only is listed with 1, in the second only with 2.
+-- Every member's chunk that is dirty in the first dump only is listed with the first, in the second only with the second.
 pub record Complete : Type 0 where
-  pub first : (xs ys : List ℕ) (m c : ℕ) → dirty xs m c ≡ 1 → dirty ys m c ≡ 0 → In (difference m c 1) (differences xs ys)
-  pub second : (xs ys : List ℕ) (m c : ℕ) → dirty xs m c ≡ 0 → dirty ys m c ≡ 1 → In (difference m c 2) (differences xs ys)
+  pub first : (xs ys : List ℕ) (m c : ℕ) → dirty xs m c ≡ 1 → dirty ys m c ≡ 0 → In (difference m c Dump.First) (differences xs ys)
+  pub second : (xs ys : List ℕ) (m c : ℕ) → dirty xs m c ≡ 0 → dirty ys m c ≡ 1 → In (difference m c Dump.Second) (differences xs ys)
 
 -- What is listed is dirty in exactly the one that it says.
 abbrev pub Differs : List ℕ → List ℕ → Difference → Type 0
 Differs xs ys d =
-    ((d.which ≡ 1) × (dirty xs d.member d.chunk ≡ 1) × (dirty ys d.member d.chunk ≡ 0))
-    ⊎ ((d.which ≡ 2) × (dirty xs d.member d.chunk ≡ 0) × (dirty ys d.member d.chunk ≡ 1))
+    ((d.which ≡ Dump.First) × (dirty xs d.member d.chunk ≡ 1) × (dirty ys d.member d.chunk ≡ 0))
+    ⊎ ((d.which ≡ Dump.Second) × (dirty xs d.member d.chunk ≡ 0) × (dirty ys d.member d.chunk ≡ 1))
 
 abbrev pub NothingElse : Type 0
 NothingElse = (xs ys : List ℕ) (d : Difference) → In d (differences xs ys) → Differs xs ys d
@@ -63,9 +64,9 @@ abbrev pub late : List ℕ
 late = set empty 8191 128
 
 pub record Ends : Type 0 where
-  pub last-of-a-row : next_difference early empty 0 4000 ≡ Ok (Some (difference 0 4095 1))
-  pub first-of-the-next : next_difference empty early 0 4096 ≡ Ok (Some (difference 1 0 2))
-  pub last-of-all : next_difference empty late 15 4000 ≡ Ok (Some (difference 15 4095 2))
+  pub last-of-a-row : next_difference early empty 0 4000 ≡ Ok (Some (difference 0 4095 Dump.First))
+  pub first-of-the-next : next_difference empty early 0 4096 ≡ Ok (Some (difference 1 0 Dump.Second))
+  pub last-of-all : next_difference empty late 15 4000 ≡ Ok (Some (difference 15 4095 Dump.Second))
   pub dirty-in-both : next_difference late late 15 4000 ≡ Ok None
   pub after-the-last : next_difference empty late 15 4096 ≡ Ok None
-  pub across-a-row : list_from early empty 4090 10 ≡ difference 0 4095 1 ∷ difference 1 0 1 ∷ []
+  pub across-a-row : list_from early empty 4090 10 ≡ difference 0 4095 Dump.First ∷ difference 1 0 Dump.First ∷ []

@@ -1,30 +1,47 @@
 // Where two map dumps differ: the next difference at or after a member's chunk. Asked for again and again, it lists them all; nothing is stored between.
 ghost use Rattle.std.specs.Prelude.{◌≡◌, ◌-◌};
-ghost use Rattle.compare_walk.specs.Differences.{which, first_place, told, next_difference};
+ghost use Rattle.compare_walk.specs.Differences.{dump_number, which, first_place, told, next_difference};
 
 use crate::dumps::Refused;
 
-// A member's chunk that is dirty in one dump only: in the first where which is 1, in the second where it is 2.
+// One of the two dumps.
+#[derive(Clone, Copy, PartialEq, Eq)]
+pub enum Dump {
+    First,
+    Second,
+}
+
+impl Dump {
+    pub fn number(self) -> u64
+        ensures { result ≡ dump_number self }
+    {
+        match self {
+            Dump::First => 1,
+            Dump::Second => 2,
+        }
+    }
+}
+
+// A member's chunk that is dirty in one dump only, and in which.
 #[derive(Clone, Copy)]
 pub struct Difference {
     pub member: u64,
     pub chunk: u64,
-    // A number: the laws `Complete` and `NothingElse` say it so, and it is what is printed.
-    pub which: u64,
+    pub which: Dump,
 }
 
 // Members times chunks: the places of a map, 4,096 for each member.
 const PLACES: u64 = 65536;
 
-// 1 where the chunk is dirty in the first dump only, 2 in the second only, 0 in both or in neither.
+// The dump in which alone the chunk is dirty; none where it is dirty in both or in neither.
 #[tactic(auto, unfolding(crate::specs::Differences::which))]
-fn which(first: &[u8], second: &[u8], m: u64, c: u64) -> u64
+fn which(first: &[u8], second: &[u8], m: u64, c: u64) -> Option<Dump>
     ensures { result ≡ which first.now second.now m c }
 {
     match (map_chunk::test(first, m, c), map_chunk::test(second, m, c)) {
-        (true, false) => 1,
-        (false, true) => 2,
-        (true, true) | (false, false) => 0,
+        (true, false) => Some(Dump::First),
+        (false, true) => Some(Dump::Second),
+        (true, true) | (false, false) => None,
     }
 }
 
@@ -35,8 +52,7 @@ fn seek(first: &[u8], second: &[u8], from: u64) -> Option<Difference>
     for p in from..PLACES {
         let member = p / 4096;
         let chunk = p % 4096;
-        let which = which(first, second, member, chunk);
-        if which != 0 {
+        if let Some(which) = which(first, second, member, chunk) {
             return Some(Difference {
                 member,
                 chunk,

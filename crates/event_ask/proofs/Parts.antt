@@ -34,3 +34,7 @@ module _ (xs : List ℕ) {k n : ℕ} {s : Span} (p : Stands (length xs) k n s) w
   put_is e =
       let rest : s.from + (s.to - s.from) ≡ min (map_bytes * k + n) (length xs) = omega arith in
       rw (e, drop-drop, rest, drop_min, p.from, take_min) refl
+
+-- the same, as the code finds it
+pub part_is : (xs : List ℕ) (k n : ℕ) (s : Span) → Stands (length xs) k n s → take (s.to - s.from) (drop s.from xs) ≡ part xs k n
+part_is xs k n s p = part-is xs p

@@ -1,6 +1,8 @@
 // The lab's maps: those of one kind stand one after another in a buffer, and of each the first bytes are lent, as many as the lab says.
 ghost use Rattle.std.specs.Prelude.{◌≡◌};
-ghost use Rattle.event_ask.specs.Lending.{cut, size_of, Stands};
+ghost use Rattle.event_ask.specs.Lending.{cut, size_of, part, Stands};
+
+use map_numbers::refusals::MAP_BYTES;
 
 // How many bytes are lent: of the client's map, of each node's map, of each node's staging map. More than a map has is all of it.
 #[derive(Clone, Copy)]
@@ -14,10 +16,7 @@ pub struct Lent {
 pub fn cut(n: u64) -> usize
     ensures { result ≡ cut n }
 {
-    if (map_numbers::refusals::MAP_BYTES as u64) < n {
-        return map_numbers::refusals::MAP_BYTES;
-    }
-    n as usize
+    n.min(MAP_BYTES as u64) as usize
 }
 
 // How much of map k is lent; nothing where there is none.
@@ -27,8 +26,7 @@ pub fn size(sizes: [u64; 16], k: u64) -> usize
     if 15 < k {
         return 0;
     }
-    let i = k as usize;
-    cut(sizes[i])
+    cut(sizes[k as usize])
 }
 
 // A part of a buffer.
@@ -42,16 +40,22 @@ pub struct Span {
 pub fn find(len: usize, k: u64, n: usize) -> Span
     ensures { Stands len k n result }
 {
-    let maps = (len / map_numbers::refusals::MAP_BYTES) as u64;
+    let maps = (len / MAP_BYTES) as u64;
     if maps < k {
         return Span { from: len, to: len };
     }
-    let at = map_numbers::refusals::MAP_BYTES * (k as usize);
-    if len - at < n {
-        return Span { from: at, to: len };
-    }
+    let from = MAP_BYTES * (k as usize);
     Span {
-        from: at,
-        to: at + n,
+        from,
+        to: from + n.min(len - from),
     }
+}
+
+// Those bytes.
+#[tactic(auto, using(crate::proofs::Parts::part_is))]
+pub fn part(maps: &[u8], k: u64, n: usize) -> &[u8]
+    ensures { result.now ≡ part maps.now k n }
+{
+    let s = find(maps.len(), k, n);
+    &maps[s.from..s.to]
 }

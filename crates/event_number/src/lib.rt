@@ -7,74 +7,56 @@ ghost use Rattle.event_number.specs.Values.{mode_of, reply_of, op_of, state_of, 
 use rules_base::Op;
 use rules_pool::{Cause, Mode, Reply, Session, State};
 
+// Functions, not From and TryFrom: these types are another crate's, and every number stands for one of each.
 pub fn mode_of(x: u64) -> Mode
     ensures { result ≡ mode_of x }
 {
-    if x == 0 {
-        Mode::Delete
-    } else {
-        Mode::Disassemble
+    match x {
+        0 => Mode::Delete,
+        _ => Mode::Disassemble,
     }
 }
 
 pub fn reply_of(kind: u64, version: u64) -> Reply
     ensures { result ≡ reply_of kind version }
 {
-    if kind == 0 {
-        return Reply::Failed;
+    match kind {
+        0 => Reply::Failed,
+        1 => Reply::Good(None),
+        _ => Reply::Good(Some(version)),
     }
-    if kind == 1 {
-        return Reply::Good(None);
-    }
-    Reply::Good(Some(version))
 }
 
 pub fn op_of(x: u64) -> Op
     ensures { result ≡ op_of x }
 {
-    if x == 0 {
-        return Op::AddCreate;
+    match x {
+        0 => Op::AddCreate,
+        1 => Op::AddAssemble,
+        2 => Op::RemoveDelete,
+        _ => Op::RemoveDisassemble,
     }
-    if x == 1 {
-        return Op::AddAssemble;
-    }
-    if x == 2 {
-        return Op::RemoveDelete;
-    }
-    Op::RemoveDisassemble
 }
 
 fn state_of(x: u64, mode: Mode, owed: bool) -> State
     ensures { result ≡ state_of x mode owed }
 {
-    if x == 0 {
-        return State::Free;
+    match x {
+        0 => State::Free,
+        1 => State::Created,
+        2 => State::Normal,
+        3 => State::Failed(Cause::Link),
+        4 => State::Reconnecting,
+        6 => State::Failed(Cause::Io),
+        _ => State::Removing(mode, owed),
     }
-    if x == 1 {
-        return State::Created;
-    }
-    if x == 2 {
-        return State::Normal;
-    }
-    if x == 3 {
-        return State::Failed(Cause::Link);
-    }
-    if x == 4 {
-        return State::Reconnecting;
-    }
-    if x == 6 {
-        return State::Failed(Cause::Io);
-    }
-    State::Removing(mode, owed)
 }
 
 pub fn session_of(x: u64, maint: u64, mark: u64, md: u64, owed: u64) -> Session
     ensures { result ≡ session_of x maint mark md owed }
 {
-    let m = mode_of(md);
-    let st = state_of(x, m, owed == 1);
     Session {
-        state: st,
+        state: state_of(x, mode_of(md), owed == 1),
         maintenance: maint == 1,
         mark: mark == 1,
     }
@@ -84,10 +66,10 @@ pub fn session_of(x: u64, maint: u64, mark: u64, md: u64, owed: u64) -> Session
 pub fn maybe(x: u64, maint: u64, mark: u64, md: u64, owed: u64) -> bool
     ensures { result ≡ maybe_session x maint mark md owed }
 {
-    let range = (x < 7) & ((maint < 2) & ((mark < 2) & ((md < 2) & (owed < 2))));
-    let removing = (x == 5) | ((md == 0) & (owed == 0));
-    let none = !(x == 0) | ((maint == 0) & (mark == 0));
-    range & (removing & none)
+    let range = x < 7 && maint < 2 && mark < 2 && md < 2 && owed < 2;
+    let removing = x == 5 || (md == 0 && owed == 0);
+    let none = x != 0 || (maint == 0 && mark == 0);
+    range && removing && none
 }
 
 pub fn op_number(op: Op) -> u64

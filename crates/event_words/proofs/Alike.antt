@@ -14,7 +14,6 @@ use Rattle.std.proofs.lemmas.Bool.Decides.{same_from_decides, Decides-eqb}
 use Rattle.std.proofs.lemmas.Slice.Eq.{slice_eq-Decides}
 use Rattle.laws_words.specs.Tests.{and_left, and_right}
 use Rattle.laws_words.specs.Words.{one}
-use Rattle.event_words.specs.Calls.{error_of}
 use Rattle.event_words.specs.Same.{same_to}
 
 pub same_refl : (xs : List ℕ) (n : ℕ) → same_to xs xs n ≡ true
@@ -47,8 +46,3 @@ same_arrays xs ys g h =
 pub read_one : (b : Bool) → eqb (one b) 1 ≡ b
 read_one true = refl
 read_one false = refl
-
--- a call that was made is one on known words
-pub made-known : (known event : Bool) → error_of known event ≡ 0 → known ≡ true
-made-known true event e = refl
-made-known false event e = absurd (omega (arith, e))

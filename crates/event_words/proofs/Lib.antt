@@ -1,4 +1,3 @@
 pub mod Alike
-pub mod Fills
+pub mod Calls
 pub mod Laws
-pub mod Spelt

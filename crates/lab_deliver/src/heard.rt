@@ -8,34 +8,24 @@ use rules_client::Check;
 use rules_node::Answer;
 use rules_pool::{Message, Told};
 
-#[derive(Clone, Copy)]
-pub enum Heard {
-    Nothing,
-    Event(Event),
-}
-
-// The answer to the awaited message.
-pub fn to_awaited(m: Message, number: u64, a: Answer) -> Heard
+// The answer to the awaited message, if one is awaited.
+pub fn to_awaited(m: Message, number: u64, a: Answer) -> Option<Event>
     ensures { result ≡ to_awaited m number a }
 {
-    let none = client_state::state::is_nothing(m);
-    if none {
-        return Heard::Nothing;
+    if client_state::state::is_nothing(m) {
+        return None;
     }
-    let reply = crate::post::reply_of(a);
-    Heard::Event(Event::Answer(number, reply))
+    Some(Event::Answer(number, crate::post::reply_of(a)))
 }
 
-// What the lowest due member found at a map check.
-pub fn to_check(k: Check, f: Finding) -> Heard
+// What the lowest due member found at a map check, if anybody is due.
+pub fn to_check(k: Check, f: Finding) -> Option<Event>
     ensures { result ≡ to_check k f }
 {
     if k.due == 0 {
-        return Heard::Nothing;
+        return None;
     }
-    let asked = crate::delivery::check_asked(k);
-    let e = crate::delivery::check_event(k, asked, f);
-    Heard::Event(e)
+    Some(crate::delivery::check_event(k, crate::delivery::check_asked(k), f))
 }
 
 // The messages that are not awaited go to their nodes where auto is on.

@@ -66,7 +66,8 @@ pub enum Head {
     Other,
 }
 
-// What tells one form of a line from another: how it begins, how many words there are, and each word's number. A word that is not there is the number 0, as a name is.
+// What tells one form of a line from another: how it begins, how many words there are, and each word's number. A word that is not there is the number 0, as a name is. Numbers
+// beside their count, as there is no heap.
 #[derive(Clone, Copy)]
 pub struct Form {
     pub head: Head,

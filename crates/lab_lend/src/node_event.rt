@@ -1,52 +1,11 @@
 // A node's event, its two maps lent as far as the lab lends them.
 ghost use Rattle.std.specs.Prelude.{◌≡◌, ◌≤◌, min, take, drop, replicate};
-ghost use Rattle.lab_lend.specs.Node.{most_taken, taking_of, padded, part_taken, node_answers, maps_left, stagings_left};
+ghost use Rattle.lab_lend.specs.Node.{most_taken, padded, part_taken, answer_at, left_at};
 
 use event::NodeEvent;
 use event_ask::lending::Lent;
-use node::{Out, StorageNode};
-
-// A part that is taken: of whose map, from which byte on, and how long.
-#[derive(Clone, Copy)]
-pub struct Taking {
-    pub giver: u64,
-    pub offset: u64,
-    pub length: u64,
-}
-
-// What an event takes; a part of no bytes where it takes none.
-fn taking_of(e: NodeEvent) -> Taking
-    ensures { result ≡ taking_of e }
-{
-    let NodeEvent::TakePart(offset, length, m) = e else {
-        return Taking {
-            giver: 16,
-            offset: 0,
-            length: 0,
-        };
-    };
-    Taking {
-        giver: m,
-        offset: offset,
-        length: length,
-    }
-}
-
-// Twice as long as a part may be.
-fn bounded(length: u64) -> usize
-    ensures { result ≡ min length most_taken }
-{
-    if 2048 < length {
-        return 2048;
-    }
-    length as usize
-}
-
-fn least(a: usize, b: usize) -> usize
-    ensures { result ≡ min a b }
-{
-    if a < b { a } else { b }
-}
+use lab_places::Bench;
+use rules_node::Answer;
 
 // n bytes of a map from the offset on in scratch, 0 past its end.
 fn pick_out(map: &[u8], offset: u64, n: usize, scratch: &mut [u8])
@@ -54,55 +13,46 @@ fn pick_out(map: &[u8], offset: u64, n: usize, scratch: &mut [u8])
     requires n_le_most_taken { n ≤ most_taken }
     ensures { take n scratch.new ≡ padded n (drop offset map.now) }
 {
-    let a = least(offset as usize, map.len());
-    let b = a + least(n, map.len() - a);
-    let z = 0;
-    let m = b - a;
-    map_whole::maps::copy(&mut scratch[z..m], &map[a..b]);
+    let from = (offset as usize).min(map.len());
+    let size = n.min(map.len() - from);
+    scratch[..size].copy_from_slice(&map[from..from + size]);
 }
 
-// The part in scratch, and how long it is: it may be one of the taker's own map.
-fn fetch(t: Taking, maps: &[u8], scratch: &mut [u8]) -> usize
+// The part that an event takes in scratch, and how long it is: it may be one of the taker's own map.
+fn fetch(e: NodeEvent, maps: &[u8], scratch: &mut [u8]) -> usize
     requires { scratch.old ≡ replicate most_taken 0 }
-    ensures { (result ≤ most_taken) × (take result scratch.new ≡ part_taken t maps.now) }
+    ensures { (result ≤ most_taken) × (take result scratch.new ≡ part_taken e maps.now) }
 {
-    let n = bounded(t.length);
-    let s = event_ask::lending::find(maps.len(), t.giver, map_numbers::refusals::MAP_BYTES);
-    let a = s.from;
-    let b = s.to;
-    pick_out(&maps[a..b], t.offset, n, scratch);
+    let NodeEvent::TakePart(offset, length, giver) = e else {
+        return 0;
+    };
+    // Twice as long as a part may be.
+    let n = length.min(2048) as usize;
+    let s = event_ask::lending::find(maps.len(), giver, map_numbers::refusals::MAP_BYTES);
+    pick_out(&maps[s.from..s.to], offset, n, scratch);
     n
 }
 
 // The event of node k, on its part of the nodes' maps and of their staging maps.
-pub fn node_event(
-    n: StorageNode,
-    k: u64,
-    lent: Lent,
-    e: NodeEvent,
-    maps: &mut [u8],
-    stagings: &mut [u8],
-) -> Out
-    ensures value { result ≡ node_answers n k lent e maps.old stagings.old }
-    ensures maps_after { maps.new ≡ maps_left n k lent e maps.old stagings.old }
-    ensures stagings_after { stagings.new ≡ stagings_left n k lent e maps.old stagings.old }
+pub fn node_event(k: u64, lent: Lent, e: NodeEvent, bench: &mut Bench) -> Answer
+    ensures value { result ≡ answer_at k lent e bench.old }
+    ensures after { bench.new ≡ left_at k lent e bench.old }
 {
     let mut scratch = [0u8; 2048];
-    let size = fetch(taking_of(e), maps, &mut scratch);
-    let of_map = lent.maps;
-    let of_staging = lent.stagings;
-    let s = event_ask::lending::find(maps.len(), k, event_ask::lending::size(of_map, k));
-    let t = event_ask::lending::find(stagings.len(), k, event_ask::lending::size(of_staging, k));
-    let z = 0;
-    let a = s.from;
-    let b = s.to;
-    let c = t.from;
-    let d = t.to;
-    event_call::node_event::call(
-        n,
+    let size = fetch(e, &bench.maps, &mut scratch);
+    let s = event_ask::lending::find(bench.maps.len(), k, event_ask::lending::size(lent.maps, k));
+    let t = event_ask::lending::find(
+        bench.stagings.len(),
+        k,
+        event_ask::lending::size(lent.stagings, k),
+    );
+    let out = event_call::node_event::call(
+        bench.node_in(k),
         e,
-        &mut maps[a..b],
-        &mut stagings[c..d],
-        &scratch[z..size],
-    )
+        &mut bench.maps[s.from..s.to],
+        &mut bench.stagings[t.from..t.to],
+        &scratch[..size],
+    );
+    bench.put(k, out.node);
+    out.answer
 }

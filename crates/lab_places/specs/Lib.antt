@@ -1,2 +1,4 @@
+pub mod Fresh
+pub mod Poke
 pub mod Places
 pub mod Kept

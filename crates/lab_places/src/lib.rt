@@ -1,247 +1,141 @@
-// The lab's nodes, each in its place: the state of each as the 32 words of crate nodewords, its summaries as 96. The places are lent by the program, sixteen of each.
+// The lab's bench: the nodes, each in its place, and the maps: the client's, and those of the nodes, which stand one after another.
 #![tactic(auto)]
 
-ghost use Rattle.std.specs.Prelude.{◌≡◌, set, length};
-ghost use Rattle.lab_places.specs.Places.{state_at, summaries_at, state_in, node_in, with_state, fresh_states, fresh_summaries, node_state_of, transfer_of, poked as Places·poked, got_to, poked_got, poke_node, poke_got, poke_summary, states_arranged, summaries_arranged};
+ghost use Rattle.std.specs.Prelude.{◌≡◌};
+ghost use Rattle.lab_places.specs.Fresh.{fresh_nodes as Fresh·fresh_nodes};
+ghost use Rattle.lab_places.specs.Poke.{node_state_of, transfer_of, poked as Poke·poked, poked_got as Poke·poked_got, poked_word as Poke·poked_word};
 
 use lab_form::Command;
-use map_summary::summaries::Summaries;
 use node::StorageNode;
-use rules_node::Node;
+use rules_node::State;
 
-// The words of the state in place n; zeros where there is no such place.
-pub fn state_at(n: u64, states: &[[u64; 32]]) -> [u64; 32]
-    ensures { result ≡ state_at states.now n }
-{
-    let i = n as usize;
-    if states.len() <= i {
-        return [0; 32];
-    }
-    states[i]
+// Sixteen nodes, and of each a map and a staging map of 8,192 bytes. Only main holds one.
+#[derive(Drop)]
+pub struct Bench {
+    pub own: [u8; 8192],
+    pub nodes: [StorageNode; 16],
+    pub maps: [u8; 131072],
+    pub stagings: [u8; 131072],
 }
 
-// The summaries in place n; zeros where there is no such place.
-pub fn summaries_at(n: u64, sums: &[[u64; 96]]) -> Summaries
-    ensures { result ≡ summaries_at sums.now n }
-{
-    let i = n as usize;
-    if sums.len() <= i {
-        return [0; 96];
-    }
-    sums[i]
-}
+impl Bench {
+    ghost use Rattle.lab_places.specs.Places.{node_in, with_node, fresh_bench, arranged};
 
-// The state in place n.
-pub fn state_in(n: u64, states: &[[u64; 32]]) -> Node
-    ensures { result ≡ state_in states.now n }
-{
-    event_words::node_words::unpack(state_at(n, states))
-}
-
-// The node in place n.
-pub fn node_in(n: u64, states: &[[u64; 32]], sums: &[[u64; 96]]) -> StorageNode
-    ensures { result ≡ node_in states.now sums.now n }
-{
-    let v = state_in(n, states);
-    StorageNode {
-        node: v,
-        summaries: summaries_at(n, sums),
+    // Sixteen fresh nodes, and all maps zeroed.
+    pub fn new(chunks: u64) -> Bench
+        ensures { result ≡ fresh_bench chunks }
+    {
+        Bench {
+            own: [0; 8192],
+            nodes: fresh_nodes(chunks),
+            maps: [0; 131072],
+            stagings: [0; 131072],
+        }
     }
-}
 
-// A state in place n; nothing changes where there is no such place.
-pub fn put_state(n: u64, v: Node, states: &mut [[u64; 32]])
-    ensures { states.new ≡ with_state states.old n v }
-{
-    let i = n as usize;
-    if states.len() <= i {
-        return;
+    // The node in place n; a fresh one of no chunks where there is no such place.
+    pub fn node_in(&self, n: u64) -> StorageNode
+        ensures { result ≡ node_in self.now n }
+    {
+        if 15 < n {
+            return StorageNode::fresh(0, 0);
+        }
+        self.nodes[n as usize]
     }
-    states[i] = event_words::node_words::pack(v);
-}
 
-// Summaries in place n; nothing changes where there is no such place.
-pub fn put_summaries(n: u64, words: Summaries, sums: &mut [[u64; 96]])
-    ensures { sums.new ≡ set sums.old n words }
-{
-    let i = n as usize;
-    if sums.len() <= i {
-        return;
+    // A node in place n; nothing changes where there is no such place.
+    pub fn put(&mut self, n: u64, node: StorageNode)
+        ensures { self.new ≡ with_node self.old n node }
+    {
+        if n < 16 {
+            self.nodes[n as usize] = node;
+        }
     }
-    sums[i] = words;
+
+    // What a line that sets the lab up does to the nodes; the others leave them.
+    pub fn arrange(&mut self, c: Command)
+        ensures { self.new ≡ arranged self.old c }
+    {
+        match c {
+            Command::Pool(_, chunks) => self.nodes = fresh_nodes(chunks),
+            Command::PokeNode(n, s, st, cr, m, v, t) => {
+                self.put(n, poked(self.node_in(n), s, st, cr, m, v, t));
+            }
+            Command::PokeGot(n, got) => self.put(n, poked_got(self.node_in(n), got)),
+            Command::Summary(n, i, v) => self.put(n, poked_word(self.node_in(n), i, v)),
+            _ => {}
+        }
+    }
 }
 
 // A fresh node in each place.
-fn fresh_states(chunks: u64, states: &mut [[u64; 32]])
-    ensures { states.new ≡ fresh_states chunks (length states.old) }
+fn fresh_nodes(chunks: u64) -> [StorageNode; 16]
+    ensures { result ≡ Fresh·fresh_nodes chunks 16 }
 {
-    let mut i: usize = 0;
-    while i < states.len() {
-        let n = node_state::change::fresh(i as u64, chunks);
-        states[i] = event_words::node_words::pack(n);
-        i += 1;
+    let mut nodes = [StorageNode::fresh(0, chunks); 16];
+    for i in 0..16 {
+        nodes[i] = StorageNode::fresh(i as u64, chunks);
     }
+    nodes
 }
 
-fn fresh_summaries(chunks: u64, sums: &mut [[u64; 96]])
-    ensures { sums.new ≡ fresh_summaries chunks (length sums.old) }
-{
-    let mut i: usize = 0;
-    while i < sums.len() {
-        sums[i] = [0; 96];
-        i += 1;
-    }
-}
-
-fn state_of(x: u64) -> rules_node::State
+fn state_of(x: u64) -> State
     ensures { result ≡ node_state_of x }
 {
-    if x == 0 {
-        return rules_node::State::Empty;
+    match x {
+        0 => State::Empty,
+        1 => State::Registered,
+        2 => State::Created,
+        3 => State::Normal,
+        _ => State::NoIo,
     }
-    if x == 1 {
-        return rules_node::State::Registered;
-    }
-    if x == 2 {
-        return rules_node::State::Created;
-    }
-    if x == 3 {
-        return rules_node::State::Normal;
-    }
-    rules_node::State::NoIo
 }
 
 fn transfer_of(x: u64) -> Option<u64>
     ensures { result ≡ transfer_of x }
 {
-    if x == 0 {
-        return None;
+    match x {
+        0 => None,
+        1 => Some(0),
+        _ => Some(map_numbers::refusals::MAP_BYTES as u64),
     }
-    if x == 1 {
-        return Some(0);
-    }
-    Some(map_numbers::refusals::MAP_BYTES as u64)
 }
 
 // A node's state put in, unchecked. Own id, chunk count and kept chunks stay.
 fn poked(
-    v: Node,
+    mut n: StorageNode,
     state: u64,
     store: bool,
     create: bool,
     members: u64,
     version: u64,
     transfer: u64,
-) -> Node
-    ensures { result ≡ Places·poked v state store create members version transfer }
+) -> StorageNode
+    ensures { result ≡ Poke·poked n state store create members version transfer }
 {
-    let kept = v.kept;
-    Node {
-        id: v.id,
-        chunks: v.chunks,
-        state: state_of(state),
-        store: store,
-        create: create,
-        members: members,
-        version: version,
-        kept: kept,
-        held: v.held,
-        transfer: transfer_of(transfer),
-    }
-}
-
-fn poke_node(
-    n: u64,
-    state: u64,
-    store: bool,
-    create: bool,
-    members: u64,
-    version: u64,
-    transfer: u64,
-    states: &mut [[u64; 32]],
-)
-    ensures { states.new ≡ poke_node states.old n state store create members version transfer }
-{
-    let v = state_in(n, states);
-    let next = poked(v, state, store, create, members, version, transfer);
-    put_state(n, next, states)
-}
-
-fn with_got(v: Node, got: u64) -> Node
-    ensures { result ≡ poked_got v got }
-{
-    let state = v.state;
-    let kept = v.kept;
-    let transfer = v.transfer;
-    Node {
-        id: v.id,
-        chunks: v.chunks,
-        state: state,
-        store: v.store,
-        create: v.create,
-        members: v.members,
-        version: v.version,
-        kept: kept,
-        held: v.held,
-        transfer: got_to(transfer, got),
-    }
-}
-
-fn got_to(t: Option<u64>, got: u64) -> Option<u64>
-    ensures { result ≡ got_to t got }
-{
-    match t {
-        None => None,
-        Some(bytes) => Some(got),
-    }
+    n.node.state = state_of(state);
+    n.node.store = store;
+    n.node.create = create;
+    n.node.members = members;
+    n.node.version = version;
+    n.node.transfer = transfer_of(transfer);
+    n
 }
 
 // Of the transfer in hand at a node, if any, so many bytes are taken. Unchecked; the rest stays.
-fn poke_got(n: u64, got: u64, states: &mut [[u64; 32]])
-    ensures { states.new ≡ poke_got states.old n got }
+fn poked_got(mut n: StorageNode, got: u64) -> StorageNode
+    ensures { result ≡ Poke·poked_got n got }
 {
-    let v = state_in(n, states);
-    put_state(n, with_got(v, got), states)
-}
-
-fn with_word(mut words: Summaries, i: u64, v: u64) -> Summaries
-    ensures { result ≡ set words i v }
-{
-    if 95 < i {
-        return words;
-    }
-    let at = i as usize;
-    words[at] = v;
-    words
+    n.node.transfer = n.node.transfer.map(|_| got);
+    n
 }
 
 // A word of a node's summaries put in, unchecked; there are 96.
-fn poke_summary(n: u64, i: u64, v: u64, sums: &mut [[u64; 96]])
-    ensures { sums.new ≡ poke_summary sums.old n i v }
+fn poked_word(mut n: StorageNode, i: u64, v: u64) -> StorageNode
+    ensures { result ≡ Poke·poked_word n i v }
 {
-    let words = summaries_at(n, sums);
-    put_summaries(n, with_word(words, i, v), sums)
-}
-
-// What a line that sets the lab up does to the nodes' states; the others leave them.
-pub fn arrange_states(c: Command, states: &mut [[u64; 32]])
-    ensures { states.new ≡ states_arranged states.old c }
-{
-    match c {
-        Command::Pool(sync, chunks) => fresh_states(chunks, states),
-        Command::PokeNode(n, s, st, cr, m, v, t) => poke_node(n, s, st, cr, m, v, t, states),
-        Command::PokeGot(n, got) => poke_got(n, got, states),
-        _ => {}
+    if i < 96 {
+        n.summaries[i as usize] = v;
     }
-}
-
-// And to their summaries.
-pub fn arrange_summaries(c: Command, sums: &mut [[u64; 96]])
-    ensures { sums.new ≡ summaries_arranged sums.old c }
-{
-    match c {
-        Command::Pool(sync, chunks) => fresh_summaries(chunks, sums),
-        Command::Summary(n, i, v) => poke_summary(n, i, v, sums),
-        _ => {}
-    }
+    n
 }

@@ -6,10 +6,10 @@ ghost use Rattle.lab_say.specs.Text.{record_text, last_text};
 use audit_record::records::Record;
 use text_bytes::page::Page;
 
-pub fn put_last(page: &mut Page, l: Option<Record>)
-    ensures { page.new ≡ emits page.old (last_text l) }
+pub fn put_last(page: &mut Page, last: Option<Record>)
+    ensures { page.new ≡ emits page.old (last_text last) }
 {
-    match l {
+    match last {
         None => page.put_bytes(b"none"),
         Some(r) => put_record(page, r),
     }

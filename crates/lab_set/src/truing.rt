@@ -2,6 +2,7 @@
 ghost use Rattle.std.specs.Prelude.{◌≡◌};
 ghost use Rattle.lab_set.specs.Truing.{row_trued, trued};
 
+use lab_places::Bench;
 use map_summary::summaries::Summaries;
 
 fn row_trued(m: u64, mut words: Summaries, map: &[u8]) -> Summaries
@@ -10,25 +11,18 @@ fn row_trued(m: u64, mut words: Summaries, map: &[u8]) -> Summaries
     if 15 < m {
         return words;
     }
-    let from = 6 * (m as usize);
     let all = map_summary::summaries::of_map(map);
-    let mut j: usize = 0;
-    while j < 6 {
-        let at = from + j;
-        words[at] = all[at];
-        j += 1;
-    }
+    let from = 6 * m as usize;
+    words[from..from + 6].copy_from_slice(&all[from..from + 6]);
     words
 }
 
-// Member m's six words at node n made true of its map, however much of that is lent.
-pub fn true_row(n: u64, m: u64, sums: &mut [[u64; 96]], maps: &[u8])
-    ensures { sums.new ≡ trued sums.old n m maps.now }
+// Member m's six words at node n made true of its map.
+pub fn true_row(n: u64, m: u64, bench: &mut Bench)
+    ensures { bench.new ≡ trued bench.old n m }
 {
-    let words = lab_places::summaries_at(n, sums);
-    let s = event_ask::lending::find(maps.len(), n, map_numbers::refusals::MAP_BYTES);
-    let a = s.from;
-    let b = s.to;
-    let next = row_trued(m, words, &maps[a..b]);
-    lab_places::put_summaries(n, next, sums)
+    let s = event_ask::lending::find(bench.maps.len(), n, map_numbers::refusals::MAP_BYTES);
+    let mut node = bench.node_in(n);
+    node.summaries = row_trued(m, node.summaries, &bench.maps[s.from..s.to]);
+    bench.put(n, node)
 }

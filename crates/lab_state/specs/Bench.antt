@@ -1,5 +1,5 @@
 -- The lab's own commands. What a definition does not name stays.
-use Rattle.std.specs.Prelude.{ℕ, ◌%◌, Bool, false, set, replicate}
+use Rattle.std.specs.Prelude.{ℕ, ◌%◌, Bool, false, replicate}
 use Rattle.laws_words.specs.Words.{pick}
 use Rattle.rules_base.specs.Limits.{map_bytes}
 use Rattle.rules_base.specs.Parts.{part_bytes}
@@ -14,8 +14,8 @@ use Rattle.client.specs.declared.Client.{Client}
 use Rattle.client.specs.Client.{fresh}
 use Rattle.rules_pool.specs.Sessions.{stored}
 use Rattle.lab_form.specs.declared.Command.{Command}
-use Rattle.lab_form.specs.declared.Which.{Which}
 use Rattle.event_ask.specs.declared.lending.Lent.{Lent}
+use Rattle.lab_state.specs.Lent.{lent_by}
 use Rattle.lab_state.specs.declared.Lab.{Lab}
 
 -- ---- a fresh lab
@@ -58,13 +58,6 @@ still_awaiting l (Job.Removing m) = l
 -- the awaited message is the one sent
 unfoldable pub after_event : Lab → Client → Message → ℕ → Lab
 after_event l c m number = pick (is_nothing m) (still_awaiting (with_client l c) c.pool.job) (awaiting (with_client l c) m number)
-
--- ---- lend
-
-abbrev pub lent_by : Lent → Which → ℕ → Lent
-lent_by l Which.Client n = record { own = n; maps = l.maps; stagings = l.stagings }
-lent_by l (Which.Node k) n = record { own = l.own; maps = set l.maps k n; stagings = l.stagings }
-lent_by l (Which.Staging k) n = record { own = l.own; maps = l.maps; stagings = set l.stagings k n }
 
 -- ---- poke: a value put into the client's state, unchecked
 

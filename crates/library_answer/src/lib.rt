@@ -5,71 +5,61 @@
 ghost use Rattle.std.specs.Prelude.{◌≡◌};
 ghost use Rattle.library_answer.specs.Words.{outcome_words, told_words, message_words, sent_words, answer_words};
 
-use event_words::words::{Tagged, five};
 use rules_pool::{Answer, Message, Outcome, Sent, Told};
 
-fn outcome_words(o: Outcome) -> Tagged
+fn outcome_words(o: Outcome) -> [u64; 3]
     ensures { result ≡ outcome_words o }
 {
     match o {
-        Outcome::Plain => five(0, 0, 0, 0, 0),
-        Outcome::Taken(n) => five(1, n, 0, 0, 0),
-        Outcome::Written(acked, list) => five(2, u64::from(acked), list, 0, 0),
-        Outcome::Picked(id) => five(3, id, 0, 0, 0),
+        Outcome::Plain => [0, 0, 0],
+        Outcome::Taken(n) => [1, n, 0],
+        Outcome::Written(acked, list) => [2, u64::from(acked), list],
+        Outcome::Picked(id) => [3, id, 0],
     }
 }
 
-fn told_words(t: Told) -> Tagged
+fn told_words(t: Told) -> [u64; 5]
     ensures { result ≡ told_words t }
 {
     match t {
-        Told::Nothing => five(0, 0, 0, 0, 0),
-        Told::Marks(set, chunk, list, version) => five(1, set, chunk, list, version),
-        Told::Clears(set, member, chunk) => five(2, set, member, chunk, 0),
-        Told::Infos(set, op, member) => five(3, set, event_number::op_number(op), member, 0),
-        Told::Disable(to) => five(4, to, 0, 0, 0),
-        Told::Off(to) => five(5, to, 0, 0, 0),
-        Told::Extended(others, normals, member, version) => five(
-            6, others, normals, member, version,
-        ),
-        Told::Checks(set, tick) => five(7, set, tick, 0, 0),
+        Told::Nothing => [0, 0, 0, 0, 0],
+        Told::Marks(set, chunk, list, version) => [1, set, chunk, list, version],
+        Told::Clears(set, member, chunk) => [2, set, member, chunk, 0],
+        Told::Infos(set, op, member) => [3, set, event_number::op_number(op), member, 0],
+        Told::Disable(to) => [4, to, 0, 0, 0],
+        Told::Off(to) => [5, to, 0, 0, 0],
+        Told::Extended(others, normals, member, version) => [6, others, normals, member, version],
+        Told::Checks(set, tick) => [7, set, tick, 0, 0],
     }
 }
 
-fn message_words(m: Message) -> Tagged
+fn message_words(m: Message) -> [u64; 5]
     ensures { result ≡ message_words m }
 {
     match m {
-        Message::Nothing => five(0, 0, 0, 0, 0),
-        Message::GetVersion(to) => five(1, to, 0, 0, 0),
-        Message::Ready(to, keep) => five(2, to, u64::from(keep), 0, 0),
-        Message::Send(to, receiver) => five(3, to, receiver, 0, 0),
-        Message::Done(to, enable, version, members) => five(
-            4,
-            to,
-            u64::from(enable),
-            version,
-            members,
-        ),
-        Message::LastIo(to, chosen) => five(5, to, chosen, 0, 0),
-        Message::Enable(to, version, members) => five(6, to, version, members, 0),
-        Message::Leave(to, mode) => five(7, to, event_number::mode_number(mode), 0, 0),
-        Message::Info(to, op, member) => five(8, to, event_number::op_number(op), member, 0),
+        Message::Nothing => [0, 0, 0, 0, 0],
+        Message::GetVersion(to) => [1, to, 0, 0, 0],
+        Message::Ready(to, keep) => [2, to, u64::from(keep), 0, 0],
+        Message::Send(to, receiver) => [3, to, receiver, 0, 0],
+        Message::Done(to, enable, version, members) => [4, to, u64::from(enable), version, members],
+        Message::LastIo(to, chosen) => [5, to, chosen, 0, 0],
+        Message::Enable(to, version, members) => [6, to, version, members, 0],
+        Message::Leave(to, mode) => [7, to, event_number::mode_number(mode), 0, 0],
+        Message::Info(to, op, member) => [8, to, event_number::op_number(op), member, 0],
     }
 }
 
+#[tactic(auto, unfolding(crate::specs::Words::sent_words))]
 fn sent_words(s: Sent) -> [u64; 16]
     ensures { result ≡ sent_words s }
 {
-    let outcome = s.outcome;
-    let told = s.told;
-    let awaited = s.awaited;
-    let o = outcome_words(outcome);
-    let t = told_words(told);
-    let m = message_words(awaited);
-    let n = event_words::words::wide32(s.number);
+    let o = outcome_words(s.outcome);
+    let t = told_words(s.told);
+    let m = message_words(s.awaited);
+    let n = u64::from(s.number);
+    // Word by word: three copies into one array did not prove in short.
     [
-        1, 0, o.tag, o.a, o.b, t.tag, t.a, t.b, t.c, t.d, m.tag, m.a, m.b, m.c, m.d, n,
+        1, 0, o[0], o[1], o[2], t[0], t[1], t[2], t[3], t[4], m[0], m[1], m[2], m[3], m[4], n,
     ]
 }
 

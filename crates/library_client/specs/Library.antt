@@ -1,7 +1,7 @@
 -- What the library's calls do to the lent words and bytes of a client.
 use Rattle.std.specs.Prelude.{Bool, ◌&&◌, ◌||◌, not, List, ℕ, eqb, ltb, Some, None}
 use Rattle.laws_words.specs.Words.{pick}
-use Rattle.event_words.specs.Same.{error_of}
+use Rattle.event_words.specs.Calls.{error_of}
 use Rattle.rules_pool.specs.declared.Mode.{Mode}
 use Rattle.rules_pool.specs.declared.Reply.{Reply}
 use Rattle.event.specs.declared.Event.{Event}

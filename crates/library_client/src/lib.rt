@@ -1,4 +1,4 @@
-// The compute client for programs in C: its state in 32 words that the caller keeps (crate clientwords), an event as four numbers, its answer in 16 words (crate answerwords).
+// The compute client for programs in C: its state in 32 words that the caller keeps (crate library_client_words), an event as four numbers, its answer in 16 words (crate library_answer).
 #![tactic(auto)]
 
 ghost use Rattle.std.specs.Prelude.{◌≡◌, ltb};
@@ -10,7 +10,7 @@ use client::Client;
 use event::Event;
 use rules_pool::{Mode, Reply};
 
-// The event that four numbers stand for. The kinds 1 to 15 are those of a log record.
+// The event that four numbers stand for: numbers, as C hands them over. The kinds 1 to 15 are those of a log record.
 #[tactic(auto, unfolding(crate::specs::Library::numbered))]
 fn event_of(kind: u64, a: u64, b: u64, c: u64) -> Event
     ensures { result ≡ numbered kind a b c }
@@ -40,8 +40,7 @@ fn event_of(kind: u64, a: u64, b: u64, c: u64) -> Event
 fn event_known(kind: u64, c: u64) -> bool
     ensures { result ≡ event_known kind c }
 {
-    let range = (0 < kind) & (kind < 19);
-    range & (!(kind == 18) | (c < 2))
+    0 < kind && kind < 19 && (kind != 18 || c < 2)
 }
 
 // The words of a fresh client. 0: done. 2: sync is neither 0 nor 1, nothing is changed. A chunk count outside 1 to 4,096 gives a client that every event refuses.
@@ -53,8 +52,7 @@ pub extern "C" fn mzk_client_fresh(state: &mut [u64; 32], sync: u64, chunks: u64
     if 1 < sync {
         return 2;
     }
-    let c = Client::fresh(sync == 1, chunks);
-    *state = library_client_words::client_words::pack(c);
+    *state = library_client_words::client_words::pack(Client::fresh(sync == 1, chunks));
     0
 }
 
@@ -77,19 +75,14 @@ pub extern "C" fn mzk_client_event(
     ensures out_after { out.new ≡ out_left state.old map.old other.now kind a b c out.old }
     ensures known_after { known state.new ≡ known state.old }
 {
-    let ws = *state;
-    let r = library_client_words::client_words::read(ws);
-    let event = event_known(kind, c);
-    let error = event_words::words::error_of(r.known, event);
-    if error != 0 {
-        return error;
-    }
-    let v = r.client;
+    let known = library_client_words::client_words::read(*state);
+    let client = match event_words::words::callable(known, event_known(kind, c)) {
+        Ok(client) => client,
+        Err(why) => return u64::from(why),
+    };
     let e = event_of(kind, a, b, c);
-    let o = event_call::client_event::call(v, e, map, other);
-    let answer = o.answer;
-    let next = o.client;
-    *out = library_answer::answer_words(answer);
-    *state = library_client_words::client_words::pack(next);
+    let o = event_call::client_event::call(client, e, map, other);
+    *out = library_answer::answer_words(o.answer);
+    *state = library_client_words::client_words::pack(o.client);
     0
 }

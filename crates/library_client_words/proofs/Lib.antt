@@ -1,3 +1,3 @@
 pub mod ClientInverse
-mod Laws
+mod Mapped
 pub mod PoolInverse

@@ -4,7 +4,7 @@ use mathlib.Core.Bool.{Bool, true, false}
 use mathlib.Core.List.{List, [], ◌∷◌, map}
 use Prim.Native.Nat.{ℕ, ◌<◌}
 use native.Mathlib.Omega.{arith}
-use Rattle.event_words.specs.declared.words.Tagged.{Tagged}
+use lib.ListN.{get_or}
 use Rattle.event_words.proofs.Alike.{read_one}
 use Rattle.rules_pool.specs.declared.Mode.{Mode}
 use Rattle.rules_pool.specs.declared.Cause.{Cause}
@@ -16,14 +16,14 @@ use Rattle.rules_pool.specs.declared.Stage.{Stage}
 use Rattle.rules_pool.specs.declared.Job.{Job}
 use Rattle.library_client_words.specs.PoolWords.{state_word, session_word, session_in, step_word, step_of, phase_tag, phase_data, phase_of, job_words, job_of}
 
-pub state-small : (s : State) → state_word s < 8
-state-small State.Free = omega arith
-state-small State.Created = omega arith
-state-small State.Normal = omega arith
-state-small (State.Failed Cause.Link) = omega arith
-state-small (State.Failed Cause.Io) = omega arith
-state-small State.Reconnecting = omega arith
-state-small (State.Removing m owed) = omega arith
+pub state_small : (s : State) → state_word s < 8
+state_small State.Free = omega arith
+state_small State.Created = omega arith
+state_small State.Normal = omega arith
+state_small (State.Failed Cause.Link) = omega arith
+state_small (State.Failed Cause.Io) = omega arith
+state_small State.Reconnecting = omega arith
+state_small (State.Removing m owed) = omega arith
 
 -- a session by its three parts, computed
 read-session : (st : State) (maintenance mark : Bool) → session_in (session_word (record { state = st; maintenance = maintenance; mark = mark })) ≡ record { state = st; maintenance = maintenance; mark = mark }
@@ -96,8 +96,8 @@ run_of (Phase.Gather s) a b c d = refl
 run_of (Phase.Enable all) a b c d = refl
 run_of (Phase.Spread s) a b c d = refl
 
-abbrev job_at : Tagged → Job
-job_at w = job_of w.tag w.a w.b w.c w.d
+abbrev job_at : List ℕ → Job
+job_at ws = job_of (get_or ws 0 0) (get_or ws 1 0) (get_or ws 2 0) (get_or ws 3 0) (get_or ws 4 0)
 
 read-stage : (id : ℕ) (s : Stage) → job_at (job_words (Job.Removing (record { id = id; stage = s }))) ≡ Job.Removing (record { id = id; stage = s })
 unfolding job_of

@@ -16,11 +16,11 @@ packed c =
     ∷ one c.pool.roster.past.assembled
     ∷ c.pool.number
     ∷ c.pool.chunks
-    ∷ (job_words c.pool.job).tag
-    ∷ (job_words c.pool.job).a
-    ∷ (job_words c.pool.job).b
-    ∷ (job_words c.pool.job).c
-    ∷ (job_words c.pool.job).d
+    ∷ get_or (job_words c.pool.job) 0 0
+    ∷ get_or (job_words c.pool.job) 1 0
+    ∷ get_or (job_words c.pool.job) 2 0
+    ∷ get_or (job_words c.pool.job) 3 0
+    ∷ get_or (job_words c.pool.job) 4 0
     ∷ c.check.tick
     ∷ c.check.due
     ∷ c.check.once

@@ -1,7 +1,6 @@
 -- The words of a pool's sessions and of its job, and what words stand for: any number gives a session, any five a job.
-use Rattle.std.specs.Prelude.{◌&&◌, not, ℕ, ◌+◌, ◌/◌, ◌%◌, eqb}
+use Rattle.std.specs.Prelude.{◌&&◌, not, List, [], ◌∷◌, ℕ, ◌+◌, ◌/◌, ◌%◌, eqb}
 use Rattle.laws_words.specs.Words.{pick, one}
-use Rattle.event_words.specs.declared.words.Tagged.{Tagged}
 use Rattle.rules_pool.specs.declared.Cause.{Cause}
 use Rattle.rules_pool.specs.declared.State.{State}
 use Rattle.rules_pool.specs.declared.Session.{Session}
@@ -69,17 +68,17 @@ phase_of tag a =
     (Phase.Spread (step_of a))))))
 
 -- phase, its data, source, left, taken
-abbrev pub run_words : Run → Tagged
-run_words r = record { tag = phase_tag r.phase; a = phase_data r.phase; b = r.source; c = r.left; d = r.taken }
+abbrev pub run_words : Run → List ℕ
+run_words r = phase_tag r.phase ∷ phase_data r.phase ∷ r.source ∷ r.left ∷ r.taken ∷ []
 
 -- stage, peer, id
-abbrev pub stage_words : ℕ → Stage → Tagged
-stage_words id Stage.Leave = record { tag = 7; a = 0; b = id; c = 0; d = 0 }
-stage_words id (Stage.Info peer) = record { tag = 8; a = peer; b = id; c = 0; d = 0 }
+abbrev pub stage_words : ℕ → Stage → List ℕ
+stage_words id Stage.Leave = 7 ∷ 0 ∷ id ∷ 0 ∷ 0 ∷ []
+stage_words id (Stage.Info peer) = 8 ∷ peer ∷ id ∷ 0 ∷ 0 ∷ []
 
 -- 0 idle, 1 to 6 a run's phase, 7 and 8 a removal's stage
-abbrev pub job_words : Job → Tagged
-job_words Job.Idle = record { tag = 0; a = 0; b = 0; c = 0; d = 0 }
+abbrev pub job_words : Job → List ℕ
+job_words Job.Idle = 0 ∷ 0 ∷ 0 ∷ 0 ∷ 0 ∷ []
 job_words (Job.Running r) = run_words r
 job_words (Job.Removing m) = stage_words m.id m.stage
 

@@ -4,17 +4,8 @@ ghost use Rattle.std.specs.Prelude.{◌≡◌, map, ◌+◌, ◌<◌};
 ghost use Rattle.laws_words.specs.Words.{pick};
 ghost use Rattle.library_client_words.specs.PoolWords.{state_word, session_word, session_in, step_word, step_of, phase_tag, phase_data, phase_of, stage_words, job_words, job_of, run_words};
 
-use event_words::words::{Tagged, five};
+use map_numbers::numbers::pick;
 use rules_pool::{Cause, Job, Phase, Removal, Run, Session, Stage, State, Step};
-
-fn cause_word(cause: Cause) -> u64
-    ensures { result ≡ state_word (State.Failed cause) }
-{
-    match cause {
-        Cause::Link => 3,
-        Cause::Io => 6,
-    }
-}
 
 fn state_word(s: State) -> u64
     ensures { result ≡ state_word s }
@@ -23,9 +14,10 @@ fn state_word(s: State) -> u64
         State::Free => 0,
         State::Created => 1,
         State::Normal => 2,
-        State::Failed(cause) => cause_word(cause),
+        State::Failed(Cause::Link) => 3,
+        State::Failed(Cause::Io) => 6,
         State::Reconnecting => 4,
-        State::Removing(m, owed) => 5,
+        State::Removing(..) => 5,
     }
 }
 
@@ -33,20 +25,26 @@ fn flags(word: u64, maintenance: bool, mark: bool, disassembled: bool, owed: boo
     requires { word < 8 }
     ensures { result ≡ word + pick maintenance 8 0 + pick mark 16 0 + pick disassembled 32 0 + pick owed 64 0 }
 {
-    let two = word
-        + map_numbers::numbers::pick(maintenance, 8, 0)
-        + map_numbers::numbers::pick(mark, 16, 0);
-    two + map_numbers::numbers::pick(disassembled, 32, 0) + map_numbers::numbers::pick(owed, 64, 0)
+    word + pick(maintenance, 8, 0)
+        + pick(mark, 16, 0)
+        + pick(disassembled, 32, 0)
+        + pick(owed, 64, 0)
 }
 
+#[tactic(auto, using(crate::proofs::PoolInverse::state_small))]
 fn session_word(s: Session) -> u64
     ensures { result ≡ session_word s }
 {
-    let st = s.state;
-    let disassembled = client_state::state::is_removing(st) & !client_state::state::is_deleting(st);
-    let owed = client_state::state::is_owed(st);
-    let w = state_word(st);
-    flags(w, s.maintenance, s.mark, disassembled, owed)
+    let disassembled = client_state::state::is_removing(s.state)
+        && !client_state::state::is_deleting(s.state);
+    let owed = client_state::state::is_owed(s.state);
+    flags(
+        state_word(s.state),
+        s.maintenance,
+        s.mark,
+        disassembled,
+        owed,
+    )
 }
 
 #[tactic(auto, unfolding(crate::specs::PoolWords::session_in))]
@@ -59,27 +57,13 @@ fn session_in(w: u64) -> Session
 pub fn session_words(ss: [Session; 16]) -> [u64; 16]
     ensures { result ≡ map session_word ss }
 {
-    let mut ws: [u64; 16] = [0; 16];
-    let mut i = 0;
-    while i < 16 {
-        let s = ss[i];
-        ws[i] = session_word(s);
-        i += 1;
-    }
-    ws
+    ss.map(session_word)
 }
 
 pub fn sessions_in(ws: [u64; 16]) -> [Session; 16]
     ensures { result ≡ map session_in ws }
 {
-    let none = client_state::state::new(State::Free);
-    let mut ss = [none; 16];
-    let mut i = 0;
-    while i < 16 {
-        ss[i] = session_in(ws[i]);
-        i += 1;
-    }
-    ss
+    ws.map(session_in)
 }
 
 fn step_word(s: Step) -> u64
@@ -106,12 +90,12 @@ fn phase_tag(p: Phase) -> u64
     ensures { result ≡ phase_tag p }
 {
     match p {
-        Phase::Versions(v) => 1,
-        Phase::Base(s) => 2,
+        Phase::Versions(_) => 1,
+        Phase::Base(_) => 2,
         Phase::LastIo => 3,
-        Phase::Gather(s) => 4,
-        Phase::Enable(all) => 5,
-        Phase::Spread(s) => 6,
+        Phase::Gather(_) => 4,
+        Phase::Enable(_) => 5,
+        Phase::Spread(_) => 6,
     }
 }
 
@@ -120,14 +104,13 @@ fn phase_data(p: Phase) -> u64
 {
     match p {
         Phase::Versions(v) => v,
-        Phase::Base(s) => step_word(s),
         Phase::LastIo => 0,
-        Phase::Gather(s) => step_word(s),
         Phase::Enable(all) => u64::from(all),
-        Phase::Spread(s) => step_word(s),
+        Phase::Base(s) | Phase::Gather(s) | Phase::Spread(s) => step_word(s),
     }
 }
 
+// From numbers, as C keeps them.
 fn phase_of(tag: u64, a: u64) -> Phase
     ensures { result ≡ phase_of tag a }
 {
@@ -142,36 +125,32 @@ fn phase_of(tag: u64, a: u64) -> Phase
     }
 }
 
-fn run_words(r: Run) -> Tagged
+fn run_words(r: Run) -> [u64; 5]
     ensures { result ≡ run_words r }
 {
-    let p = r.phase;
-    let tag = phase_tag(p);
-    let a = phase_data(p);
-    five(tag, a, r.source, r.left, r.taken)
+    [
+        phase_tag(r.phase),
+        phase_data(r.phase),
+        r.source,
+        r.left,
+        r.taken,
+    ]
 }
 
-fn stage_words(id: u64, s: Stage) -> Tagged
-    ensures { result ≡ stage_words id s }
+fn removal_words(m: Removal) -> [u64; 5]
+    ensures { result ≡ stage_words m.id m.stage }
 {
-    match s {
-        Stage::Leave => five(7, 0, id, 0, 0),
-        Stage::Info(peer) => five(8, peer, id, 0, 0),
+    match m.stage {
+        Stage::Leave => [7, 0, m.id, 0, 0],
+        Stage::Info(peer) => [8, peer, m.id, 0, 0],
     }
 }
 
-fn removal_words(m: Removal) -> Tagged
-    ensures { result ≡ stage_words m.id m.stage }
-{
-    let s = m.stage;
-    stage_words(m.id, s)
-}
-
-pub fn job_words(j: Job) -> Tagged
+pub fn job_words(j: Job) -> [u64; 5]
     ensures { result ≡ job_words j }
 {
     match j {
-        Job::Idle => five(0, 0, 0, 0, 0),
+        Job::Idle => [0; 5],
         Job::Running(r) => run_words(r),
         Job::Removing(m) => removal_words(m),
     }
@@ -181,25 +160,21 @@ pub fn job_words(j: Job) -> Tagged
 pub fn job_of(tag: u64, a: u64, b: u64, c: u64, d: u64) -> Job
     ensures { result ≡ job_of tag a b c d }
 {
-    let phase = phase_of(tag, a);
-    let run = Run {
-        phase: phase,
-        source: b,
-        left: c,
-        taken: d,
-    };
-    let leave = Removal {
-        id: b,
-        stage: Stage::Leave,
-    };
-    let info = Removal {
-        id: b,
-        stage: Stage::Info(a),
-    };
     match tag {
         0 => Job::Idle,
-        7 => Job::Removing(leave),
-        8 => Job::Removing(info),
-        _ => Job::Running(run),
+        7 => Job::Removing(Removal {
+            id: b,
+            stage: Stage::Leave,
+        }),
+        8 => Job::Removing(Removal {
+            id: b,
+            stage: Stage::Info(a),
+        }),
+        _ => Job::Running(Run {
+            phase: phase_of(tag, a),
+            source: b,
+            left: c,
+            taken: d,
+        }),
     }
 }

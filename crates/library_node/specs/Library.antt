@@ -1,7 +1,7 @@
 -- What the library's calls do to the lent words and bytes of a node.
 use Rattle.std.specs.Prelude.{Bool, ◌&&◌, ◌||◌, not, List, [], ◌∷◌, ℕ, eqb, ltb, Some, None}
 use Rattle.laws_words.specs.Words.{pick, one}
-use Rattle.event_words.specs.Same.{error_of}
+use Rattle.event_words.specs.Calls.{error_of}
 use Rattle.event.specs.declared.NodeEvent.{NodeEvent}
 use Rattle.event.specs.declared.Question.{Question}
 use Rattle.event_number.specs.Values.{op_of}

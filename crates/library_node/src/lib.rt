@@ -1,4 +1,4 @@
-// The storage node for programs in C: its state in 32 words that the caller keeps (crate nodewords), its summaries in 96, an event as four numbers, its answer in 4 words.
+// The storage node for programs in C: its state in 32 words that the caller keeps (crate event_words), its summaries in 96, an event as four numbers, its answer in 4 words.
 #![tactic(auto)]
 
 ghost use Rattle.std.specs.Prelude.{◌≡◌};
@@ -10,12 +10,11 @@ use event_ask::ask::Finding;
 use node::StorageNode;
 use rules_node::Answer;
 
-// The event that four numbers stand for. The part that TakePart takes is lent beside them.
+// The event that four numbers stand for: numbers, as C hands them over. The part that TakePart takes is lent beside them.
 #[tactic(auto, unfolding(crate::specs::Library::numbered))]
 fn event_of(kind: u64, a: u64, b: u64, c: u64) -> NodeEvent
     ensures { result ≡ numbered kind a b c }
 {
-    let op = event_number::op_of(a);
     match kind {
         1 => NodeEvent::RegisterCreate,
         2 => NodeEvent::RegisterAdd(a, b),
@@ -28,7 +27,7 @@ fn event_of(kind: u64, a: u64, b: u64, c: u64) -> NodeEvent
         9 => NodeEvent::Fault,
         10 => NodeEvent::Write(a, b, c),
         11 => NodeEvent::Synced(a, b),
-        12 => NodeEvent::PoolInfo(op, b),
+        12 => NodeEvent::PoolInfo(event_number::op_of(a), b),
         13 => NodeEvent::LastIo(a),
         14 => NodeEvent::MapReady(a == 1),
         15 => NodeEvent::GivePart(a, b),
@@ -44,9 +43,8 @@ fn event_of(kind: u64, a: u64, b: u64, c: u64) -> NodeEvent
 fn event_known(kind: u64, a: u64) -> bool
     ensures { result ≡ event_known kind a }
 {
-    let flagged = (kind == 3) | ((kind == 6) | ((kind == 14) | (kind == 17)));
-    let range = (0 < kind) & (kind < 21);
-    range & ((!flagged | (a < 2)) & (!(kind == 12) | (a < 4)))
+    let flagged = kind == 3 || kind == 6 || kind == 14 || kind == 17;
+    0 < kind && kind < 21 && (!flagged || a < 2) && (kind != 12 || a < 4)
 }
 
 fn answer_words(a: Answer) -> [u64; 4]
@@ -71,16 +69,7 @@ fn question_of(kind: u64, a: u64, b: u64) -> Question
 fn ask_known(kind: u64) -> bool
     ensures { result ≡ ask_known kind }
 {
-    (kind == 1) | (kind == 2)
-}
-
-fn found_words(f: Option<u64>) -> [u64; 4]
-    ensures { result ≡ finding_words (Finding.Next f) }
-{
-    match f {
-        Some(chunk) => [1, 0, 1, chunk],
-        None => [1, 0, 0, 0],
-    }
+    kind == 1 || kind == 2
 }
 
 fn finding_words(f: Finding) -> [u64; 4]
@@ -89,7 +78,8 @@ fn finding_words(f: Finding) -> [u64; 4]
     match f {
         Finding::Refused(n) => [0, n, 0, 0],
         Finding::Empty(empty) => [1, 0, 1, u64::from(empty)],
-        Finding::Next(found) => found_words(found),
+        Finding::Next(Some(chunk)) => [1, 0, 1, chunk],
+        Finding::Next(None) => [1, 0, 0, 0],
     }
 }
 
@@ -105,10 +95,10 @@ pub extern "C" fn mzk_node_fresh(
     ensures summaries_after { summaries.new ≡ fresh_summaries id chunks }
 {
     let s = StorageNode::fresh(id, chunks);
-    let n = s.node;
-    let w = s.summaries;
-    *summaries = w;
-    *state = event_words::node_words::pack(n);
+    // A variable: an array that is a field is not stored straight.
+    let words = s.summaries;
+    *summaries = words;
+    *state = event_words::node_words::pack(s.node);
 }
 
 // An event. 0: out says what it gave. 1: the words of state are no node's. 2: the numbers are no event. At 1 and 2 nothing is changed. The words of state are known after the
@@ -134,28 +124,21 @@ pub extern "C" fn mzk_node_event(
     ensures out_after { out.new ≡ out_left state.old summaries.old map.old staging.old part.now kind a b c out.old }
     ensures known_after { known state.new ≡ known state.old }
 {
-    let ws = *state;
-    let ss = *summaries;
-    let r = event_words::node_words::read(ws);
-    let event = event_known(kind, a);
-    let error = event_words::words::error_of(r.known, event);
-    if error != 0 {
-        return error;
-    }
-    let n = r.node;
-    let e = event_of(kind, a, b, c);
-    let s = StorageNode {
-        node: n,
-        summaries: ss,
+    let known = event_words::node_words::read(*state);
+    let node = match event_words::words::callable(known, event_known(kind, a)) {
+        Ok(node) => node,
+        Err(why) => return u64::from(why),
     };
+    let s = StorageNode {
+        node,
+        summaries: *summaries,
+    };
+    let e = event_of(kind, a, b, c);
     let o = event_call::node_event::call(s, e, map, staging, part);
-    let answer = o.answer;
-    let next = o.node;
-    let q = next.node;
-    let after = next.summaries;
-    *out = answer_words(answer);
-    *summaries = after;
-    *state = event_words::node_words::pack(q);
+    *out = answer_words(o.answer);
+    let words = o.node.summaries;
+    *summaries = words;
+    *state = event_words::node_words::pack(o.node.node);
     0
 }
 
@@ -174,21 +157,16 @@ pub extern "C" fn mzk_node_ask(
     ensures value { result ≡ ask_result state.now kind }
     ensures out_after { out.new ≡ ask_left state.now summaries.now map.now staging.now kind a b out.old }
 {
-    let ws = *state;
-    let ss = *summaries;
-    let r = event_words::node_words::read(ws);
-    let question = ask_known(kind);
-    let error = event_words::words::error_of(r.known, question);
-    if error != 0 {
-        return error;
-    }
-    let n = r.node;
-    let q = question_of(kind, a, b);
-    let s = StorageNode {
-        node: n,
-        summaries: ss,
+    let known = event_words::node_words::read(*state);
+    let node = match event_words::words::callable(known, ask_known(kind)) {
+        Ok(node) => node,
+        Err(why) => return u64::from(why),
     };
-    let f = event_ask::ask::call(s, q, map, staging);
+    let s = StorageNode {
+        node,
+        summaries: *summaries,
+    };
+    let f = event_ask::ask::call(s, question_of(kind, a, b), map, staging);
     *out = finding_words(f);
     0
 }

@@ -6,15 +6,12 @@ ghost use Rattle.status_row.specs.Writing.{joins, status_of, write_answer, write
 
 use crate::descriptors::{Refused, Volume, flag, row_sound};
 
-// Stores 32 bits, big-endian. Byte by byte, as `word` says it: v may be above 32 bits, so `to_be_bytes` would need its remainder first.
+// Stores 32 bits, big-endian.
 fn put32(out: &mut [u8], at: usize, v: u64)
     requires { at + 4 ≤ length out.old }
     ensures { out.new ≡ sets out.old at (word v) }
 {
-    out[at] = (v / 16777216 % 256) as u8;
-    out[at + 1] = (v / 65536 % 256) as u8;
-    out[at + 2] = (v / 256 % 256) as u8;
-    out[at + 3] = (v % 256) as u8;
+    out[at..at + 4].copy_from_slice(&v.to_be_bytes()[4..]);
 }
 
 // Stores one descriptor.

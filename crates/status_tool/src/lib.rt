@@ -149,6 +149,7 @@ fn read_full(input: &mut impl Read, buf: &mut [u8]) -> usize
     ensures { result ≤ length buf.new }
 {
     let mut done = 0;
+    // Each turn reads as much as comes; `io::copy` loses the count where a read fails.
     while done < buf.len() {
         match input.read(&mut buf[done..]) {
             Ok(n) if n > 0 => done += n,

@@ -37,7 +37,7 @@ pub fn are_numbers(words: &[Token]) -> bool
     words.iter().all(|t| t.is_number())
 }
 
-// count is 9 where the line has more than eight words. A word that is not there is the number 0.
+// count is 9 where the line has more than eight words. A word that is not there is the number 0. An array beside its count, as there is no heap.
 #[derive(Clone, Copy)]
 pub struct Line {
     pub count: u64,

@@ -8,4 +8,4 @@ returns-then-sync-gt1-clause-state_after c = rw (lt-ltb 1 c.args.sync c.if-sync-
 
 pub returns-clause-state_after : goal.returns-clause-state_after
 unfolding fresh_left
-returns-clause-state_after c = rw (le-ltb 1 c.args.sync c.if-sync-gt1.false, c.pack.ensures.value, c.fresh-c.ensures)
+returns-clause-state_after c = rw (le-ltb 1 c.args.sync c.if-sync-gt1.false, c.pack.ensures.value, c.fresh.ensures)

@@ -1,14 +1,15 @@
+use mathlib.Core.Path.{◌∙◌}
 use Rattle.library_node.proofs.Ends.{stopped, went}
 use Rattle.library_node.proofs.mzk_node_event.Goals as goal
 
-pub returns-then-error-ne0 : goal.returns-then-error-ne0
-returns-then-error-ne0 c =
+pub returns-in-Err : goal.returns-in-Err
+returns-in-Err c =
     let s =
-    stopped c.args.state.now c.args.summaries.now c.args.map.now c.args.staging.now c.args.part.now c.args.out.now c.args.kind c.args.a c.args.b c.args.c _ _ _ c.read-r.ensures c.event_known-event.ensures c.error_of-error.ensures c.if-error-ne0.true in
-    record { value = s.0; state_after = s.1.0; summaries_after = s.1.1.0; map_after = s.1.1.1.0; staging_after = s.1.1.1.1.0; out_after = s.1.1.1.1.1.0; known_after = s.1.1.1.1.1.1 }
+    stopped c.args.state.now c.args.summaries.now c.args.map.now c.args.staging.now c.args.part.now c.args.out.now c.args.kind c.args.a c.args.b c.args.c _ _ _ (rw c.read-known.ensures at c.callable.ensures) c.event_known.ensures c.in-Err.is in
+    record { value = c.from.ensures ∙ s.0; state_after = s.1.0; summaries_after = s.1.1.0; map_after = s.1.1.1.0; staging_after = s.1.1.1.1.0; out_after = s.1.1.1.1.1.0; known_after = s.1.1.1.1.1.1 }
 
 pub returns : goal.returns
 returns c =
     let w =
-    went c.args.state.now c.args.summaries.now c.args.map.now c.args.staging.now c.args.part.now c.args.out.now c.args.kind c.args.a c.args.b c.args.c _ _ _ _ _ _ _ _ _ c.read-r.ensures c.event_known-event.ensures c.error_of-error.ensures c.if-error-ne0.false c.event_of-e.ensures c.call-o.ensures c.answer_words.ensures c.pack.ensures in
+    went c.args.state.now c.args.summaries.now c.args.map.now c.args.staging.now c.args.part.now c.args.out.now c.args.kind c.args.a c.args.b c.args.c _ _ _ _ _ _ _ _ _ (rw c.read-known.ensures at c.callable.ensures) c.event_known.ensures c.in-Ok.is c.event_of-e.ensures c.call-o.ensures c.answer_words.ensures c.pack.ensures in
     record { value = w.0; state_after = w.1.0; summaries_after = w.1.1.0; map_after = w.1.1.1.0; staging_after = w.1.1.1.1.0; out_after = w.1.1.1.1.1.0; known_after = w.1.1.1.1.1.1 }

@@ -1,32 +1,34 @@
-use borrow.Author.Rules.{rules}
-use mathlib.Core.Path.{◌≡◌, ◌∙◌, ap}
-use mathlib.Core.Bool.{not}
-use native.Mathlib.Omega.{arith}
-use Rattle.lab_deliver.specs.Delivery.{whole, outcome}
-use Rattle.lab_deliver.proofs.Parts.{parts_none, parts-end, parts_more, map_is}
+use Rattle.std.proofs.Common.{refl, sym, arith, ◌≡◌, ◌∙◌, ◌+◌, ◌-◌, ◌<◌}
+use Rattle.rules_base.specs.Limits.{map_bytes}
+use Rattle.lab_deliver.specs.Delivery.{outcome, parts_from, map_passed}
+use Rattle.lab_deliver.proofs.Parts.{parts-end, parts-more}
 use Rattle.lab_deliver.proofs.delivery.pass_map.Goals as goal
 
-pub loop-turns-preserved : goal.loop-turns-preserved
-loop-turns-preserved c =
-    let v = c.loop-turns in
-    let a = c.args in (
-      omega (arith, v.invariant.0, c.length_at-offset.ensures),
-      search rules,
-      search rules,
-      search rules,
-      search rules,
-      parts_more v.turns a.w v.offset (outcome v.a (whole a.lent v.states v.sums v.maps v.stagings)) c.loop-turns-test.true c.goes_on-on.ensures (ap not c.if-not-on.false) c.pass_part-a.ensures c.length_at-offset.ensures ∙ v.invariant.5,
-    )
+pub loop-part-init : goal.loop-part-init
+unfolding map_passed
+loop-part-init c = record { inside = omega arith; rest = refl }
 
-pub returns-after-loop-turns : goal.returns-after-loop-turns
-returns-after-loop-turns c =
-    let v = c.loop-turns in
+pub loop-part-preserved : goal.loop-part-preserved
+loop-part-preserved c =
     let a = c.args in
-    let done : v.turns ≡ 0 = omega (arith, c.loop-turns-test.false) in
-    parts_none a.w v.offset (outcome v.a (whole a.lent v.states v.sums v.maps v.stagings)) ∙ (rw done at v.invariant.5) ∙ map_is a.w (whole a.lent a.states.now a.sums.now a.maps.now a.stagings.now)
+    let v = c.loop-part in
+    let left : 0 < map_bytes - v.part = omega arith in
+    let less : map_bytes - (v.part + 1) ≡ map_bytes - v.part - 1 = omega arith in
+    let more = parts-more (map_bytes - v.part) a.w v.offset a.lent (outcome v.a v.bench) left (sym c.goes_on.ensures ∙ c.if-not-goes_on.false) in
+    record {
+      inside = omega (arith, c.length_at-offset.ensures);
+      rest = rw (c.pass_part-a.ensures, c.length_at-offset.ensures, less) more ∙ v.invariant.rest;
+    }
 
-pub returns-then-not-on : goal.returns-then-not-on
-returns-then-not-on c =
-    let v = c.loop-turns in
+pub returns-after-loop-part : goal.returns-after-loop-part
+unfolding parts_from
+returns-after-loop-part c =
+    let v = c.loop-part in
+    let none : map_bytes - v.part ≡ 0 = omega arith in
+    rw none at v.invariant.rest
+
+pub returns-then-not-goes_on : goal.returns-then-not-goes_on
+returns-then-not-goes_on c =
     let a = c.args in
-    parts-end v.turns a.w v.offset (outcome v.a (whole a.lent v.states v.sums v.maps v.stagings)) c.goes_on-on.ensures (ap not c.if-not-on.true) ∙ v.invariant.5 ∙ map_is a.w (whole a.lent a.states.now a.sums.now a.maps.now a.stagings.now)
+    let v = c.loop-part in
+    sym (parts-end (map_bytes - v.part) a.w v.offset a.lent (outcome v.a v.bench) (sym c.goes_on.ensures ∙ c.if-not-goes_on.true)) ∙ v.invariant.rest

@@ -1,13 +1,26 @@
+use Rattle.std.proofs.Common.{refl, arith, [], ◌≡◌, ◌-◌, length, take, drop}
+use Rattle.event_ask.proofs.Parts.{part-is}
+use Rattle.lab_lend.specs.Client.{lender, read_of}
 use Rattle.lab_lend.proofs.ClientLent.{lent-meets}
 use Rattle.lab_lend.proofs.client_event.client_event.Goals as goal
 
-pub returns : goal.returns
-returns c =
-    let s = c.args in
-    let w =
-    lent-meets s.lent s.e s.own.now s.maps.now
-    (rw c.cut.ensures at c.find-s.ensures)
-    (rw (c.size.ensures, c.read_from-n.ensures) at c.find-t.ensures)
-    c.call.ensures.meets
-    c.call.ensures.own_after
-    in record { value = w.0; own_after = w.1 }
+pub returns-in-None : goal.returns-in-None
+returns-in-None c =
+    let a = c.args in
+    let b = a.bench.now in
+    let all : length b.own ≡ 8192 = omega arith in
+    let read : [] ≡ read_of a.lent (lender a.e) b.maps = rw (← c.read_from.ensures, c.in-None.is) refl in
+    let w = lent-meets a.lent a.e b (rw (← all, c.cut.ensures) at c.find-s.ensures) read c.call.ensures.meets c.call.ensures.own_after in
+    record { value = w.0; own_after = rw w.1 refl }
+
+pub returns-in-Some : goal.returns-in-Some
+returns-in-Some c =
+    let a = c.args in
+    let b = a.bench.now in
+    let t = c.find-t.result in
+    let all : length b.own ≡ 8192 = omega arith in
+    let read : take (t.to - t.from) (drop t.from b.maps) ≡ read_of a.lent (lender a.e) b.maps =
+    rw (← c.read_from.ensures, c.in-Some.is, ← c.size.ensures) (part-is b.maps c.find-t.ensures)
+    in
+    let w = lent-meets a.lent a.e b (rw (← all, c.cut.ensures) at c.find-s.ensures) read c.call-in-Some.ensures.meets c.call-in-Some.ensures.own_after in
+    record { value = w.0; own_after = rw w.1 refl }

@@ -1,14 +1,17 @@
-use native.Mathlib.Nat.{sub-zero}
+use Rattle.std.proofs.Common.{refl, arith, ◌≡◌, length}
 use Rattle.lab_lend.proofs.NodeLent.{lent-meets}
 use Rattle.lab_lend.proofs.node_event.node_event.Goals as goal
 
-pub returns : goal.returns
-returns c =
-    let s = c.args in
+pub returns-clause-after : goal.returns-clause-after
+returns-clause-after c =
+    let a = c.args in
+    let b = a.bench.now in
+    let maps : length b.maps ≡ 131072 = omega arith in
+    let stagings : length b.stagings ≡ 131072 = omega arith in
     let w =
-    lent-meets s.lent s.e s.maps.now s.stagings.now
-    (rw c.size.ensures at c.find-s.ensures)
-    (rw c.size-2.ensures at c.find-t.ensures)
-    (rw (sub-zero, ← c.taking_of.ensures) c.fetch-size.ensures.1)
-    c.call.ensures
-    in record { value = w.0; maps_after = w.1.0; stagings_after = w.1.1 }
+    lent-meets a.lent a.e b
+    (rw (c.size.ensures, ← maps) at c.find-s.ensures)
+    (rw (c.size-2.ensures, ← stagings) at c.find-t.ensures)
+    c.fetch-size.ensures.1
+    (rw c.node_in.ensures at c.call-out.ensures)
+    in rw (c.put.ensures, w.0, w.1.0, w.1.1) refl
