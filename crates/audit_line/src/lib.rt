@@ -2,11 +2,12 @@
 #![tactic(auto)]
 
 ghost use Rattle.std.specs.Prelude.{◌≡◌};
-ghost use Rattle.text_bytes.specs.Ink.{ink, emits_all};
+ghost use Rattle.text_bytes.specs.Ink.{emits_all};
 ghost use Rattle.audit_line.specs.Text.{is_record, numbers_in, record_line, record_in, counted, verdict_text};
 
 use audit_record::records::{self, Record};
 use audit_replay::auditing::Verdict;
+use text_bytes::page::Page;
 use text_words::lines::{self, Line};
 
 #[tactic(auto, unfolding(crate::specs::Text::is_record))]
@@ -60,20 +61,20 @@ pub fn record_in(n: usize, line: &[u8]) -> Record
     read_record(&line[..n])
 }
 
-pub fn put_verdict(out: &mut [u8], at: usize, v: Verdict) -> usize
-    ensures { ink out.new result ≡ emits_all (ink out.old at) (verdict_text v) }
+pub fn put_verdict(page: &mut Page, v: Verdict)
+    ensures { page.new ≡ emits_all page.old (verdict_text v) }
 {
     match v {
-        Verdict::Accepted(n) => put_counted(out, at, b"accepted ", n),
-        Verdict::Wrong(n) => put_counted(out, at, b"record ", n),
+        Verdict::Accepted(n) => put_counted(page, b"accepted ", n),
+        Verdict::Wrong(n) => put_counted(page, b"record ", n),
     }
 }
 
 // A word, a number and a newline.
-fn put_counted(out: &mut [u8], at: usize, word: &[u8], n: u64) -> usize
-    ensures { ink out.new result ≡ emits_all (ink out.old at) (counted word.now n) }
+fn put_counted(page: &mut Page, word: &[u8], n: u64)
+    ensures { page.new ≡ emits_all page.old (counted word.now n) }
 {
-    let a = text_bytes::put_bytes(out, at, word);
-    let b = text_bytes::put_number(out, a, n);
-    text_bytes::put_bytes(out, b, b"\n")
+    page.put_bytes(word);
+    page.put_number(n);
+    page.put_bytes(b"\n");
 }

@@ -5,6 +5,7 @@
 use audit_list::batches::Batch;
 use std::io;
 use std::io::{Print, Read};
+use text_bytes::page::Page;
 use text_words::fetching::Got;
 
 // The turns are counted so that the loop ends whatever is read; no run uses them up.
@@ -49,9 +50,7 @@ fn take_last(b: Batch, n: usize, line: &[u8]) -> Batch {
 
 fn answer(rt: &impl Print, b: Batch, out: &mut [u8]) -> io::Result<()> {
     let v = audit_replay::auditing::verdict_of(audit_list::batches::close(b));
-    let at = audit_line::put_verdict(out, 0, v);
-    if at <= out.len() {
-        rt.write_all(&out[..at])?;
-    }
-    Ok(())
+    let mut page = Page::new(out, 0);
+    audit_line::put_verdict(&mut page, v);
+    rt.write_all(page.text())
 }

@@ -2,57 +2,56 @@
 #![tactic(auto)]
 
 ghost use Rattle.std.specs.Prelude.{◌≡◌};
-ghost use Rattle.text_bytes.specs.Ink.{ink, emits};
+ghost use Rattle.text_bytes.specs.Ink.{emits};
 ghost use Rattle.compare_say.specs.Said.{line_text, member_text, head_text};
 
 use compare_walk::differences::{Difference, next_difference};
+use text_bytes::page::Page;
 
-fn put_line(out: &mut [u8], at: usize, d: Difference) -> usize
-    ensures { ink out.new result ≡ emits (ink out.old at) (line_text d) }
+fn put_line(page: &mut Page, d: Difference)
+    ensures { page.new ≡ emits page.old (line_text d) }
 {
-    let a = text_bytes::put_number(out, at, d.member);
-    let b = text_bytes::put(out, a, 32);
-    let c = text_bytes::put_number(out, b, d.chunk);
-    let e = text_bytes::put(out, c, 32);
-    let f = text_bytes::put_number(out, e, d.which.number());
-    text_bytes::put(out, f, 10)
+    page.put_number(d.member);
+    page.put(b' ');
+    page.put_number(d.chunk);
+    page.put(b' ');
+    page.put_number(d.which.number());
+    page.put(b'\n');
 }
 
 // The lines of one member's differences, by a walk through its row.
-pub fn put_member(out: &mut [u8], at: usize, first: &[u8], second: &[u8], member: u64) -> usize
-    ensures { ink out.new result ≡ emits (ink out.old at) (member_text first.now second.now member) }
+pub fn put_member(page: &mut Page, first: &[u8], second: &[u8], member: u64)
+    ensures { page.new ≡ emits page.old (member_text first.now second.now member) }
 {
-    let mut to = at;
     let mut c = 0;
     // No range: each turn goes on behind the chunk that was found.
     while c < 4096 {
         match next_difference(first, second, member, c) {
             // Two arms: under one pattern for both, the proof is not told which of the two it was.
-            Err(_) => return to,
-            Ok(None) => return to,
+            Err(_) => return,
+            Ok(None) => return,
             Ok(Some(d)) => {
                 if member < d.member {
-                    return to;
+                    return;
                 }
-                to = put_line(out, to, d);
+                put_line(page, d);
                 c = d.chunk + 1;
             }
         }
     }
-    to
 }
 
 // What comes before the lines: that the dumps are refused, or the same; nothing where there are differences.
-pub fn put_head(out: &mut [u8], at: usize, first: &[u8], second: &[u8]) -> usize
-    ensures { ink out.new result ≡ emits (ink out.old at) (head_text first.now second.now) }
+pub fn put_head(page: &mut Page, first: &[u8], second: &[u8])
+    ensures { page.new ≡ emits page.old (head_text first.now second.now) }
 {
     match next_difference(first, second, 0, 0) {
         Err(why) => {
-            let a = text_bytes::put_bytes(out, at, b"refused ");
-            let b = text_bytes::put_number(out, a, why.number());
-            text_bytes::put(out, b, 10)
+            page.put_bytes(b"refused ");
+            page.put_number(why.number());
+            page.put(b'\n');
         }
-        Ok(Some(_)) => at,
-        Ok(None) => text_bytes::put_bytes(out, at, b"same\n"),
+        Ok(Some(_)) => {}
+        Ok(None) => page.put_bytes(b"same\n"),
     }
 }

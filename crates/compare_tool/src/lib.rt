@@ -6,6 +6,7 @@ use std::io::{Print, Read};
 use std::rt::Files;
 use std::{fs, io};
 use text_bytes::failing;
+use text_bytes::page::Page;
 
 // The file's bytes, as far as buf goes: a buffer that is longer than a dump tells a longer file.
 fn read_file(rt: &impl Files, name: &str, buf: &mut [u8]) -> io::Result<usize> {
@@ -25,31 +26,15 @@ fn load(rt: &impl Files, errors: &impl Print, name: &str, buf: &mut [u8]) -> Opt
     }
 }
 
-// Writes what stands in out up to at.
-fn flush(rt: &impl Print, at: usize, out: &[u8]) -> io::Result<()> {
-    if at <= out.len() {
-        rt.write_all(&out[..at])?;
-    }
-    Ok(())
-}
-
-fn say_member(
-    rt: &impl Print,
-    first: &[u8],
-    second: &[u8],
-    m: u64,
-    out: &mut [u8],
-) -> io::Result<()> {
-    let at = compare_say::put_member(out, 0, first, second, m);
-    flush(rt, at, out)
-}
-
 // The head, then the lines of each member: together the whole answer (`printed`). Each fits a buffer of 40,960 bytes (`fits`).
 fn say_all(rt: &impl Print, first: &[u8], second: &[u8], out: &mut [u8]) -> io::Result<()> {
-    let at = compare_say::put_head(out, 0, first, second);
-    flush(rt, at, out)?;
+    let mut page = Page::new(out, 0);
+    compare_say::put_head(&mut page, first, second);
+    rt.write_all(page.text())?;
     for m in 0..16 {
-        say_member(rt, first, second, m, out)?;
+        let mut page = Page::new(out, 0);
+        compare_say::put_member(&mut page, first, second, m);
+        rt.write_all(page.text())?;
     }
     Ok(())
 }

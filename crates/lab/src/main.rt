@@ -7,6 +7,7 @@ use crate::obeying::Desk;
 use lab_say_line::Said;
 use std::io;
 use std::io::{Print, Read};
+use text_bytes::page::Page;
 use text_words::fetching::{Cur, Got};
 
 // Where a run stands: the lab, the reading with its buffer and the line so far, and the output, of which the first bytes up to at are not written yet.
@@ -70,18 +71,12 @@ impl Stand {
         let Desk { bench, lab, .. } = &self.desk;
         let (pool, check) = (lab.client.pool, lab.client.check);
         let node = bench.node_in(number_of(said)).node;
-        self.at = lab_say_line::put_line(&mut self.out, self.at, said, pool, check, node);
+        let mut page = Page::new(&mut self.out, self.at);
+        lab_say_line::put_line(&mut page, said, pool, check, node);
         if let Said::Row(w, m) = said {
-            self.at = lab_say_line::put_row(
-                &mut self.out,
-                self.at,
-                w,
-                m,
-                &bench.own,
-                &bench.maps,
-                &bench.stagings,
-            );
+            lab_say_line::put_row(&mut page, w, m, &bench.own, &bench.maps, &bench.stagings);
         }
+        self.at = page.at();
         Ok(())
     }
 

@@ -3,7 +3,7 @@
 #![tactic(auto)]
 
 ghost use Rattle.std.specs.Prelude.{◌≡◌, ◌≤◌, length};
-ghost use Rattle.text_bytes.specs.Ink.{ink, emits_all};
+ghost use Rattle.text_bytes.specs.Ink.{emits_all};
 ghost use Rattle.status_tool.specs.Lines.{refused_line};
 
 use status_row::descriptors::Volume;
@@ -12,6 +12,7 @@ use std::io::{ErrorKind, Print, Read};
 use std::rt::{Env, Files};
 use std::{fs, io, str};
 use text_bytes::failing;
+use text_bytes::page::Page;
 
 // MAP MEMBER CHUNKS CHUNK_SIZE writes descriptors; read CHUNKS CHUNK_SIZE reads them. The program lends the buffers: `map` has a byte more than a map and `bytes` a
 // descriptor more than a volume can have, so that what is too long is refused for it.
@@ -171,20 +172,18 @@ fn give(rt: &impl Print, errors: &impl Print, k: usize, bytes: &[u8]) {
 // Writes a refusal's line, which is never longer than 29 bytes, to standard error.
 fn say_refused(errors: &impl Print, number: u64) {
     let mut line = [0u8; 32];
-    let n = refused_line(number, &mut line);
-    if 32 < n {
-        return;
-    }
-    let _ = errors.write_all(&line[..n]);
+    let mut page = Page::new(&mut line, 0);
+    put_refused(&mut page, number);
+    let _ = errors.write_all(page.text());
 }
 
-// Puts a refusal's line at the start of out, and says how long it is.
-fn refused_line(number: u64, out: &mut [u8]) -> usize
-    ensures { ink out.new result ≡ emits_all (ink out.old 0) (refused_line number) }
+#[tactic(auto, unfolding(crate::specs::Lines::refused_line))]
+fn put_refused(page: &mut Page, number: u64)
+    ensures { page.new ≡ emits_all page.old (refused_line number) }
 {
-    let a = text_bytes::put_bytes(out, 0, b"refused ");
-    let b = text_bytes::put_number(out, a, number);
-    text_bytes::put_bytes(out, b, b"\n")
+    page.put_bytes(b"refused ");
+    page.put_number(number);
+    page.put_bytes(b"\n");
 }
 
 fn say_usage(errors: &impl Print) {

@@ -1,4 +1,4 @@
-// Numbers read from bytes, bytes compared, and bytes and numbers put into a lent buffer.
+// Numbers read from bytes, bytes compared, and bytes and numbers put on a page.
 #![tactic(auto)]
 
 pub mod failing;
@@ -7,8 +7,6 @@ pub mod page;
 ghost use Rattle.std.specs.Prelude.{◌≡◌};
 ghost use Rattle.text_bytes.specs.Numbers.{digit_of, num_of};
 ghost use Rattle.text_bytes.specs.Bytes.{eq_bytes};
-ghost use Rattle.text_bytes.specs.Ink.{ink, emit, emits};
-ghost use Rattle.text_bytes.specs.Ink.{decimal as Ink·decimal};
 
 // acc with one more digit after it.
 #[tactic(auto, unfolding(crate::specs::Numbers::digit_of))]
@@ -40,34 +38,4 @@ pub fn same(s: &[u8], t: &[u8]) -> bool
     ensures { result ≡ eq_bytes s.now t.now }
 {
     s == t
-}
-
-// Puts a byte at the place `at` and gives the next place. Where there is no room, nothing is put.
-#[tactic(auto, unfolding(crate::specs::Ink::emit))]
-pub fn put(out: &mut [u8], at: usize, b: u8) -> usize
-    ensures { ink out.new result ≡ emit (ink out.old at) b }
-{
-    if at < out.len() {
-        out[at] = b;
-        return at + 1;
-    }
-    at
-}
-
-pub fn put_bytes(out: &mut [u8], at: usize, s: &[u8]) -> usize
-    ensures { ink out.new result ≡ emits (ink out.old at) s.now }
-{
-    let mut to = at;
-    for b in s {
-        to = put(out, to, *b);
-    }
-    to
-}
-
-pub fn put_number(out: &mut [u8], at: usize, n: u64) -> usize
-    ensures { ink out.new result ≡ emits (ink out.old at) (Ink·decimal n) }
-{
-    let mut d = [0u8; 20];
-    let k = io::decimal(n, &mut d);
-    put_bytes(out, at, &d[..k])
 }

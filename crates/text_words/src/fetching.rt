@@ -85,8 +85,9 @@ fn scan(pos: usize, end: usize, mut len: usize, buf: &[u8], line: &mut [u8]) -> 
 
 // One byte more. The 256th is kept too: it says that the line is too long.
 fn push(n: usize, b: u8, line: &mut [u8]) -> usize {
-    if n < 256 {
-        return text_bytes::put(line, n, b);
+    if n < 256 && n < line.len() {
+        line[n] = b;
+        return n + 1;
     }
-    256
+    n.min(256)
 }

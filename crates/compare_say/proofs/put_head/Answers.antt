@@ -8,7 +8,7 @@ pub returns-in-Err : goal.returns-in-Err
 unfolding head_text emits
 returns-in-Err c =
     rw (← c.next_difference.ensures, c.in-Err.is)
-    (emits-parts _ _ (rw (c.put.ensures, c.put_number-b.ensures, c.number.ensures, c.put_bytes-a.ensures)))
+    (emits-parts _ _ (rw (c.put.ensures, c.put_number.ensures, c.number.ensures, c.put_bytes.ensures)))
 
 pub returns-in-Ok-Some : goal.returns-in-Ok-Some
 unfolding head_text
@@ -16,4 +16,4 @@ returns-in-Ok-Some c = rw (← c.next_difference.ensures, c.in-Ok-Some.is, c.in-
 
 pub returns-in-Ok-None : goal.returns-in-Ok-None
 unfolding head_text joined
-returns-in-Ok-None c = rw (← c.next_difference.ensures, c.in-Ok-None.is, c.in-Ok-None.field-0-is) c.put_bytes.ensures
+returns-in-Ok-None c = rw (← c.next_difference.ensures, c.in-Ok-None.is, c.in-Ok-None.field-0-is) c.put_bytes-in-Ok-None.ensures

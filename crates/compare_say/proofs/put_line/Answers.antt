@@ -4,4 +4,4 @@ use Rattle.compare_say.proofs.put_line.Goals as goal
 
 pub returns : goal.returns
 unfolding emits
-returns c = emits-parts _ _ (rw (c.put.ensures, c.put_number-f.ensures, c.number.ensures, c.put-e.ensures, c.put_number-c.ensures, c.put-b.ensures, c.put_number-a.ensures))
+returns c = emits-parts _ _ (rw (c.put-3.ensures, c.put_number-3.ensures, c.number.ensures, c.put-2.ensures, c.put_number-2.ensures, c.put.ensures, c.put_number.ensures))

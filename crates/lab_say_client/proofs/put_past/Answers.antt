@@ -6,4 +6,4 @@ use Rattle.lab_say_client.proofs.put_past.Goals as goal
 
 pub returns : goal.returns
 unfolding past_text
-returns c = emits-parts _ _ (emits_then (emits_then refl (ap (paired _) c.one.ensures) c.put_pair.ensures) (ap (paired _) c.one-2.ensures) c.put_pair-2.ensures)
+returns c = emits-parts _ _ (emits_then (emits_then refl (ap (paired _) c.from.ensures) c.put_pair.ensures) (ap (paired _) c.from-2.ensures) c.put_pair-2.ensures)

@@ -6,4 +6,4 @@ use Rattle.lab_say_line.proofs.put_asked.Goals as goal
 
 pub returns : goal.returns
 unfolding asked_text
-returns c = emits-parts _ _ (emits_then (emits_then refl refl c.put_node-to.ensures) (ap (paired _) c.one.ensures) c.put_pair.ensures)
+returns c = emits-parts _ _ (emits_then (emits_then refl refl c.put_node.ensures) (ap (paired _) c.from.ensures) c.put_pair.ensures)

@@ -5,4 +5,4 @@ use Rattle.lab_say_line.proofs.put_next.Goals as goal
 
 pub returns : goal.returns
 unfolding next_text
-returns c = emits-parts _ _ (emits_then (emits_then refl refl c.put_node-to.ensures) refl c.put_found.ensures)
+returns c = emits-parts _ _ (emits_then (emits_then refl refl c.put_node.ensures) refl c.put_found.ensures)

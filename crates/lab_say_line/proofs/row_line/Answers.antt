@@ -9,4 +9,4 @@ pub returns : goal.returns
 returns c = let n = c.args.n in
     let h : n * 8192 + 8192 - n * 8192 ≡ 8192 = omega arith in
     rw (le-ltb _ _ c.if-n-gt15.false, le-ltb _ _ c.if-all-e.false)
-    (c.put.ensures ∙ ap (λ k. emit k 10) (rw h at c.put_row-to.ensures))
+    (c.put.ensures ∙ ap (λ k. emit k 10) (rw h at c.put_row.ensures))

@@ -6,4 +6,4 @@ use Rattle.lab_say.proofs.node_line.put_front.Goals as goal
 
 pub returns : goal.returns
 unfolding front_text
-returns c = emits-parts _ _ (emits_then (emits_then (emits_then (emits_then refl refl c.put_pair.ensures) refl c.put_state.ensures) (ap (paired _) c.one.ensures) c.put_pair-2.ensures) (ap (paired _) c.one-2.ensures) c.put_pair-3.ensures)
+returns c = emits-parts _ _ (emits_then (emits_then (emits_then (emits_then refl refl c.put_pair.ensures) refl c.put_state.ensures) (ap (paired _) c.from.ensures) c.put_pair-2.ensures) (ap (paired _) c.from-2.ensures) c.put_pair-3.ensures)

@@ -12,7 +12,7 @@ pub returns-in-Send : goal.returns-in-Send
 returns-in-Send c = rw c.in-Send.is c.put_numbers-in-Send.ensures
 
 pub returns-in-Done : goal.returns-in-Done
-returns-in-Done c = rw (c.in-Done.is, ← c.one-in-Done.ensures) c.put_numbers-in-Done.ensures
+returns-in-Done c = rw (c.in-Done.is, ← c.from-in-Done.ensures) c.put_numbers-in-Done.ensures
 
 pub returns-in-LastIo : goal.returns-in-LastIo
 returns-in-LastIo c = rw c.in-LastIo.is c.put_numbers-in-LastIo.ensures
