@@ -62,10 +62,10 @@ pub fn pack(n: Node) -> [u64; 32]
     let tr = n.transfer;
     let w = n.kept;
     let s = state_word(st);
-    let t = map_numbers::numbers::one(node_state::states::in_hand(tr));
+    let t = u64::from(node_state::states::in_hand(tr));
     let got = got_word(tr);
-    let store = map_numbers::numbers::one(n.store);
-    let create = map_numbers::numbers::one(n.create);
+    let store = u64::from(n.store);
+    let create = u64::from(n.create);
     [
         n.id, n.chunks, s, store, create, n.members, n.version, n.held, t, got, 0, 0, 0, 0, 0, 0,
         w[0], w[1], w[2], w[3], w[4], w[5], w[6], w[7], w[8], w[9], w[10], w[11], w[12], w[13],

@@ -92,7 +92,7 @@ pub fn form_of(l: Line) -> Form
         a: t0.name,
         b: t1.name,
         c: t2.name,
-        count: map_numbers::numbers::choose(rest, l.count, 9),
+        count: map_numbers::numbers::pick(rest, l.count, 9),
         x1: t1.num,
         x2: t2.num,
         x3: t3.num,

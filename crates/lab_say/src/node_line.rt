@@ -20,10 +20,10 @@ fn put_state(out: &mut [u8], at: usize, s: State) -> usize
 fn transfer_number(t: Option<u64>) -> u64
     ensures { result ≡ transfer_number t }
 {
-    map_numbers::numbers::choose(
+    map_numbers::numbers::pick(
         node_state::states::is_whole(t),
         2,
-        map_numbers::numbers::one(node_state::states::in_hand(t)),
+        u64::from(node_state::states::in_hand(t)),
     )
 }
 
@@ -74,8 +74,8 @@ fn put_front(out: &mut [u8], at: usize, n: Node) -> usize
     let state = n.state;
     let to = crate::say::put_pair(out, at, b"ok node=", n.id);
     let to = put_state(out, to, state);
-    let to = crate::say::put_pair(out, to, b" store=", map_numbers::numbers::one(n.store));
-    crate::say::put_pair(out, to, b" create=", map_numbers::numbers::one(n.create))
+    let to = crate::say::put_pair(out, to, b" store=", u64::from(n.store));
+    crate::say::put_pair(out, to, b" create=", u64::from(n.create))
 }
 
 // The line of an accepted event, without its newline.

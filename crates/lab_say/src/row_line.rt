@@ -26,7 +26,7 @@ fn put_begun(out: &mut [u8], at: usize, begun: bool, a: u64, c: u64) -> usize
     ensures { ink out.new result ≡ emits (ink out.old at) (begun_text begun a c) }
 {
     if begun {
-        return put_range(out, at, a, map_numbers::numbers::minus(c, 1));
+        return put_range(out, at, a, c.saturating_sub(1));
     }
     at
 }
@@ -41,7 +41,7 @@ fn put_ranges(out: &mut [u8], at: usize, map: &[u8], m: u64) -> usize
     while c < 4096 {
         let d = map_chunk::test(map, m, c);
         if d {
-            a = map_numbers::numbers::choose(begun, a, c);
+            a = map_numbers::numbers::pick(begun, a, c);
             begun = true;
             c += 1;
             continue;

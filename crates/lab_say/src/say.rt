@@ -72,7 +72,7 @@ fn put_message(out: &mut [u8], at: usize, m: Message) -> usize
             at,
             b" | MAP_READY",
             to,
-            map_numbers::numbers::one(keep),
+            u64::from(keep),
         ),
         Message::Send(to, receiver) => put2(out, at, b" | MAP_SEND", to, receiver),
         Message::Done(to, enable, version, set) => put4(
@@ -80,7 +80,7 @@ fn put_message(out: &mut [u8], at: usize, m: Message) -> usize
             at,
             b" | MAP_DONE",
             to,
-            map_numbers::numbers::one(enable),
+            u64::from(enable),
             version,
             set,
         ),

@@ -64,7 +64,7 @@ fn put_job(out: &mut [u8], at: usize, j: Job) -> usize
 fn put_written(out: &mut [u8], at: usize, acked: bool, list: u64) -> usize
     ensures { ink out.new result ≡ emits (ink out.old at) (outcome_text (Outcome.Written acked list)) }
 {
-    let to = lab_say::say::put_pair(out, at, b" acked=", map_numbers::numbers::one(acked));
+    let to = lab_say::say::put_pair(out, at, b" acked=", u64::from(acked));
     lab_say::say::put_pair(out, to, b" list=", list)
 }
 
@@ -123,8 +123,8 @@ pub fn put_client(out: &mut [u8], at: usize, p: Pool, sent: Sent) -> usize
 fn put_past(out: &mut [u8], at: usize, past: Past) -> usize
     ensures { ink out.new result ≡ emits (ink out.old at) (past_text past) }
 {
-    let written = map_numbers::numbers::one(past.written);
-    let assembled = map_numbers::numbers::one(past.assembled);
+    let written = u64::from(past.written);
+    let assembled = u64::from(past.assembled);
     let to = lab_say::say::put_pair(out, at, b"look written=", written);
     lab_say::say::put_pair(out, to, b" assembled=", assembled)
 }

@@ -96,7 +96,7 @@ fn put_asked(out: &mut [u8], at: usize, n: Node, empty: bool) -> usize
     ensures { ink out.new result ≡ emits (ink out.old at) (asked_text n empty) }
 {
     let to = lab_say::node_line::put_node(out, at, n);
-    lab_say::say::put_pair(out, to, b" empty=", map_numbers::numbers::one(empty))
+    lab_say::say::put_pair(out, to, b" empty=", u64::from(empty))
 }
 
 fn asked_line(out: &mut [u8], at: usize, n: Node, empty: bool) -> usize

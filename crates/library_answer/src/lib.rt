@@ -14,7 +14,7 @@ fn outcome_words(o: Outcome) -> Tagged
     match o {
         Outcome::Plain => five(0, 0, 0, 0, 0),
         Outcome::Taken(n) => five(1, n, 0, 0, 0),
-        Outcome::Written(acked, list) => five(2, map_numbers::numbers::one(acked), list, 0, 0),
+        Outcome::Written(acked, list) => five(2, u64::from(acked), list, 0, 0),
         Outcome::Picked(id) => five(3, id, 0, 0, 0),
     }
 }
@@ -42,12 +42,12 @@ fn message_words(m: Message) -> Tagged
     match m {
         Message::Nothing => five(0, 0, 0, 0, 0),
         Message::GetVersion(to) => five(1, to, 0, 0, 0),
-        Message::Ready(to, keep) => five(2, to, map_numbers::numbers::one(keep), 0, 0),
+        Message::Ready(to, keep) => five(2, to, u64::from(keep), 0, 0),
         Message::Send(to, receiver) => five(3, to, receiver, 0, 0),
         Message::Done(to, enable, version, members) => five(
             4,
             to,
-            map_numbers::numbers::one(enable),
+            u64::from(enable),
             version,
             members,
         ),

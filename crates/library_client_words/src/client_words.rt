@@ -26,9 +26,9 @@ pub fn pack(c: Client) -> [u64; 32]
     let job = p.job;
     let j = crate::pool_words::job_words(job);
     let w = crate::pool_words::session_words(ss);
-    let sync = map_numbers::numbers::one(ro.sync);
-    let written = map_numbers::numbers::one(past.written);
-    let assembled = map_numbers::numbers::one(past.assembled);
+    let sync = u64::from(ro.sync);
+    let written = u64::from(past.written);
+    let assembled = u64::from(past.assembled);
     let number = event_words::words::wide32(p.number);
     let tick = event_words::words::wide32(k.tick);
     let due = event_words::words::wide16(k.due);

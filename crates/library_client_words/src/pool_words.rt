@@ -34,9 +34,9 @@ fn flags(word: u64, maintenance: bool, mark: bool, disassembled: bool, owed: boo
     ensures { result ≡ word + pick maintenance 8 0 + pick mark 16 0 + pick disassembled 32 0 + pick owed 64 0 }
 {
     let two = word
-        + map_numbers::numbers::when(maintenance, 8)
-        + map_numbers::numbers::when(mark, 16);
-    two + map_numbers::numbers::when(disassembled, 32) + map_numbers::numbers::when(owed, 64)
+        + map_numbers::numbers::pick(maintenance, 8, 0)
+        + map_numbers::numbers::pick(mark, 16, 0);
+    two + map_numbers::numbers::pick(disassembled, 32, 0) + map_numbers::numbers::pick(owed, 64, 0)
 }
 
 fn session_word(s: Session) -> u64
@@ -123,7 +123,7 @@ fn phase_data(p: Phase) -> u64
         Phase::Base(s) => step_word(s),
         Phase::LastIo => 0,
         Phase::Gather(s) => step_word(s),
-        Phase::Enable(all) => map_numbers::numbers::one(all),
+        Phase::Enable(all) => u64::from(all),
         Phase::Spread(s) => step_word(s),
     }
 }

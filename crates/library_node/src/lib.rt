@@ -88,7 +88,7 @@ fn finding_words(f: Finding) -> [u64; 4]
 {
     match f {
         Finding::Refused(n) => [0, n, 0, 0],
-        Finding::Empty(empty) => [1, 0, 1, map_numbers::numbers::one(empty)],
+        Finding::Empty(empty) => [1, 0, 1, u64::from(empty)],
         Finding::Next(found) => found_words(found),
     }
 }

@@ -12,7 +12,7 @@ pub fn get(map: &[u8], i: usize) -> u8
     map.get(i).copied().unwrap_or(0)
 }
 
-// Stores v at i, and nothing past the end. By an index: after `get_mut`, here or in mark and clear, the proof isn't told what the map holds.
+// Stores v at i, and nothing past the end. A test and an index: with get_mut in mark and clear, their proofs did not close.
 fn put(map: &mut [u8], i: usize, v: u8)
     ensures { map.new ≡ set map.old i v }
 {

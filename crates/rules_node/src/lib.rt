@@ -2,6 +2,7 @@
 #![tactic(auto)]
 
 // Empty: the node's own row is, and the node is NORMAL.
+// No Result with an error enum, here and in Next and Answer: the theorems speak of the number in Refused as of any number (theorem_map_check: Verdict; theorem_node: Asked, NeverOne).
 #[derive(Clone, Copy)]
 pub enum Checked {
     Refused(u64),
@@ -26,8 +27,7 @@ pub enum State {
 }
 
 // The node's whole state. create: registered with create mode. transfer: the map transfer in hand, with the bytes of the map that were taken so far, all 8,192
-// when it is whole. The last chunk numbers written stand at the end of kept, in order of arrival; held says
-// how many they are.
+// when it is whole. The last chunk numbers written stand at the end of kept, in order of arrival; held says how many they are: an array and a count, since memory is fixed and the statements name both (theorem_node_exact: kept_chunks).
 #[derive(Clone, Copy)]
 pub struct Node {
     pub id: u64,

@@ -6,7 +6,8 @@ use rules_base::Op;
 
 // What a set of ids is made of. Present: has a session. Maintained: flagged. Owed: REMOVING, and LEAVE_POOL is owed. Told: POOL_INFO goes there; Later: and the id is above the given one. Strays: of the set, no
 // candidate. Reached, Unreached: NORMAL, in the set or not. Abnormal: of the set, not NORMAL. Listed: on the mark list of a write. Odd: the record alone
-// breaks a state rule. Link, Io: FAILED with this cause. Unused: neither a member nor held by a session.
+// breaks a state rule. Link, Io: FAILED with this cause. Unused: neither a member nor held by a session. Kinds and no closures: the statements name them
+// (theorem_bounds: most).
 #[derive(Clone, Copy)]
 pub enum Kind {
     Present,
@@ -133,7 +134,7 @@ pub struct Run {
     pub taken: u64,
 }
 
-// What a removal awaits: LEAVE_POOL of its own session, or POOL_INFO of a peer.
+// What a removal awaits: LEAVE_POOL of its own session, or POOL_INFO of a peer. No Option: each is something that is awaited.
 #[derive(Clone, Copy)]
 pub enum Stage {
     Leave,
@@ -210,13 +211,14 @@ pub struct Sent {
     pub number: u32,
 }
 
+// No Result with an error enum: the theorems speak of the number in Refused as of any number (theorem_client: Verdict, NeverOne; theorem_client_exact: NumberGiven).
 #[derive(Clone, Copy)]
 pub enum Answer {
     Refused(u64),
     Done(Sent),
 }
 
-// An awaited answer. Good: with the version that it brings, if it brings one.
+// An awaited answer. Good: with the version that it brings, if it brings one. No Result: a failed answer is what a node says, and no error of the client's.
 #[derive(Clone, Copy)]
 pub enum Reply {
     Failed,

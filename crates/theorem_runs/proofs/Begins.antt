@@ -58,7 +58,7 @@ use Rattle.theorem_client.proofs.Tries.{started-calm, answered-calm}
 use Rattle.laws_client.proofs.Ids.{Long, ids-lt}
 use Rattle.laws_client.proofs.Rosters.{Ok}
 use Rattle.laws_client.proofs.Runs.{strays-none, none-stray}
-use Rattle.theorem_runs.specs.Words.{Iff, Normal, Candidate, Marked, Member, version_of, None, Lowest, But, Left, says, Awaits}
+use Rattle.theorem_runs.specs.Words.{Iff, Normal, Candidate, Marked, Member, version_of, Nobody, Lowest, But, Left, says, Awaits}
 use Rattle.theorem_runs.specs.Begins.{Case1, Case2, Case3, MayRun, Runs, Tried, Tries, BeginsWhen, GoesOn, BeginsOnly, TryDoes}
 use Rattle.theorem_runs.proofs.Words.{In, lowest-is, lowest-as, some_in, none_in, zero-none, some-lowest, but_in, normals, candidates, candidate-is, marked, order-valid, done-is, sent_is}
 
@@ -90,10 +90,10 @@ module _ (c : Pool) (ok : Ok c.roster) where
   low-is : version_of c ≤ 2 ^ 63 - 34 → ltb version_limit (version_of c) ≡ false
   low-is h = le-ltb version_limit (version_of c) h
 
-  no-normal : None (Normal c) → eqb (ids_of Kind.Normals c.roster) 0 ≡ true
+  no-normal : Nobody (Normal c) → eqb (ids_of Kind.Normals c.roster) 0 ≡ true
   no-normal n = none_in _ (ids-lt Kind.Normals c.roster l) (λ id h. n id ((normals c l id).0 h))
 
-  no-mark : None (Marked c) → eqb (ids_of Kind.Marked c.roster) 0 ≡ true
+  no-mark : Nobody (Marked c) → eqb (ids_of Kind.Marked c.roster) 0 ≡ true
   no-mark n = none_in _ (ids-lt Kind.Marked c.roster l) (λ id h. n id ((marked c l id).0 h))
 
   -- there is one mark at most
@@ -113,13 +113,13 @@ module _ (c : Pool) (ok : Ok c.roster) where
   is_one low n some x exists =
       rw (low-is low, (some_in _ n ((normals c l n).1 some)).0, (some_in _ x ((candidates c l x).1 exists)).0) refl
 
-  is-two : version_of c ≤ 2 ^ 63 - 34 → None (Normal c) → (source : ℕ) → Marked c source → Candidate c source → begun c.roster ≡ Some (second c.roster)
+  is-two : version_of c ≤ 2 ^ 63 - 34 → Nobody (Normal c) → (source : ℕ) → Marked c source → Candidate c source → begun c.roster ≡ Some (second c.roster)
   unfolding begun case_of
   is-two low n source m k =
       let q : has (ids_of Kind.Candidates c.roster) (lowest (ids_of Kind.Marked c.roster)) ≡ true = rw (the-mark source m) ((candidates c l source).1 k) in
       rw (low-is low, no-normal n, (some_in _ source ((marked c l source).1 m)).0, q) refl
 
-  is-three : version_of c ≤ 2 ^ 63 - 34 → None (Normal c) → None (Marked c) → (m : ℕ) → Member c m → ((id : ℕ) → Member c id → Candidate c id)
+  is-three : version_of c ≤ 2 ^ 63 - 34 → Nobody (Normal c) → Nobody (Marked c) → (m : ℕ) → Member c m → ((id : ℕ) → Member c id → Candidate c id)
       → begun c.roster ≡ Some (third c.roster)
   unfolding begun case_of
   is-three low n u m some every =
@@ -270,12 +270,12 @@ module _ (p q : Pool) (outcome : Outcome) (told : Told) (ok : Ok q.roster) (idle
           none = λ n. absurd (n (may c' ok r e));
         }
       where
-        second-candidate : (source : ℕ) → None (Normal c') → Marked c' source → Case1 c' ⊎ Case2 c' ⊎ Case3 c' → Candidate c' source
+        second-candidate : (source : ℕ) → Nobody (Normal c') → Marked c' source → Case1 c' ⊎ Case2 c' ⊎ Case3 c' → Candidate c' source
         second-candidate source n m (inl k) = absurd (n k.normal k.some)
         second-candidate source n m (inr (inl k)) = subst (Candidate c') (sym (the-mark c' ok k.last k.marked) ∙ the-mark c' ok source m) k.candidate
         second-candidate source n m (inr (inr k)) = absurd (k.unmarked source m)
 
-        all-candidates : None (Normal c') → None (Marked c') → Case1 c' ⊎ Case2 c' ⊎ Case3 c' → (id : ℕ) → Member c' id → Candidate c' id
+        all-candidates : Nobody (Normal c') → Nobody (Marked c') → Case1 c' ⊎ Case2 c' ⊎ Case3 c' → (id : ℕ) → Member c' id → Candidate c' id
         all-candidates n m (inl k) id h = absurd (n k.normal k.some)
         all-candidates n m (inr (inl k)) id h = absurd (m k.last k.marked)
         all-candidates n m (inr (inr k)) id h = k.every id h

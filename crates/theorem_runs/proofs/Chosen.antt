@@ -19,7 +19,7 @@ use Rattle.rules_pool.specs.declared.Kind.{Kind}
 use Rattle.rules_pool.specs.Sessions.{ids_of}
 use Rattle.rules_pool.specs.Jobs.{is_running}
 use Rattle.rules_client.specs.Events.{Event, next}
-use Rattle.theorem_runs.specs.Words.{Iff, InOrder, Normal, Candidate, Member, version_of, None, Lowest, But, Left, Awaits}
+use Rattle.theorem_runs.specs.Words.{Iff, InOrder, Normal, Candidate, Member, version_of, Nobody, Lowest, But, Left, Awaits}
 use Rattle.theorem_runs.specs.Begins.{MayRun, Tried}
 use Rattle.theorem_runs.specs.Answers.{Whose, ToBase, ToVersions, Brings, Good}
 use Rattle.theorem_runs.specs.Chosen.{Asked, Highest, HighestChosen}
@@ -126,7 +126,7 @@ run_is : (c : Pool) (a b : Run) → c.job ≡ Job.Running a → c.job ≡ Job.Ru
 run_is c a b p q = let z : Job.Running a ≡ Job.Running b = sym p ∙ q in cc z
 
 -- somebody of a set, or nobody
-some_or_none : (s : ℕ) (who : ℕ → Type 0) → ((id : ℕ) → Iff (In s id) (who id)) → (Lowest who (lowest s)) ⊎ (None who)
+some_or_none : (s : ℕ) (who : ℕ → Type 0) → ((id : ℕ) → Iff (In s id) (who id)) → (Lowest who (lowest s)) ⊎ (Nobody who)
 some_or_none s who f = elim (dec_lt (lowest s) 16) [
   | yes l ↦ inl (lowest-as (In s) who (lowest s) f (lowest-of s l))
   | no g ↦ inr (λ id h. clash ((f id).1 h) (lowest-nobody s (omega (arith, g, lowest-le s)) id))
@@ -142,7 +142,7 @@ record NextPhase (c' : Pool) (source : ℕ) : Type 0 where
 next-phase : (c c' : Pool) (s : Sent) (r : Run) (source : ℕ) → Member c source → ToBase c c' s r source (But (Member c) source) → NextPhase c' source
 next-phase c c' s r source m t = at (some_or_none (without c.roster.members source) (But (Member c) source) (but_in c.roster.members source (Member c) (λ j. ((λ h. h), λ h. h))))
   where
-    at : (Lowest (But (Member c) source) (lowest (without c.roster.members source))) ⊎ (None (But (Member c) source)) → NextPhase c' source
+    at : (Lowest (But (Member c) source) (lowest (without c.roster.members source))) ⊎ (Nobody (But (Member c) source)) → NextPhase c' source
     at (inl l) = let a = (t.0 _ l).awaits in record { run = a.run; job = a.job; chosen = a.source; phase = ap is_versions a.phase }
     at (inr n) =
         let a = ((t.1 n).0 (lowest c.roster.members) (lowest-of c.roster.members (some_in c.roster.members source m).1)).awaits in
@@ -177,7 +177,7 @@ poll-as version c c' left left' source source' best best' m f e z p =
     from j h = ap (λ (k : ℕ). has k j) (sym m) ∙ h
 
 -- everybody has answered
-all_asked : (version : ℕ → ℕ) (c c' : Pool) (left : ℕ → Type 0) (source best : ℕ) → c'.roster.members ≡ c.roster.members → None left → Poll version c left source best → Highest version c' source
+all_asked : (version : ℕ → ℕ) (c c' : Pool) (left : ℕ → Type 0) (source best : ℕ) → c'.roster.members ≡ c.roster.members → Nobody left → Poll version c left source best → Highest version c' source
 all_asked version c c' left source best m n p =
     record {
       member = ap (λ (k : ℕ). has k source) m ∙ p.member;
@@ -196,7 +196,7 @@ went_on : (version : ℕ → ℕ) (c c' : Pool) (s : Sent) (r : Run) (x source b
     → ToVersions best c c' s r source (But (Left r) x) → Known version c'
 went_on version c c' s r x source best o m p t = at (some_or_none (without r.left x) (But (Left r) x) (but_in r.left x (Left r) (λ j. ((λ h. h), λ h. h))))
   where
-    at : (Lowest (But (Left r) x) (lowest (without r.left x))) ⊎ (None (But (Left r) x)) → Known version c'
+    at : (Lowest (But (Left r) x) (lowest (without r.left x))) ⊎ (Nobody (But (Left r) x)) → Known version c'
     at (inl l) =
         let a = (t.0 _ l).awaits in
         record {

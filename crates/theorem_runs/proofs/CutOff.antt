@@ -31,7 +31,7 @@ use Rattle.laws_client.proofs.Runs.{RunOk}
 use Rattle.laws_client.proofs.RunBound.{FitAt}
 use Rattle.laws_client.proofs.LinksKept.{dropped-at, dropped-other, normal-dropped, other-dropped, down-roster}
 use Rattle.theorem_client.proofs.States.{normal-is}
-use Rattle.theorem_runs.specs.Words.{InOrder, Hands, Normal, version_of, None}
+use Rattle.theorem_runs.specs.Words.{InOrder, Hands, Normal, version_of, Nobody}
 use Rattle.theorem_runs.specs.Answers.{Receiver, Cut, CutOff}
 use Rattle.theorem_runs.proofs.Words.{lowest-is, lowest-of, order-valid, NoneOf, done-is, hands_of}
 use Rattle.theorem_runs.proofs.Answers.{run_in, fit-in}
@@ -41,7 +41,7 @@ use Rattle.theorem_runs.proofs.Answers.{run_in, fit-in}
 record Told' (p : Phase) (r : Run) (id : ℕ) (t : Told) : Type 0 where
   disables : (y : ℕ) → Receiver p r y → y ≢ id → t ≡ Told.Disable y
   spared : Receiver p r id → t ≡ Told.Nothing
-  nobody : None (Receiver p r) → t ≡ Told.Nothing
+  nobody : Nobody (Receiver p r) → t ≡ Told.Nothing
 
 to-other : (x y id : ℕ) → x ≡ y → y ≢ id → pick (eqb x id) Told.Nothing (Told.Disable x) ≡ Told.Disable y
 to-other x y id e d = rw (e, ne_eqb y id d) refl

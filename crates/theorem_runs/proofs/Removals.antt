@@ -52,7 +52,7 @@ use Rattle.laws_client.proofs.Changes.{moved_plain, removing-at}
 use Rattle.laws_client.proofs.Links.{counted}
 use Rattle.laws_client.proofs.RemovalSteps.{Removable, removing-other, removing-numbers, removing-long, paid-at, paid_other, paid-long}
 use Rattle.theorem_client.proofs.States.{and-true, free-is, normal-is}
-use Rattle.theorem_runs.specs.Words.{Iff, InOrder, Normal, Member, version_of, None, Lowest, But, InTurn}
+use Rattle.theorem_runs.specs.Words.{Iff, InOrder, Normal, Member, version_of, Nobody, Lowest, But, InTurn}
 use Rattle.theorem_runs.specs.Removals.{removing, NotOwed, op, Hears, Due, Asks, Tells, Frees, Onward, KeptIn, Departs, Alone, Removes, RemoveDoes, OtherMode, RemoveWhen, RemovalStep, RemovalAnswered}
 use Rattle.theorem_runs.proofs.Words.{In, lowest-is, lowest-as, some_in, none_in, kind-iff, but_in, order-valid, done-is, sent_is}
 
@@ -156,7 +156,7 @@ onward-turn c p id st ef n who f A B a b = at (is_sync p) refl
             let s = (some_in _ y k.0).1 in
             rw (lt-ltb _ 16 s) (subst (λ (i : ℕ). A y (tells p id ef i)) (sym z) (a y))
 
-        that : None who → B (step p id ef (lowest (tellable st p.roster)))
+        that : Nobody who → B (step p id ef (lowest (tellable st p.roster)))
         that z = elim (dec_lt (lowest (tellable st p.roster)) 16) [
           | yes l ↦ absurd (z _ ((iff _).1 (lowest-in _ l)))
           | no g ↦ rw (le-ltb (lowest (tellable st p.roster)) 16 (omega (arith, g))) b

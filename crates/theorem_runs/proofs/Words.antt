@@ -37,7 +37,7 @@ use Rattle.laws_client.proofs.Pools.{Valid, valid-facts, valid-of}
 use Rattle.theorem_client.proofs.Keeps.{fresh-valid}
 use Rattle.theorem_client.proofs.Law.{law}
 use Rattle.theorem_client.proofs.States.{normal-is, reconnecting-is}
-use Rattle.theorem_runs.specs.Words.{Iff, InOrder, OrderKept, Hands, Normal, Candidate, Marked, None, Lowest, But, InTurn}
+use Rattle.theorem_runs.specs.Words.{Iff, InOrder, OrderKept, Hands, Normal, Candidate, Marked, Nobody, Lowest, But, InTurn}
 
 -- ---- the lowest of a set
 
@@ -65,7 +65,7 @@ some_in s x h = (
   elim (dec_lt (lowest s) 16) [ yes l ↦ l | no g ↦ clash h (lowest-nobody s (omega (arith, g, lowest-le s)) x) ],
 )
 
-pub none_in : (s : ℕ) → s < 65536 → None (In s) → eqb s 0 ≡ true
+pub none_in : (s : ℕ) → s < 65536 → Nobody (In s) → eqb s 0 ≡ true
 none_in s small f =
     by_cases (eqb s 0) (λ e. e)
     (λ e. elim (dec_lt (lowest s) 16) [
@@ -73,7 +73,7 @@ none_in s small f =
       | no g ↦ absurd (eqb-false s 0 e (empty-set s small (omega (arith, g, lowest-le s))))
     ])
 
-pub zero-none : (s : ℕ) → eqb s 0 ≡ true → None (In s)
+pub zero-none : (s : ℕ) → eqb s 0 ≡ true → Nobody (In s)
 zero-none s e id h = clash h (ap (λ (n : ℕ). has n id) (eqb-true s 0 e) ∙ has-none id)
 
 pub some-lowest : (s : ℕ) → s < 65536 → eqb s 0 ≡ false → lowest s < 16

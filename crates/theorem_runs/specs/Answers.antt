@@ -12,7 +12,7 @@ use Rattle.rules_pool.specs.declared.Outcome.{Outcome}
 use Rattle.rules_pool.specs.declared.Reply.{Reply}
 use Rattle.rules_pool.specs.declared.Sent.{Sent}
 use Rattle.rules_client.specs.Events.{Event, next, Lent, map_left, record_of, state_of, is_sync}
-use Rattle.theorem_runs.specs.Words.{InOrder, Hands, Normal, Marked, Member, version_of, None, Lowest, But, InTurn, Left, Awaits, Quiet}
+use Rattle.theorem_runs.specs.Words.{InOrder, Hands, Normal, Marked, Member, version_of, Nobody, Lowest, But, InTurn, Left, Awaits, Quiet}
 
 -- ---- words. An event leads from c to c' and hands s back; r is the run that was in hand, x the one whose turn it was.
 
@@ -44,7 +44,7 @@ pub record Enters (c c' : Pool) (x : ℕ) : Type 0 where
   pub own : Normal c' x
   pub states : (id : ℕ) → id ≢ x → state_of c' id ≡ state_of c id
   pub flags : (id : ℕ) → id ≢ x → (record_of c' id).maintenance ≡ (record_of c id).maintenance
-  pub unmarked : None (Marked c')
+  pub unmarked : Nobody (Marked c')
   pub count : c'.roster.count ≡ c.roster.count + 1
 
 -- the run goes on, with one more answer taken and the same version
@@ -85,7 +85,7 @@ ToVersions best c c' s r source who = InTurn who (λ y. Goes c c' s r (Phase.Ver
 -- MAP_DISABLE to the receiver in hand, if one was
 pub record Disables (p : Phase) (r : Run) (s : Sent) : Type 0 where
   pub to : (y : ℕ) → Receiver p r y → s.told ≡ Told.Disable y
-  pub nobody : None (Receiver p r) → s.told ≡ Told.Nothing
+  pub nobody : Nobody (Receiver p r) → s.told ≡ Told.Nothing
 
 -- "Failed answer in an enabling spread: MAP_DISABLE to the receiver, not awaited; it is passed over. Anywhere else the run ends, with that MAP_DISABLE if a receiver was in hand."
 abbrev pub GoesOrEnds : Phase → Pool → Pool → Sent → Run → ℕ → Type 0
@@ -174,7 +174,7 @@ pub record Cut (c c' : Pool) (s : Sent) (r : Run) (id : ℕ) : Type 0 where
   pub count : s.outcome ≡ Outcome.Taken r.taken
   pub disables : (y : ℕ) → Receiver r.phase r y → y ≢ id → s.told ≡ Told.Disable y
   pub spared : Receiver r.phase r id → s.told ≡ Told.Nothing
-  pub nobody : None (Receiver r.phase r) → s.told ≡ Told.Nothing
+  pub nobody : Nobody (Receiver r.phase r) → s.told ≡ Told.Nothing
   pub own : state_of c' id ≡ State.Failed Cause.Link
   pub others : (j : ℕ) → j ≢ id → record_of c' j ≡ record_of c j
   pub once : (Normal c id → ⊥) → version_of c' ≡ version_of c + 1

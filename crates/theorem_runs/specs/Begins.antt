@@ -11,7 +11,7 @@ use Rattle.rules_pool.specs.declared.Told.{Told}
 use Rattle.rules_pool.specs.declared.Outcome.{Outcome}
 use Rattle.rules_pool.specs.declared.Sent.{Sent}
 use Rattle.rules_client.specs.Events.{Event, next, state_of, is_sync}
-use Rattle.theorem_runs.specs.Words.{Iff, InOrder, Hands, Normal, Candidate, Marked, Member, version_of, None, Lowest, But, Awaits, Quiet}
+use Rattle.theorem_runs.specs.Words.{Iff, InOrder, Hands, Normal, Candidate, Marked, Member, version_of, Nobody, Lowest, But, Awaits, Quiet}
 
 -- ---- the three cases
 
@@ -24,15 +24,15 @@ pub record Case1 (c : Pool) : Type 0 where
 
 -- "2. none NORMAL, and the last authoritative session is a candidate."
 pub record Case2 (c : Pool) : Type 0 where
-  pub none : None (Normal c)
+  pub none : Nobody (Normal c)
   pub last : ℕ
   pub marked : Marked c last
   pub candidate : Candidate c last
 
 -- "3. none NORMAL, none marked, membership not empty, every member's session a candidate."
 pub record Case3 (c : Pool) : Type 0 where
-  pub none : None (Normal c)
-  pub unmarked : None (Marked c)
+  pub none : Nobody (Normal c)
+  pub unmarked : Nobody (Marked c)
   pub member : ℕ
   pub nonempty : Member c member
   pub every : (id : ℕ) → Member c id → Candidate c id
@@ -52,9 +52,9 @@ pub record Tried (c c' : Pool) (s : Sent) : Type 0 where
   -- "1. .. Source: lowest NORMAL id; receivers: the candidates"; "Case 1: spread with enable to each", "receivers ascending"
   pub one : (source x : ℕ) → MayRun c' → Lowest (Normal c') source → Lowest (Candidate c') x → Awaits c c' s (Phase.Spread Step.Ready) source (Candidate c') 0 x
   -- "2. .. It is the source; the other candidates receive"; "Case 2: ENABLE_POOL to the source first"
-  pub two : (source : ℕ) → MayRun c' → None (Normal c') → Marked c' source → Awaits c c' s (Phase.Enable false) source (But (Candidate c') source) 0 source
+  pub two : (source : ℕ) → MayRun c' → Nobody (Normal c') → Marked c' source → Awaits c c' s (Phase.Enable false) source (But (Candidate c') source) 0 source
   -- "Case 3 (000): MAP_GET_VER to all": the lowest member first, and until a higher version comes the lowest is the chosen
-  pub three : (x : ℕ) → MayRun c' → None (Normal c') → None (Marked c') → Lowest (Member c') x → Awaits c c' s (Phase.Versions 0) x (Member c') 0 x
+  pub three : (x : ℕ) → MayRun c' → Nobody (Normal c') → Nobody (Marked c') → Lowest (Member c') x → Awaits c c' s (Phase.Versions 0) x (Member c') 0 x
   -- "the event stands if none begins"
   pub none : (MayRun c' → ⊥) → Quiet c c' s
 

@@ -19,7 +19,7 @@ use Rattle.rules_pool.specs.declared.Sent.{Sent}
 use Rattle.rules_pool.specs.declared.Answer.{Answer}
 use Rattle.rules_pool.specs.Breaking.{is_accepted}
 use Rattle.rules_client.specs.Events.{Event, turn_of, next, Lent, map_left, record_of, state_of, is_sync}
-use Rattle.theorem_runs.specs.Words.{Iff, InOrder, Hands, Normal, Member, version_of, None, But, InTurn, Quiet}
+use Rattle.theorem_runs.specs.Words.{Iff, InOrder, Hands, Normal, Member, version_of, Nobody, But, InTurn, Quiet}
 
 -- ---- words. An event leads from c to c' and hands s back; xs is the client map before it, `left` what it leaves of it; id is the session that is removed.
 
@@ -77,7 +77,7 @@ Onward c c' s left id mode who xs ys = InTurn who (λ y. Tells c c' s left id mo
 pub record TakenOut (c c' : Pool) (id : ℕ) (xs ys : List ℕ) : Type 0 where
   pub members : (j : ℕ) → Iff (Member c' j) (But (Member c) id j)
   pub row : ys ≡ zero_row id xs
-  pub last : None (Member c') → (c'.roster.past.written ≡ false) × (c'.roster.past.assembled ≡ false)
+  pub last : Nobody (Member c') → (c'.roster.past.written ≡ false) × (c'.roster.past.assembled ≡ false)
   pub others : (j : ℕ) → Member c' j → c'.roster.past ≡ c.roster.past
 
 pub record KeptIn (c c' : Pool) (xs ys : List ℕ) : Type 0 where

@@ -53,8 +53,8 @@ version_of c = c.roster.version
 
 -- ---- one after the other, ascending
 
-abbrev pub None : (ℕ → Type 0) → Type 0
-None who = (id : ℕ) → who id → ⊥
+abbrev pub Nobody : (ℕ → Type 0) → Type 0
+Nobody who = (id : ℕ) → who id → ⊥
 
 -- x is the lowest of them
 abbrev pub Lowest : (ℕ → Type 0) → ℕ → Type 0
@@ -66,7 +66,7 @@ But who x id = who id × (id ≢ x)
 
 -- The next in turn is the lowest of them, and this is said of it; where there is none, that.
 abbrev pub InTurn : (ℕ → Type 0) → (ℕ → Type 0) → Type 0 → Type 0
-InTurn who this that = ((y : ℕ) → Lowest who y → this y) × (None who → that)
+InTurn who this that = ((y : ℕ) → Lowest who y → this y) × (Nobody who → that)
 
 -- ---- the run in hand
 
