@@ -81,7 +81,9 @@ fn head_of(a: Token, b: Token, c: Token) -> Head
     match (a, b, c) {
         (Token::Word(name), Token::Number(_), Token::Number(_)) => Head::Plain(name),
         (Token::Word(name), Token::Word(other), Token::Number(_)) => Head::Pair(name, other),
-        (Token::Word(Name::Node), Token::Number(n), Token::Word(name)) if n < 16 => Head::Node(name),
+        (Token::Word(Name::Node), Token::Number(n), Token::Word(name)) if n < 16 => Head::Node(
+            name,
+        ),
         _ => Head::Other,
     }
 }
