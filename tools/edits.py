@@ -3,8 +3,8 @@
   python3 -m tools.edits check             every edit keeps the rule; else which does not, and a failing exit
   python3 -m tools.edits list [CRATE..]    every edit with what it is, the function that it is in, and that function's contract
 
-An edit of a definition or of a statement (specs/, proofs/) always may stand. Of code at most two may stand in a crate, of two functions, and none where the
-crate's check takes over 20 seconds (docs/CHECK-TIMES.md); where the contract of its function is no equation, so that more than the equation is to be tried, an edit may stand besides.
+An edit of a definition or of a statement (specs/, proofs/) always may stand. Of code at most three may stand in a crate, of as many functions, and none where the
+crate's check takes over a minute (docs/CHECK-TIMES.md); where the contract of its function is no equation, so that more than the equation is to be tried, an edit may stand besides.
 """
 import glob
 import os
@@ -13,8 +13,8 @@ import sys
 
 from tools.check_times import seconds
 
-MOST_SECONDS = 20
-MOST_OF_CODE = 2
+MOST_SECONDS = 60
+MOST_OF_CODE = 3
 HEADER = re.compile(r"^[ \t]*(?:pub )?(?:extern \"C\" )?fn (\w+)", re.M)
 ENSURES = re.compile(r"\bensures(?: \w+)? \{")
 EQUATION = re.compile(r"(?:result(?:\.now)?|\w+\.new) ≡ |number_of \w+ ≡ |ink \w+\.new |whole |outcome |\(result ≡ .* × \(\w+\.new ≡ ")
@@ -78,7 +78,7 @@ def check():
         of_code = [e for e in found if e.crate == crate and e.of_code and not e.beyond]
         plain = [e.name for e in of_code]
         if len(plain) > min(MOST_OF_CODE, len({e.function for e in of_code})):
-            wrong.append(f"{crate}: {len(plain)} edits of code ({', '.join(plain)}), {MOST_OF_CODE} of two functions may stand")
+            wrong.append(f"{crate}: {len(plain)} edits of code ({', '.join(plain)}), {MOST_OF_CODE} of as many functions may stand")
         if plain and times.get(crate, 0) > MOST_SECONDS:
             wrong.append(f"{crate}: its check takes {times[crate]} s, so its edit of code ({', '.join(plain)}) belongs into a crate below it")
     for line in wrong:

@@ -55,9 +55,12 @@ def closing(text):
     raise Wrong("a parenthesis is not closed: %s" % text)
 
 
+LETTERS = ["tag", "a", "b", "c", "d"]
+
+
 def items(text):
-    """The items of a list."""
-    return [plain(item) for item in text.split("∷")]
+    """The items of a list; the kth word of another list is called by its letter."""
+    return [re.sub(r"^get_or (\(.*\)|\w+) (\d) 0$", lambda m: m.group(1) + "." + LETTERS[int(m.group(2))], plain(item)) for item in text.split("∷")]
 
 
 def only(crate, file, name):
@@ -81,9 +84,9 @@ def tagged(crate, file, name):
     """Words by cases: {constructor: (tag, {letter: what})}, the letters whose word is not 0."""
     found = {}
     for left, right in clauses(crate, file, name):
-        fields = dict(re.findall(r"(\w+) = ([^;}]+?)\s*[;}]", right))
+        fields = dict(zip(LETTERS, items(right)[:-1]))
         constructor = re.search(r"\.(\w+)", left).group(1)
-        found[constructor] = (int(fields["tag"]), {k: plain(fields[k]) for k in "abcd" if fields[k] != "0"})
+        found[constructor] = (int(fields["tag"]), {k: fields[k] for k in LETTERS[1:] if fields.get(k, "0") != "0"})
     return found
 
 
@@ -232,10 +235,10 @@ def job_rows():
     tags, data = cases("library_client_words", "PoolWords", "phase_tag"), cases("library_client_words", "PoolWords", "phase_data")
     stages = tagged("library_client_words", "PoolWords", "stage_words")
     idle = dict(clauses("library_client_words", "PoolWords", "job_words"))["Job.Idle"]
-    run = dict(re.findall(r"(\w+) = ([^;}]+?)\s*[;}]", only("library_client_words", "PoolWords", "run_words")))
+    run = dict(zip(LETTERS, items(only("library_client_words", "PoolWords", "run_words"))))
     if (run["tag"], run["a"]) != ("phase_tag r.phase", "phase_data r.phase"):
         raise Wrong("the words of a run")
-    rows = [("MZK_JOB_NONE", int(re.search(r"tag = (\d+)", idle).group(1)), "")] + [("MZK_JOB_" + name, int(number), "") for name, number in named(PHASES, tags, "phase_tag")]
+    rows = [("MZK_JOB_NONE", int(items(idle)[0]), "")] + [("MZK_JOB_" + name, int(number), "") for name, number in named(PHASES, tags, "phase_tag")]
     rows += [("MZK_JOB_" + name, tag, "") for name, (tag, _) in named(STAGES, stages, "stage_words")]
     said = {"JOB_DATA": {}}
     for name, text in named(PHASES, data, "phase_data"):
