@@ -3,7 +3,7 @@
   python3 -m tools.edits check             every edit keeps the rule; else which does not, and a failing exit
   python3 -m tools.edits list [CRATE..]    every edit with what it is, the function that it is in, and that function's contract
 
-An edit of a definition or of a statement (specs/, proofs/) always may stand. Of code at most three may stand in a crate, of as many functions, and none where the
+An edit of a definition or of a statement (specs/, proofs/) always may stand. Of code at most three may stand in a crate, and none where the
 crate's check takes over a minute (docs/CHECK-TIMES.md); where the contract of its function is no equation, so that more than the equation is to be tried, an edit may stand besides.
 """
 import glob
@@ -75,10 +75,9 @@ def edits(crates=None):
 def check():
     times, found, wrong = seconds(), edits(), []
     for crate in sorted({e.crate for e in found}):
-        of_code = [e for e in found if e.crate == crate and e.of_code and not e.beyond]
-        plain = [e.name for e in of_code]
-        if len(plain) > min(MOST_OF_CODE, len({e.function for e in of_code})):
-            wrong.append(f"{crate}: {len(plain)} edits of code ({', '.join(plain)}), {MOST_OF_CODE} of as many functions may stand")
+        plain = [e.name for e in found if e.crate == crate and e.of_code and not e.beyond]
+        if len(plain) > MOST_OF_CODE:
+            wrong.append(f"{crate}: {len(plain)} edits of code ({', '.join(plain)}), {MOST_OF_CODE} may stand")
         if plain and times.get(crate, 0) > MOST_SECONDS:
             wrong.append(f"{crate}: its check takes {times[crate]} s, so its edit of code ({', '.join(plain)}) belongs into a crate below it")
     for line in wrong:
