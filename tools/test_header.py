@@ -15,9 +15,9 @@ def same(got, wanted, what):
 
 # Definitions otherwise than they are: the crate's file, what stands there, what would.
 OTHERWISE = [
-    ("library_answer/specs/Words.antt", "tag = 3; a = id; b = 0", "tag = 3; a = 0; b = id"),
-    ("library_answer/specs/Words.antt", "o.a ∷ o.b", "o.b ∷ o.a"),
-    ("library_answer/specs/Words.antt", "tag = 7; a = set; b = tick", "tag = 8; a = set; b = tick"),
+    ("library_answer/specs/Words.antt", "3 ∷ id ∷ 0", "3 ∷ 0 ∷ id"),
+    ("library_answer/specs/Words.antt", "get_or o 1 0 ∷ get_or o 2 0", "get_or o 2 0 ∷ get_or o 1 0"),
+    ("library_answer/specs/Words.antt", "7 ∷ set ∷ tick", "8 ∷ set ∷ tick"),
     ("library_client/specs/Library.antt", "(eqb k 16) (Event.Synced a b 0)", "(eqb k 16) (Event.Synced b a 0)"),
     ("library_client/src/lib.rt", "map: &mut [u8],\n    other: &[u8],", "other: &[u8],\n    map: &mut [u8],"),
     ("library_client_words/specs/ClientWords.antt", "∷ c.check.due\n    ∷ c.check.once", "∷ c.check.once\n    ∷ c.check.due"),
@@ -25,7 +25,7 @@ OTHERWISE = [
     ("library_client_words/specs/PoolWords.antt", "phase_tag (Phase.Gather s) = 4", "phase_tag (Phase.Gather s) = 5"),
     ("library_node/specs/Library.antt", "eqb k 14 || eqb k 17", "eqb k 14"),
     ("event_words/specs/NodeWords.antt", "state_word State.NoIo = 4", "state_word State.NoIo = 5"),
-    ("event_words/specs/Same.antt", "pick event 0 2", "pick event 0 3"),
+    ("event_words/specs/Calls.antt", "pick event 0 2", "pick event 0 3"),
     ("event/specs/OfClient.antt", "lent_of value.Event.Extend own other = pool.Lent.some own", "lent_of value.Event.Extend own other = pool.Lent.none"),
     ("rules_base/specs/Refusals.antt", "1 ∷ 2 ∷ 18", "1 ∷ 18 ∷ 2"),
     ("rules_base/specs/Limits.antt", "map_bytes = 8192", "map_bytes = 8193"),
