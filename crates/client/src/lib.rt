@@ -42,6 +42,8 @@ pub struct Step {
     pub effect: Effect,
 }
 
+// The numbers stand here and at the node: each face says those of its type, and the statements name both.
+// enable, link_down, write and answer take `mut self`, as the interface has them.
 impl Client {
     pub const MEMBERS: u64 = map_numbers::refusals::MEMBERS;
 
@@ -229,7 +231,7 @@ fn on_map(c: Client, e: Event, map: &mut [u8]) -> Out
     ensures map_after { map.new ≡ carried (stepped e c.pool c.check (sound_for c.pool map.old) 0).effect map.old }
 {
     let sound = maps::is_sound(map, c.pool.chunks);
-    let s = step_of(c.pool, c.check, e, sound, 0);
+    let s = step_of(c, e, sound, 0);
     carry(map, s.effect);
     s.out
 }
@@ -238,13 +240,14 @@ fn on_map(c: Client, e: Event, map: &mut [u8]) -> Out
 fn on_values(c: Client, e: Event, sound: bool, ids: u64) -> Out
     ensures { result ≡ (stepped e c.pool c.check sound ids).out }
 {
-    step_of(c.pool, c.check, e, sound, ids).out
+    step_of(c, e, sound, ids).out
 }
 
 // What an event comes to. sound: of the lent map. ids: those for which the chunk is clean in a map that Synced reads, those whose row is not empty in one that Tick reads.
-fn step_of(p: Pool, k: Check, e: Event, sound: bool, ids: u64) -> Step
-    ensures { result ≡ stepped e p k sound ids }
+fn step_of(c: Client, e: Event, sound: bool, ids: u64) -> Step
+    ensures { result ≡ stepped e c.pool c.check sound ids }
 {
+    let Client { pool: p, check: k } = c;
     let turn = match e {
         Event::JoinCreate(id) => joins::join_create(p, id),
         Event::JoinAssemble(id, set, version) => joins::join_assemble(p, id, set, version),
@@ -264,19 +267,19 @@ fn step_of(p: Pool, k: Check, e: Event, sound: bool, ids: u64) -> Step
             return hand_check(p, client_check::answer(p, k, sound, number, member, empty));
         }
     };
-    hand(p, k, turn)
+    hand(c, turn)
 }
 
 // What an event of the pool comes to.
-fn hand(p: Pool, k: Check, t: Turn) -> Step
-    ensures { result ≡ of_pool p k t }
+fn hand(c: Client, t: Turn) -> Step
+    ensures { result ≡ of_pool c.pool c.check t }
 {
     Step {
         out: Out {
             answer: t.answer,
             client: Client {
                 pool: t.pool,
-                check: client_check::after(k, p, t),
+                check: client_check::after(c.check, c.pool, t),
             },
         },
         effect: t.effect,
@@ -319,8 +322,9 @@ fn clean_ids(map: &[u8], chunk: u64) -> u64
 {
     let mut ids = 0;
     for m in 0..16 {
-        let more = map_numbers::sets::with(ids, m);
-        ids = map_numbers::numbers::pick(map_chunk::test(map, m, chunk), ids, more);
+        if !map_chunk::test(map, m, chunk) {
+            ids = map_numbers::sets::with(ids, m);
+        }
     }
     ids
 }

@@ -6,7 +6,6 @@ ghost use Rattle.rules_client.specs.Removal.{state_of, mode_of, op_of, tellable,
 
 use client_run::recovery;
 use client_state::{changes, roster, state};
-use map_numbers::numbers::pick;
 use rules_base::Op;
 use rules_client::Gone;
 use rules_pool::{
@@ -22,17 +21,21 @@ pub fn state_of(p: Pool, id: u64) -> State
 fn mode_of(st: State) -> Mode
     ensures { result ≡ mode_of st }
 {
-    pick(state::is_deleting(st), Mode::Delete, Mode::Disassemble)
+    if state::is_deleting(st) {
+        Mode::Delete
+    } else {
+        Mode::Disassemble
+    }
 }
 
 fn op_of(st: State) -> Op
     ensures { result ≡ op_of st }
 {
-    pick(
-        state::is_deleting(st),
-        Op::RemoveDelete,
-        Op::RemoveDisassemble,
-    )
+    if state::is_deleting(st) {
+        Op::RemoveDelete
+    } else {
+        Op::RemoveDisassemble
+    }
 }
 
 fn tellable(st: Stage, ro: Roster) -> u64
@@ -71,7 +74,11 @@ fn free(p: Pool, id: u64, effect: Effect) -> Gone
     let empty = roster::ids(Kind::Present, next) == 0;
     Gone {
         posted: recovery::rest(recovery::end_removal(recovery::with_roster(p, next))),
-        effect: pick(empty && !p.roster.sync, Effect::ZeroAll, effect),
+        effect: if empty && !p.roster.sync {
+            Effect::ZeroAll
+        } else {
+            effect
+        },
     }
 }
 

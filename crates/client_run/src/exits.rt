@@ -3,9 +3,9 @@ ghost use Rattle.std.specs.Prelude.{◌≡◌};
 ghost use Rattle.rules_pool.specs.Exit.{refused, accepted, changed, tried_with, tried_after, halted_if};
 
 use client_state::state::is_nothing;
-use map_numbers::numbers::pick;
 use rules_pool::{Answer, Effect, Message, Outcome, Pool, Roster, Sent, Told, Turn};
 
+// Any number and no Refusal: the rules' refused takes any.
 pub fn refuse(p: Pool, n: u64) -> Turn
     ensures { result ≡ refused p n }
 {
@@ -31,7 +31,7 @@ pub fn accept(
         outcome,
         told,
         awaited,
-        number: pick(is_nothing(awaited), 0, after.number),
+        number: if is_nothing(awaited) { 0 } else { after.number },
     };
     Turn {
         answer: Answer::Done(sent),

@@ -1,9 +1,11 @@
 // A recovery run as data, with no session in it: the message that it awaits, and what an answer does to it.
+// members, version and the run come side by side, and in no struct: most of the functions take but two of them, as the definitions do.
 pub mod still;
 
 ghost use Rattle.std.specs.Prelude.{◌≡◌};
-ghost use Rattle.rules_pool.specs.Run.{hand, rest, counted, go, ahead, receiver, to_spread, to_gather, to_last, to_base, to_versions, went_on, became_normal, failed_answer, version_brought, good, takes, step_message, awaited_in};
+ghost use Rattle.rules_pool.specs.Run.{hand, rest, go, ahead, receiver, to_spread, to_gather, to_last, to_base, to_versions, went_on, became_normal, failed_answer, version_brought, good, takes, step_message, awaited_in};
 
+use client_state::changes::up_to;
 use map_numbers::refusals::ANSWER_LIMIT;
 use map_numbers::sets::{lowest, without};
 use rules_pool::{Message, Move, Phase, Reply, Run, Step};
@@ -22,16 +24,6 @@ fn rest(r: Run) -> u64
     without(r.left, hand(r))
 }
 
-fn counted(taken: u64) -> u64
-    ensures { result ≡ counted taken }
-{
-    if taken < ANSWER_LIMIT {
-        taken + 1
-    } else {
-        taken
-    }
-}
-
 fn go(r: Run, phase: Phase, source: u64, left: u64) -> Option<Run>
     ensures { result ≡ go r phase source left }
 {
@@ -39,7 +31,7 @@ fn go(r: Run, phase: Phase, source: u64, left: u64) -> Option<Run>
         phase,
         source,
         left,
-        taken: counted(r.taken),
+        taken: up_to(r.taken, ANSWER_LIMIT),
     })
 }
 
@@ -112,7 +104,7 @@ fn went_on(r: Run, next: Option<Run>) -> Move
 {
     Move {
         next,
-        taken: counted(r.taken),
+        taken: up_to(r.taken, ANSWER_LIMIT),
         normal: None,
         disable: None,
     }

@@ -1,23 +1,25 @@
 // The named changes of the sixteen sessions and of the numbers that follow them. Every function takes any number.
-ghost use Rattle.std.specs.Prelude.{◌≡◌, map};
-ghost use Rattle.rules_pool.specs.Changes.{more, unmarked, all_unmarked, raised, entered, arrived, left, failed, went, owes, removing, enrolled, freed, flagged_at, member_entered, member_dropped, taken_over, written};
+ghost use Rattle.std.specs.Prelude.{◌≡◌, ◌+◌, ltb, map};
+ghost use Rattle.laws_words.specs.Words.{pick};
+ghost use Rattle.rules_pool.specs.Changes.{unmarked, all_unmarked, raised, entered, arrived, left, failed, went, owes, removing, enrolled, freed, flagged_at, member_entered, member_dropped, taken_over, written};
 
 use crate::roster::{session, store};
 use crate::state::{flagged, is_normal, marked, moved};
 use map_numbers::refusals::VERSION_TOP;
 use rules_pool::{Cause, Mode, Roster, Session, State, Way};
 
-fn more(n: u64) -> u64
-    ensures { result ≡ more n }
+// One more, up to the limit: what the rules call more for versions and counts, and counted for a run's answers.
+pub fn up_to(n: u64, limit: u64) -> u64
+    ensures { result ≡ pick (ltb n limit) (n + 1) n }
 {
-    if n < VERSION_TOP { n + 1 } else { n }
+    if n < limit { n + 1 } else { n }
 }
 
 // The version is raised: the view of the pool changes.
 pub fn raise(mut ro: Roster) -> Roster
     ensures { result ≡ raised ro }
 {
-    ro.version = more(ro.version);
+    ro.version = up_to(ro.version, VERSION_TOP);
     ro
 }
 
@@ -40,7 +42,7 @@ pub fn enter(ro: Roster, id: u64) -> Roster
         return store(ro, id, normal);
     }
     let mut next = store(unmark_all(ro), id, normal);
-    next.count = more(next.count);
+    next.count = up_to(next.count, VERSION_TOP);
     next
 }
 

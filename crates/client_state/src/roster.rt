@@ -44,6 +44,7 @@ fn is_unsynced(s: Session) -> bool
     s.mark || s.maintenance || matches!(s.state, State::Reconnecting)
 }
 
+// Here and at is_kind: sync and members, as the definitions take them, and no Roster: one record is judged, not the sixteen.
 fn is_odd(sync: bool, members: u64, i: u64, s: Session) -> bool
     ensures { result ≡ odd sync members i s }
 {

@@ -5,9 +5,16 @@ ghost use Rattle.node.specs.Face.{held, came};
 
 use event::NodeEvent;
 use node::{Out, StorageNode};
+use rules_node::Answer;
 
 // The event on the lent maps; part is what TakePart takes.
-pub fn call(n: StorageNode, e: NodeEvent, map: &mut [u8], staging: &mut [u8], part: &[u8]) -> Out
+pub fn call(
+    n: StorageNode,
+    e: NodeEvent,
+    map: &mut [u8],
+    staging: &mut [u8],
+    part: &[u8],
+) -> Out<Answer>
     ensures { Meets (event_of e part.now) (held n) map.old staging.old (came result) map.new staging.new }
 {
     let NodeEvent::TakePart(offset, length, m) = e else {

@@ -5,6 +5,7 @@ use Prim.Native.Nat.{ℕ, ◌-◌}
 use lib.ListN.{length, take, drop}
 use borrow.Rule.Slice.PartMut.{put_mid}
 use Rattle.event.specs.declared.NodeEvent.{NodeEvent}
+use Rattle.rules_node.specs.declared.Answer.{Answer}
 use Rattle.node.specs.declared.Out.{Out}
 use Rattle.node.specs.Face.{held, came, given}
 use Rattle.rules_node.specs.Unique.{Meets}
@@ -17,7 +18,7 @@ use Rattle.lab_places.specs.declared.Bench.{Bench}
 use Rattle.lab_places.specs.Places.{node_in}
 use Rattle.lab_lend.specs.Node.{part_taken, out_at, left_at}
 
-module _ (lent : Lent) (e : NodeEvent) (b : Bench) {k : ℕ} {zs map staging : List ℕ} {r : Out} {s t : Span} where
+module _ (lent : Lent) (e : NodeEvent) (b : Bench) {k : ℕ} {zs map staging : List ℕ} {r : Out Answer} {s t : Span} where
   pub lent-meets : Stands (length b.maps) k (size_of lent.maps k) s
       → Stands (length b.stagings) k (size_of lent.stagings k) t
       → zs ≡ part_taken e b.maps

@@ -50,7 +50,7 @@ abbrev pub lent_event : NodeEvent → Bench → Event
 lent_event e b = event_of e (part_taken e b.maps)
 
 -- what node k hands back
-abbrev pub out_at : ℕ → Lent → NodeEvent → Bench → Out
+abbrev pub out_at : ℕ → Lent → NodeEvent → Bench → Out Answer
 out_at k lent e b = answers (lent_event e b) (node_in b k) (map_of lent k b.maps) (staging_of lent k b.stagings)
 
 -- its answer, and the bench after it: the node and the lent parts as the event leaves them, the other nodes and all other bytes as they were

@@ -26,7 +26,7 @@ fn transfer_number(t: Option<u64>) -> u64
     if states::is_whole(t) {
         2
     } else {
-        u64::from(states::in_hand(t))
+        u64::from(t.is_some())
     }
 }
 

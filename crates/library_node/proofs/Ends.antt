@@ -12,6 +12,7 @@ use Rattle.event_words.specs.declared.words.Unmade.{Unmade}
 use Rattle.event_words.proofs.Calls.{unmade, some-number, made}
 use Rattle.event.specs.declared.NodeEvent.{NodeEvent}
 use Rattle.event.specs.declared.Question.{Question}
+use Rattle.rules_node.specs.declared.Answer.{Answer}
 use Rattle.node.specs.declared.Out.{Out}
 use Rattle.node.specs.Face.{held, came, given}
 use Rattle.rules_node.specs.Unique.{Meets}
@@ -44,7 +45,7 @@ module _ (ws ss xs ys zs os : List ℕ) (k a b c : ℕ) where
       let z : eqb (returned ws k a) 0 ≡ false = rw q at (some-number why) in
       (q, (rw z, (rw z, (rw z, (rw z, (rw z, refl))))))
 
-  pub went : (r : Result Node Unmade) (v : Bool) (n : Node) (ev : NodeEvent) (o : Out) (ws' xs' ys' os' : List ℕ)
+  pub went : (r : Result Node Unmade) (v : Bool) (n : Node) (ev : NodeEvent) (o : Out Answer) (ws' xs' ys' os' : List ℕ)
       → Calls ws v r → v ≡ event_known k a → r ≡ Ok n → ev ≡ numbered k a b c
       → Meets (event_of ev zs) (record { node = n; summaries = ss }) xs ys (came o) xs' ys'
       → os' ≡ answer_words o.answer → ws' ≡ packed o.node.node

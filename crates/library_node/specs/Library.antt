@@ -72,7 +72,7 @@ abbrev pub returned : List ℕ → ℕ → ℕ → ℕ
 returned ws k a = error_of (known ws) (event_known k a)
 
 -- what the event answers
-abbrev pub given : List ℕ → List ℕ → List ℕ → List ℕ → List ℕ → ℕ → ℕ → ℕ → ℕ → Out
+abbrev pub given : List ℕ → List ℕ → List ℕ → List ℕ → List ℕ → ℕ → ℕ → ℕ → ℕ → Out Answer
 given ws ss xs ys zs k a b c = Face.answers (event_of (numbered k a b c) zs) (node_of ws ss) xs ys
 
 unfoldable pub state_left : List ℕ → List ℕ → List ℕ → List ℕ → List ℕ → ℕ → ℕ → ℕ → ℕ → List ℕ

@@ -22,26 +22,16 @@ pub struct StorageNode {
     pub summaries: Summaries,
 }
 
+// What a node hands back: what it answers, and itself, which stays as it is where it is only asked.
 #[derive(Clone, Copy)]
-pub struct Out {
-    pub answer: Answer,
+pub struct Out<A> {
+    pub answer: A,
     pub node: StorageNode,
 }
 
-// What a node hands back that is asked whether its row is empty: it stays as it is.
-#[derive(Clone, Copy)]
-pub struct Asked {
-    pub answer: Checked,
-    pub node: StorageNode,
-}
-
-// What a node hands back that is asked for the next dirty chunk: it stays as it is.
-#[derive(Clone, Copy)]
-pub struct Searched {
-    pub answer: Next,
-    pub node: StorageNode,
-}
-
+// The numbers stand here and at the client: each face says those of its type, and the statements name both.
+// map and staging in each method, and no struct: the caller holds them as two buffers, and lends both as they are.
+// enable1, enable0 and write take `mut self`, as the interface has them.
 impl StorageNode {
     pub const MEMBERS: u64 = map_numbers::refusals::MEMBERS;
 
@@ -74,63 +64,75 @@ impl StorageNode {
     }
 
     // Register create: EMPTY to REGISTERED, all that was known gone.
-    pub fn register_create(self, map: &mut [u8], staging: &mut [u8]) -> Out
+    pub fn register_create(self, map: &mut [u8], staging: &mut [u8]) -> Out<Answer>
         ensures { Meets Event.register_create (held self) map.old staging.old (came result) map.new staging.new }
     {
         event(self, NodeEvent::RegisterCreate, map, staging)
     }
 
     // Register add: a store that brings its member set and version.
-    pub fn register_add(self, map: &mut [u8], staging: &mut [u8], set: u64, version: u64) -> Out
+    pub fn register_add(
+        self,
+        map: &mut [u8],
+        staging: &mut [u8],
+        set: u64,
+        version: u64,
+    ) -> Out<Answer>
         ensures { Meets (Event.register_add set version) (held self) map.old staging.old (came result) map.new staging.new }
     {
         event(self, NodeEvent::RegisterAdd(set, version), map, staging)
     }
 
     // Unregister: the store goes.
-    pub fn unregister(self, map: &mut [u8], staging: &mut [u8], delete: bool) -> Out
+    pub fn unregister(self, map: &mut [u8], staging: &mut [u8], delete: bool) -> Out<Answer>
         ensures { Meets (Event.unregister delete) (held self) map.old staging.old (came result) map.new staging.new }
     {
         event(self, NodeEvent::Unregister(delete), map, staging)
     }
 
     // Join in create mode, with the members so far.
-    pub fn join_create(self, map: &mut [u8], staging: &mut [u8], set: u64) -> Out
+    pub fn join_create(self, map: &mut [u8], staging: &mut [u8], set: u64) -> Out<Answer>
         ensures { Meets (Event.join_create set) (held self) map.old staging.old (came result) map.new staging.new }
     {
         event(self, NodeEvent::JoinCreate(set), map, staging)
     }
 
     // Assemble or rejoin.
-    pub fn assemble(self, map: &mut [u8], staging: &mut [u8]) -> Out
+    pub fn assemble(self, map: &mut [u8], staging: &mut [u8]) -> Out<Answer>
         ensures { Meets Event.assemble (held self) map.old staging.old (came result) map.new staging.new }
     {
         event(self, NodeEvent::JoinAssemble, map, staging)
     }
 
     // The session leaves the pool.
-    pub fn leave(self, map: &mut [u8], staging: &mut [u8], delete: bool) -> Out
+    pub fn leave(self, map: &mut [u8], staging: &mut [u8], delete: bool) -> Out<Answer>
         ensures { Meets (Event.leave delete) (held self) map.old staging.old (came result) map.new staging.new }
     {
         event(self, NodeEvent::Leave(delete), map, staging)
     }
 
     // Enable 1: IOs are allowed.
-    pub fn enable1(mut self, map: &mut [u8], staging: &mut [u8], version: u64, set: u64) -> Out
+    pub fn enable1(
+        mut self,
+        map: &mut [u8],
+        staging: &mut [u8],
+        version: u64,
+        set: u64,
+    ) -> Out<Answer>
         ensures { Meets (Event.enable1 version set) (held self) map.old staging.old (came result) map.new staging.new }
     {
         event(self, NodeEvent::Enable1(version, set), map, staging)
     }
 
     // Enable 0: maintenance.
-    pub fn enable0(mut self, map: &mut [u8], staging: &mut [u8]) -> Out
+    pub fn enable0(mut self, map: &mut [u8], staging: &mut [u8]) -> Out<Answer>
         ensures { Meets Event.enable0 (held self) map.old staging.old (came result) map.new staging.new }
     {
         event(self, NodeEvent::Enable0, map, staging)
     }
 
     // An error of IO or network.
-    pub fn fault(self, map: &mut [u8], staging: &mut [u8]) -> Out
+    pub fn fault(self, map: &mut [u8], staging: &mut [u8]) -> Out<Answer>
         ensures { Meets Event.fault (held self) map.old staging.old (came result) map.new staging.new }
     {
         event(self, NodeEvent::Fault, map, staging)
@@ -144,42 +146,54 @@ impl StorageNode {
         chunk: u64,
         set: u64,
         version: u64,
-    ) -> Out
+    ) -> Out<Answer>
         ensures { Meets (Event.write chunk set version) (held self) map.old staging.old (came result) map.new staging.new }
     {
         event(self, NodeEvent::Write(chunk, set, version), map, staging)
     }
 
     // A chunk was synced for a member.
-    pub fn synced(self, map: &mut [u8], staging: &mut [u8], member: u64, chunk: u64) -> Out
+    pub fn synced(self, map: &mut [u8], staging: &mut [u8], member: u64, chunk: u64) -> Out<Answer>
         ensures { Meets (Event.synced member chunk) (held self) map.old staging.old (came result) map.new staging.new }
     {
         event(self, NodeEvent::Synced(member, chunk), map, staging)
     }
 
     // POOL_INFO: another member came or went.
-    pub fn pool_info(self, map: &mut [u8], staging: &mut [u8], op: Op, member: u64) -> Out
+    pub fn pool_info(self, map: &mut [u8], staging: &mut [u8], op: Op, member: u64) -> Out<Answer>
         ensures { Meets (Event.pool_info op member) (held self) map.old staging.old (came result) map.new staging.new }
     {
         event(self, NodeEvent::PoolInfo(op, member), map, staging)
     }
 
     // MAP_READY: a transfer begins, from what the map holds or from nothing.
-    pub fn map_ready(self, map: &mut [u8], staging: &mut [u8], keep: bool) -> Out
+    pub fn map_ready(self, map: &mut [u8], staging: &mut [u8], keep: bool) -> Out<Answer>
         ensures { Meets (Event.map_ready keep) (held self) map.old staging.old (came result) map.new staging.new }
     {
         event(self, NodeEvent::MapReady(keep), map, staging)
     }
 
     // A part of the map goes out, the map's bytes from the offset on: where it goes is the caller's.
-    pub fn give_part(self, map: &mut [u8], staging: &mut [u8], offset: u64, length: u64) -> Out
+    pub fn give_part(
+        self,
+        map: &mut [u8],
+        staging: &mut [u8],
+        offset: u64,
+        length: u64,
+    ) -> Out<Answer>
         ensures { Meets (Event.give_part offset length) (held self) map.old staging.old (came result) map.new staging.new }
     {
         event(self, NodeEvent::GivePart(offset, length), map, staging)
     }
 
     // A part of a map is taken: ORed into staging at its offset.
-    pub fn take_part(self, map: &mut [u8], staging: &mut [u8], offset: u64, part: &[u8]) -> Out
+    pub fn take_part(
+        self,
+        map: &mut [u8],
+        staging: &mut [u8],
+        offset: u64,
+        part: &[u8],
+    ) -> Out<Answer>
         ensures { Meets (Event.take_part offset part.now) (held self) map.old staging.old (came result) map.new staging.new }
     {
         let lent = lent_number(self, map, staging);
@@ -198,7 +212,7 @@ impl StorageNode {
         enabling: bool,
         version: u64,
         set: u64,
-    ) -> Out
+    ) -> Out<Answer>
         ensures { Meets (Event.map_done enabling version set) (held self) map.old staging.old (came result) map.new staging.new }
     {
         event(
@@ -210,52 +224,52 @@ impl StorageNode {
     }
 
     // MAP_DISABLE: the transfer is given up.
-    pub fn map_disable(self, map: &mut [u8], staging: &mut [u8]) -> Out
+    pub fn map_disable(self, map: &mut [u8], staging: &mut [u8]) -> Out<Answer>
         ensures { Meets Event.map_disable (held self) map.old staging.old (came result) map.new staging.new }
     {
         event(self, NodeEvent::MapDisable, map, staging)
     }
 
     // MAP_GET_VER: the answer carries the version.
-    pub fn map_get_ver(self, map: &mut [u8], staging: &mut [u8]) -> Out
+    pub fn map_get_ver(self, map: &mut [u8], staging: &mut [u8]) -> Out<Answer>
         ensures { Meets Event.map_get_ver (held self) map.old staging.old (came result) map.new staging.new }
     {
         event(self, NodeEvent::MapGetVer, map, staging)
     }
 
     // LAST_IO_TO_MAP: the kept chunks go into the map.
-    pub fn last_io_to_map(self, map: &mut [u8], staging: &mut [u8], chosen: u64) -> Out
+    pub fn last_io_to_map(self, map: &mut [u8], staging: &mut [u8], chosen: u64) -> Out<Answer>
         ensures { Meets (Event.last_io_to_map chosen) (held self) map.old staging.old (came result) map.new staging.new }
     {
         event(self, NodeEvent::LastIo(chosen), map, staging)
     }
 
     // A leg was added to the pool in service: every chunk is dirty for it.
-    pub fn fill(self, map: &mut [u8], staging: &mut [u8], member: u64, version: u64) -> Out
+    pub fn fill(self, map: &mut [u8], staging: &mut [u8], member: u64, version: u64) -> Out<Answer>
         ensures { Meets (Event.fill member version) (held self) map.old staging.old (came result) map.new staging.new }
     {
         event(self, NodeEvent::Fill(member, version), map, staging)
     }
 
     // Map check: whether the node is NORMAL and its own row is empty. The maps are only read.
-    pub fn map_check(self, map: &[u8], staging: &[u8]) -> Asked
+    pub fn map_check(self, map: &[u8], staging: &[u8]) -> Out<Checked>
         ensures { result ≡ checked self map.now staging.now }
     {
         let lent = lent_number(self, map, staging);
         let clean = map_whole::emptyrows::is_empty(map, self.node.id);
-        Asked {
+        Out {
             answer: node_ask::checks::map_check(self.node, lent, clean),
             node: self,
         }
     }
 
     // The first dirty chunk of a member's row at or after the start, found by the summaries. The maps are only read.
-    pub fn next(self, map: &[u8], staging: &[u8], member: u64, start: u64) -> Searched
+    pub fn next(self, map: &[u8], staging: &[u8], member: u64, start: u64) -> Out<Next>
         ensures { result ≡ next_at self map.now staging.now member start }
     {
         let lent = lent_number(self, map, staging);
         let sought = map_summary::searching::search_row(&self.summaries, map, member, start);
-        Searched {
+        Out {
             answer: node_ask::next::next_dirty(self.node, lent, member, start, sought.found),
             node: self,
         }
@@ -263,7 +277,7 @@ impl StorageNode {
 }
 
 // An event that no part is lent to: TakePart takes one of no bytes here.
-pub fn event(s: StorageNode, e: NodeEvent, map: &mut [u8], staging: &mut [u8]) -> Out
+pub fn event(s: StorageNode, e: NodeEvent, map: &mut [u8], staging: &mut [u8]) -> Out<Answer>
     ensures { Meets (event_of e []) (held s) map.old staging.old (came result) map.new staging.new }
 {
     let lent = lent_number(s, map, staging);
@@ -311,7 +325,7 @@ fn turn_of(n: Node, lent: u64, e: NodeEvent) -> Turn
     }
 }
 
-// The number that the lent maps refuse with, 0 where they do not.
+// The number that the lent maps refuse with, 0 where they do not. A number and no Option: the rules' lent_number is one, and their turns are told it.
 fn lent_number(s: StorageNode, map: &[u8], staging: &[u8]) -> u64
     ensures { result ≡ lent_number s.node.chunks s.summaries map.now staging.now }
 {
@@ -326,7 +340,7 @@ fn lent_number(s: StorageNode, map: &[u8], staging: &[u8]) -> u64
 }
 
 // Carries out what is due to the maps, has the summaries follow, and hands the answer back with the state.
-fn finish(t: Turn, lent: u64, words: Summaries, map: &mut [u8], staging: &mut [u8]) -> Out
+fn finish(t: Turn, lent: u64, words: Summaries, map: &mut [u8], staging: &mut [u8]) -> Out<Answer>
     requires { lent ≡ 0 → Lent words map.old }
     ensures value { result ≡ handed t (words_by lent t words map.old staging.old) }
     ensures map_after { map.new ≡ map_by t map.old staging.old }

@@ -65,6 +65,7 @@ pub fn take_in(e: OnStaging, part: &[u8], staging: &mut [u8])
 fn last_ios(n: Node, chosen: u64, map: &mut [u8])
     ensures { map.new ≡ last_ios n chosen map.old }
 {
+    // An index: its place says whether a chunk is kept.
     for i in 0..16usize {
         last_io_at(n, chosen, i, map);
     }

@@ -19,7 +19,7 @@ fn follow(e: OnMap, mut words: Summaries, map: &[u8]) -> Summaries
     words
 }
 
-// The same, at a node whose lent maps refuse with a number, 0 where they do not.
+// The same, at a node whose lent maps refuse with a number, 0 where they do not: a number, as node_state::turns has it.
 #[tactic(auto, unfolding(rules_node::specs::Follow::words_after))]
 pub fn after(lent: u64, e: OnMap, words: Summaries, map: &[u8]) -> Summaries
     ensures { result ≡ words_after lent e map.now words }

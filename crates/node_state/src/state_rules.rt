@@ -52,6 +52,7 @@ fn kept_ok(n: Node) -> bool
     ensures { result ≡ kept_ok n }
 {
     let mut ok = n.held <= 16;
+    // An index: its place says whether a chunk is kept.
     for i in 0..16usize {
         ok = ok && place_ok(n, i);
     }

@@ -1,6 +1,6 @@
 // Tests on a node's state.
 ghost use Rattle.std.specs.Prelude.{◌≡◌};
-ghost use Rattle.rules_node.specs.States.{is_joined, is_serving, in_hand, taken, is_whole};
+ghost use Rattle.rules_node.specs.States.{is_joined, is_serving, taken, is_whole};
 
 use rules_node::{Node, State};
 
@@ -16,12 +16,6 @@ pub fn is_serving(n: Node) -> bool
     ensures { result ≡ is_serving n }
 {
     is_joined(n.state) && n.store
-}
-
-pub fn in_hand(t: Option<u64>) -> bool
-    ensures { result ≡ in_hand t }
-{
-    t.is_some()
 }
 
 // The bytes of the map that were taken so far.

@@ -11,6 +11,7 @@ use rules_node::{Answer, Effect, Node, OnMap, OnStaging, Turn};
 
 // What every event tests before its own tests: the state rules, what the lent maps refuse with, the node's own id.
 // lent is a number and no Refusal: of it the events ask for 2 and 18 alone, and any other lets them by.
+// n and lent side by side in every event, and no struct: the number is asked for here alone, and the rules take the two.
 pub fn allowed(n: Node, lent: u64) -> Result<(), Refusal>
     ensures { number_of result ≡ pick (not (valid n)) 1 (pick (eqb lent 2) 2 (pick (eqb lent 18) 18 (pick (ltb 15 n.id) 3 0))) }
 {
