@@ -10,7 +10,7 @@ use node::{Out, StorageNode};
 pub fn call(n: StorageNode, e: NodeEvent, map: &mut [u8], staging: &mut [u8], part: &[u8]) -> Out
     ensures { Meets (event_of e part.now) (held n) map.old staging.old (came result) map.new staging.new }
 {
-    let NodeEvent::TakePart(offset, length, m) = e else {
+    let NodeEvent::TakePart(offset, _, _) = e else {
         return node::event(n, e, map, staging);
     };
     n.take_part(map, staging, offset, part)

@@ -34,6 +34,6 @@ fn put(all: &mut [u8], n: u64, i: u64, v: u64)
     }
     let at = n as usize * 8192 + i as usize;
     if at < all.len() {
-        all[at] = (v % 256) as u8;
+        all[at] = v as u8;
     }
 }

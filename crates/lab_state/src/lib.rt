@@ -81,9 +81,9 @@ impl Lab {
             }
             Command::PokeWritten(v) => self.client.pool.roster.past.written = v,
             Command::PokeAssembled(v) => self.client.pool.roster.past.assembled = v,
-            Command::PokeTick(v) => self.client.check.tick = (v % 4294967296) as u32,
-            Command::PokeDue(v) => self.client.check.due = (v % 65536) as u16,
-            Command::PokeOnce(v) => self.client.check.once = (v % 65536) as u16,
+            Command::PokeTick(v) => self.client.check.tick = v as u32,
+            Command::PokeDue(v) => self.client.check.due = v as u16,
+            Command::PokeOnce(v) => self.client.check.once = v as u16,
             _ => {}
         }
         self
