@@ -76,8 +76,7 @@ fn pokes(f: Form) -> Option<Command>
 {
     let [_, x1, x2, x3, x4, x5, x6, x7] = f.x;
     Some(match (f.head, f.count) {
-        (Pair(Name::Poke, Name::Session), 8)
-            if x2 < 16 => Command::PokeSession(
+        (Pair(Name::Poke, Name::Session), 8) if x2 < 16 => Command::PokeSession(
             x2,
             event_number::session_in(x3, x4, x5, x6, x7)?,
         ),
