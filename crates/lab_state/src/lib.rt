@@ -59,7 +59,7 @@ impl Lab {
         self
     }
 
-    // What a line that sets the lab up does to it; the others leave it.
+    // What a line that sets the lab up does to it; the others leave it. What is too much is taken off by %: a cast takes only a number that fits.
     pub fn arrange(mut self, c: Command) -> Lab
         ensures { result ≡ arranged self c }
     {
@@ -81,9 +81,9 @@ impl Lab {
             }
             Command::PokeWritten(v) => self.client.pool.roster.past.written = v,
             Command::PokeAssembled(v) => self.client.pool.roster.past.assembled = v,
-            Command::PokeTick(v) => self.client.check.tick = v as u32,
-            Command::PokeDue(v) => self.client.check.due = v as u16,
-            Command::PokeOnce(v) => self.client.check.once = v as u16,
+            Command::PokeTick(v) => self.client.check.tick = (v % 4294967296) as u32,
+            Command::PokeDue(v) => self.client.check.due = (v % 65536) as u16,
+            Command::PokeOnce(v) => self.client.check.once = (v % 65536) as u16,
             _ => {}
         }
         self
