@@ -50,7 +50,7 @@ fn read_record(s: &[u8]) -> Record
     }
 }
 
-// The record of the first n bytes.
+// The record of the first n bytes. A length beside the line, since the reading has it as a number of its own: one past the line is no record's.
 #[tactic(auto, unfolding(crate::specs::Text::record_in))]
 pub fn record_in(n: usize, line: &[u8]) -> Record
     ensures { result ≡ record_in n line.now }

@@ -10,7 +10,6 @@ use Rattle.rules_pool.specs.declared.Reply.{Reply}
 use Rattle.rules_pool.specs.declared.Outcome.{Outcome}
 use Rattle.audit_record.specs.declared.records.Record.{Record}
 use Rattle.audit_record.specs.declared.records.Logged.{Logged}
-use Rattle.audit_record.specs.declared.records.Entry.{Entry}
 
 -- no event's record: there is no kind 0
 abbrev pub no_record : Record
@@ -35,16 +34,16 @@ causes_in (s ∷ ss) = causes_in ss * 4 + cause_number s.state
 
 -- ---- the record of an event
 
--- kind, member, set, number
-abbrev pub said : ℕ → ℕ → ℕ → ℕ → Entry
-said kind member set number = record { kind = kind; member = member; set = set; number = number }
+-- kind, member, set, number; the other fields are not known yet
+abbrev pub said : ℕ → ℕ → ℕ → ℕ → Record
+said kind member set number = record { sequence = 0; kind = kind; member = member; set = set; number = number; version = 0; count = 0; causes = 0 }
 
 abbrev pub remove_kind : Mode → ℕ
 remove_kind Mode.Delete = 7
 remove_kind Mode.Disassemble = 8
 
 -- an answer, always to the awaited message: good, good with version, failed
-abbrev pub reply_entry : Reply → Entry
+abbrev pub reply_entry : Reply → Record
 reply_entry (Reply.Good None) = said 11 0 0 0
 reply_entry (Reply.Good (Some v)) = said 12 0 0 v
 reply_entry Reply.Failed = said 13 0 0 0
@@ -57,7 +56,7 @@ picked_in (Outcome.Written acknowledged list) = 0
 picked_in (Outcome.Picked id) = id
 
 -- The event in four numbers; what a kind does not use is 0. Extend is logged with the id that it reports.
-abbrev pub entry_of : Logged → Outcome → Entry
+abbrev pub entry_of : Logged → Outcome → Record
 entry_of (Logged.JoinCreate id) o = said 1 id 0 0
 entry_of (Logged.JoinAssemble id set version) o = said 2 id set version
 entry_of (Logged.Enable id) o = said 3 id 0 0

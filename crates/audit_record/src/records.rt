@@ -34,15 +34,6 @@ pub enum Logged {
     Extend,
 }
 
-// What a record says of its event, in the record's own numbers.
-#[derive(Clone, Copy)]
-pub struct Entry {
-    pub kind: u64,
-    pub member: u64,
-    pub set: u64,
-    pub number: u64,
-}
-
 // No event's record: there is no kind 0.
 pub fn no_record() -> Record
     ensures { result ≡ no_record }
@@ -80,14 +71,16 @@ fn causes(ss: [Session; 16]) -> u64
     n
 }
 
-fn said(kind: u64, member: u64, set: u64, number: u64) -> Entry
+// What a record says of its event; its other fields are not known yet.
+fn said(kind: u64, member: u64, set: u64, number: u64) -> Record
     ensures { result ≡ said kind member set number }
 {
-    Entry {
+    Record {
         kind,
         member,
         set,
         number,
+        ..no_record()
     }
 }
 
@@ -100,7 +93,7 @@ fn remove_kind(m: Mode) -> u64
     }
 }
 
-fn reply_entry(a: Reply) -> Entry
+fn reply_entry(a: Reply) -> Record
     ensures { result ≡ reply_entry a }
 {
     match a {
@@ -119,7 +112,7 @@ fn picked_in(o: Outcome) -> u64
     }
 }
 
-fn entry_of(e: Logged, o: Outcome) -> Entry
+fn entry_of(e: Logged, o: Outcome) -> Record
     ensures { result ≡ entry_of e o }
 {
     match e {
@@ -143,21 +136,12 @@ fn entry_of(e: Logged, o: Outcome) -> Entry
 pub fn record_of(n: u64, e: Logged, o: Outcome, ro: Roster) -> Record
     ensures { result ≡ record_of n e o ro }
 {
-    let Entry {
-        kind,
-        member,
-        set,
-        number,
-    } = entry_of(e, o);
     Record {
         sequence: n,
-        kind,
-        member,
-        set,
-        number,
         version: ro.version,
         count: ro.count,
         causes: causes(ro.sessions),
+        ..entry_of(e, o)
     }
 }
 

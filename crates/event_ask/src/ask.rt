@@ -8,7 +8,7 @@ use event::Question;
 use node::StorageNode;
 use rules_node::{Checked, Next};
 
-// Empty: whether the node is NORMAL and its own row is empty. Next: the next dirty chunk, or none. No Result: what is good differs by the question.
+// Empty: whether the node is NORMAL and its own row is empty. Next: the next dirty chunk, or none. No plainer as a Result: what is good is of two kinds, so an enum for it would stand beside.
 #[derive(Clone, Copy)]
 pub enum Finding {
     Refused(u64),
@@ -16,21 +16,25 @@ pub enum Finding {
     Next(Option<u64>),
 }
 
-fn of_check(c: Checked) -> Finding
-    ensures { result ≡ of_check c }
-{
-    match c {
-        Checked::Refused(why) => Finding::Refused(why),
-        Checked::Empty(empty) => Finding::Empty(empty),
+impl From<Checked> for Finding {
+    ghost from_gives = { λ c f. f ≡ of_check c };
+
+    fn from(c: Checked) -> Finding {
+        match c {
+            Checked::Refused(why) => Finding::Refused(why),
+            Checked::Empty(empty) => Finding::Empty(empty),
+        }
     }
 }
 
-fn of_next(a: Next) -> Finding
-    ensures { result ≡ of_next a }
-{
-    match a {
-        Next::Refused(why) => Finding::Refused(why),
-        Next::Is(found) => Finding::Next(found),
+impl From<Next> for Finding {
+    ghost from_gives = { λ a f. f ≡ of_next a };
+
+    fn from(a: Next) -> Finding {
+        match a {
+            Next::Refused(why) => Finding::Refused(why),
+            Next::Is(found) => Finding::Next(found),
+        }
     }
 }
 
@@ -39,8 +43,8 @@ pub fn call(n: StorageNode, q: Question, map: &[u8], staging: &[u8]) -> Finding
     ensures { result ≡ finding_of q n map.now staging.now }
 {
     match q {
-        Question::MapCheck => of_check(n.map_check(map, staging).answer),
-        Question::Next(member, start) => of_next(n.next(map, staging, member, start).answer),
+        Question::MapCheck => Finding::from(n.map_check(map, staging).answer),
+        Question::Next(member, start) => Finding::from(n.next(map, staging, member, start).answer),
     }
 }
 

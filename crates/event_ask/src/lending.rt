@@ -5,6 +5,7 @@ ghost use Rattle.event_ask.specs.Lending.{cut, size_of, part, Stands};
 use map_numbers::refusals::MAP_BYTES;
 
 // How many bytes are lent: of the client's map, of each node's map, of each node's staging map. More than a map has is all of it.
+// A size beside a size of each kind: the maps of one kind stand one after another, since an event lends a part of them, and the definitions speak of such a buffer with its sizes.
 #[derive(Clone, Copy)]
 pub struct Lent {
     pub own: u64,
@@ -29,7 +30,7 @@ pub fn size(sizes: [u64; 16], k: u64) -> usize
     cut(sizes[k as usize])
 }
 
-// A part of a buffer.
+// A part of a buffer. A pair of ends and no Range, which is no Copy: the definition Stands names them.
 #[derive(Clone, Copy)]
 pub struct Span {
     pub from: usize,

@@ -17,7 +17,7 @@ pub fn call(
 ) -> Out<Answer>
     ensures { Meets (event_of e part.now) (held n) map.old staging.old (came result) map.new staging.new }
 {
-    let NodeEvent::TakePart(offset, length, m) = e else {
+    let NodeEvent::TakePart(offset, _, _) = e else {
         return node::event(n, e, map, staging);
     };
     n.take_part(map, staging, offset, part)

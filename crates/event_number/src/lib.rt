@@ -2,6 +2,7 @@
 #![tactic(auto)]
 
 ghost use Rattle.std.specs.Prelude.{◌≡◌};
+ghost use Rattle.laws_words.specs.Words.{pick};
 ghost use Rattle.event_number.specs.Values.{mode_of, reply_of, op_of, state_of, session_of, maybe_session, op_number, mode_number};
 
 use rules_base::Op;
@@ -62,14 +63,14 @@ pub fn session_of(x: u64, maint: u64, mark: u64, md: u64, owed: u64) -> Session
     }
 }
 
-// Whether these six can be a session: all in range, mode and owed 0 where it is not REMOVING, all four 0 where there is none.
-pub fn maybe(x: u64, maint: u64, mark: u64, md: u64, owed: u64) -> bool
-    ensures { result ≡ maybe_session x maint mark md owed }
+// The session of these five, where they can be one: all in range, mode and owed 0 where it is not REMOVING, all four 0 where there is none.
+pub fn session_in(x: u64, maint: u64, mark: u64, md: u64, owed: u64) -> Option<Session>
+    ensures { result ≡ pick (maybe_session x maint mark md owed) (Some (session_of x maint mark md owed)) None }
 {
     let range = x < 7 && maint < 2 && mark < 2 && md < 2 && owed < 2;
     let removing = x == 5 || (md == 0 && owed == 0);
     let none = x != 0 || (maint == 0 && mark == 0);
-    range && removing && none
+    (range && removing && none).then_some(session_of(x, maint, mark, md, owed))
 }
 
 pub fn op_number(op: Op) -> u64

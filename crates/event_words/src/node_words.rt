@@ -18,7 +18,7 @@ fn state_word(s: State) -> u64
     }
 }
 
-fn state_of(x: u64) -> State
+pub fn state_of(x: u64) -> State
     ensures { result ≡ state_of x }
 {
     match x {

@@ -1,5 +1,5 @@
 -- A line of a history, its newline cut off, to its command.
-use Rattle.std.specs.Prelude.{ℕ, Bool, true, ◌&&◌, ◌||◌, List, [], ◌∷◌, length, ltb, eqb, Option, None}
+use Rattle.std.specs.Prelude.{ℕ, Bool, true, ◌&&◌, ◌||◌, List, [], ◌∷◌, length, ltb, eqb, Option, Some, None}
 use Rattle.std.specs.Bool.{then_some}
 use Rattle.std.specs.Option.{option_or, unwrap_or}
 use Rattle.laws_words.specs.Words.{pick}
@@ -11,7 +11,9 @@ use Rattle.lab_form.specs.declared.Head.{Head}
 use Rattle.lab_form.specs.declared.Which.{Which}
 use Rattle.lab_form.specs.declared.Command.{Command}
 use Rattle.lab_form.specs.Forms.{form_of, num}
+use Rattle.rules_base.specs.Limits.{map_bytes}
 use Rattle.event_number.specs.Values.{session_of, maybe_session}
+use Rattle.event_words.specs.NodeWords.{state_of}
 use Rattle.lab_command.specs.Events.{client_events, check_events, search_events, whole_events, store_events, service_events, transfer_events}
 
 -- The dirty chunks of a member, and how much of a map is lent.
@@ -35,10 +37,14 @@ stores (Head.Pair Name.Poke Name.Chunks) f = then_some (eqb f.count 3 && ltb (nu
 stores (Head.Pair Name.Poke Name.Members) f = then_some (eqb f.count 3 && ltb (num f 2) 65536) (Command.PokeMembers (num f 2))
 stores _ f = None
 
+-- 0 nothing in hand, 1 in hand and nothing taken, 2 in hand and the whole map taken
+abbrev pub transfer_of : ℕ → Option ℕ
+transfer_of x = pick (eqb x 0) None (pick (eqb x 1) (Some 0) (Some map_bytes))
+
 -- A session put into the client's state, and a node's state.
 unfoldable pub pokes : Head → Form → Option Command
 pokes (Head.Pair Name.Poke Name.Session) f = then_some (eqb f.count 8 && (ltb (num f 2) 16 && maybe_session (num f 3) (num f 4) (num f 5) (num f 6) (num f 7))) (Command.PokeSession (num f 2) (session_of (num f 3) (num f 4) (num f 5) (num f 6) (num f 7)))
-pokes (Head.Plain Name.PokeNode) f = then_some (eqb f.count 8 && (ltb (num f 1) 16 && (ltb (num f 2) 5 && (ltb (num f 3) 2 && (ltb (num f 4) 2 && (ltb (num f 5) 65536 && ltb (num f 7) 3)))))) (Command.PokeNode (num f 1) (num f 2) (eqb (num f 3) 1) (eqb (num f 4) 1) (num f 5) (num f 6) (num f 7))
+pokes (Head.Plain Name.PokeNode) f = then_some (eqb f.count 8 && (ltb (num f 1) 16 && (ltb (num f 2) 5 && (ltb (num f 3) 2 && (ltb (num f 4) 2 && (ltb (num f 5) 65536 && ltb (num f 7) 3)))))) (Command.PokeNode (num f 1) (state_of (num f 2)) (eqb (num f 3) 1) (eqb (num f 4) 1) (num f 5) (num f 6) (transfer_of (num f 7)))
 pokes _ f = None
 
 -- The further fields of the pool and of a node: what they are, put into them; and how long the parts of a map are.

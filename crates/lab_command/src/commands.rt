@@ -1,6 +1,6 @@
 // A line of a history to the command that it is.
 ghost use Rattle.std.specs.Prelude.{◌≡◌};
-ghost use Rattle.lab_command.specs.Commands.{looks as Commands·looks, stores as Commands·stores, pokes as Commands·pokes, fields as Commands·fields, checks as Commands·checks, words as Commands·words, said as Commands·said, command_of};
+ghost use Rattle.lab_command.specs.Commands.{looks as Commands·looks, stores as Commands·stores, transfer_of as Commands·transfer_of, pokes as Commands·pokes, fields as Commands·fields, checks as Commands·checks, words as Commands·words, said as Commands·said, command_of};
 
 use crate::events;
 use lab_form::Head::{Pair, Plain};
@@ -58,6 +58,17 @@ fn stores(f: Form) -> Option<Command>
     })
 }
 
+// 0: nothing in hand. 1: in hand, and nothing taken. 2: in hand, and the whole map taken.
+fn transfer_of(x: u64) -> Option<u64>
+    ensures { result ≡ Commands·transfer_of x }
+{
+    match x {
+        0 => None,
+        1 => Some(0),
+        _ => Some(8192),
+    }
+}
+
 // A session put into the client's state, and a node's state.
 #[tactic(auto, unfolding(crate::specs::Commands::pokes))]
 fn pokes(f: Form) -> Option<Command>
@@ -65,20 +76,19 @@ fn pokes(f: Form) -> Option<Command>
 {
     let [_, x1, x2, x3, x4, x5, x6, x7] = f.x;
     Some(match (f.head, f.count) {
-        (Pair(Name::Poke, Name::Session), 8)
-            if x2 < 16 && event_number::maybe(x3, x4, x5, x6, x7) => Command::PokeSession(
+        (Pair(Name::Poke, Name::Session), 8) if x2 < 16 => Command::PokeSession(
             x2,
-            event_number::session_of(x3, x4, x5, x6, x7),
+            event_number::session_in(x3, x4, x5, x6, x7)?,
         ),
         (Plain(Name::PokeNode), 8)
             if x1 < 16 && x2 < 5 && x3 < 2 && x4 < 2 && x5 < 65536 && x7 < 3 => Command::PokeNode(
             x1,
-            x2,
+            event_words::node_words::state_of(x2),
             x3 == 1,
             x4 == 1,
             x5,
             x6,
-            x7,
+            transfer_of(x7),
         ),
         _ => return None,
     })

@@ -1,4 +1,5 @@
 // Messages to their nodes: a node's event, those that are not awaited, a map in parts, the awaited message, and questions.
+// lent and bench go side by side: lent is the lab's, which lines change; the bench is lent as a whole, to be written.
 ghost use Rattle.std.specs.Prelude.{◌≡◌};
 ghost use Rattle.lab_deliver.specs.Delivery.{answer_at, ran_at, told_at, told_below, outcome, length_at, accepted as Delivery·accepted, passed_at, goes_on, map_passed, ran_by, found_at, found_empty, check_asked, check_answer};
 
@@ -7,6 +8,7 @@ use event::{Event, NodeEvent, Question};
 use event_ask::ask::Finding;
 use event_ask::lending::Lent;
 use lab_places::Bench;
+use rules_base::Refusal;
 use rules_client::Check;
 use rules_node::Answer;
 use rules_pool::Told;
@@ -18,7 +20,7 @@ fn node_event(n: u64, e: NodeEvent, lent: Lent, bench: &mut Bench) -> Answer
     ensures after { bench.new ≡ ran_at n e lent bench.old }
 {
     if 15 < n {
-        return Answer::Refused(3);
+        return Answer::Refused(Refusal::BadId.number());
     }
     lab_lend::node_event::node_event(n, lent, e, bench)
 }
@@ -113,7 +115,7 @@ pub fn run(errand: Option<Errand>, cut: u64, lent: Lent, bench: &mut Bench) -> A
     ensures { outcome result bench.new ≡ ran_by errand cut lent bench.old }
 {
     match errand {
-        None => Answer::Refused(3),
+        None => Answer::Refused(Refusal::BadId.number()),
         Some(Errand::Event(n, event)) => node_event(n, event, lent, bench),
         Some(Errand::Map(source, receiver, given)) => {
             let w = Way {
@@ -133,7 +135,7 @@ pub fn ask(n: u64, q: Question, lent: Lent, bench: &Bench) -> Finding
     ensures { result ≡ found_at n q lent bench.now }
 {
     if 15 < n {
-        return Finding::Refused(3);
+        return Finding::Refused(Refusal::BadId.number());
     }
     event_ask::ask::ask(bench.node_in(n), n, lent, q, &bench.maps, &bench.stagings)
 }
@@ -148,12 +150,12 @@ fn found_empty(f: Finding) -> bool
 pub fn check_asked(k: Check) -> u64
     ensures { result ≡ check_asked k }
 {
-    map_numbers::sets::lowest(k.due as u64)
+    map_numbers::sets::lowest(u64::from(k.due))
 }
 
 // What the client gets of member m's finding, under the last tick's number.
 pub fn check_event(k: Check, m: u64, f: Finding) -> Event
     ensures { result ≡ check_answer k m f }
 {
-    Event::CheckAnswer(k.tick as u64, m, found_empty(f))
+    Event::CheckAnswer(u64::from(k.tick), m, found_empty(f))
 }

@@ -1,19 +1,12 @@
 // The client's messages as events of their nodes, and a node's answer as the client's.
 ghost use Rattle.std.specs.Prelude.{◌≡◌};
-ghost use Rattle.lab_deliver.specs.Post.{due_if, told_to, errand_of, reply_of};
+ghost use Rattle.lab_deliver.specs.Post.{told_to, errand_of, reply_of};
 
 use event::NodeEvent;
 use map_numbers::sets::has;
 use rules_base::Op;
 use rules_node::Answer;
 use rules_pool::{Message, Reply, Told};
-
-// The event, where the message goes to this node.
-fn due_if(to: bool, e: NodeEvent) -> Option<NodeEvent>
-    ensures { result ≡ due_if to e }
-{
-    to.then_some(e)
-}
 
 // What node i gets of the messages that are not awaited, one event and then another. MAP_CHECK is none of its events: the lab delivers it by a command of its own.
 pub fn told_to(t: Told, i: u64) -> (Option<NodeEvent>, Option<NodeEvent>)
@@ -23,21 +16,24 @@ pub fn told_to(t: Told, i: u64) -> (Option<NodeEvent>, Option<NodeEvent>)
         Told::Nothing | Told::Checks(_, _) => (None, None),
         Told::Marks(set, chunk, list, version) => {
             (
-                due_if(has(set, i), NodeEvent::Write(chunk, list, version)),
+                has(set, i).then_some(NodeEvent::Write(chunk, list, version)),
                 None,
             )
         }
         Told::Clears(set, member, chunk) => {
-            (due_if(has(set, i), NodeEvent::Synced(member, chunk)), None)
+            (
+                has(set, i).then_some(NodeEvent::Synced(member, chunk)),
+                None,
+            )
         }
         Told::Infos(set, op, member) => {
-            (due_if(has(set, i), NodeEvent::PoolInfo(op, member)), None)
+            (has(set, i).then_some(NodeEvent::PoolInfo(op, member)), None)
         }
-        Told::Disable(to) => (due_if(to == i, NodeEvent::MapDisable), None),
-        Told::Off(to) => (due_if(to == i, NodeEvent::Enable0), None),
+        Told::Disable(to) => ((to == i).then_some(NodeEvent::MapDisable), None),
+        Told::Off(to) => ((to == i).then_some(NodeEvent::Enable0), None),
         Told::Extended(others, normals, member, version) => (
-            due_if(has(others, i), NodeEvent::PoolInfo(Op::AddCreate, member)),
-            due_if(has(normals, i), NodeEvent::Fill(member, version)),
+            has(others, i).then_some(NodeEvent::PoolInfo(Op::AddCreate, member)),
+            has(normals, i).then_some(NodeEvent::Fill(member, version)),
         ),
     }
 }

@@ -5,6 +5,7 @@ ghost use Rattle.std.specs.Prelude.{◌≡◌};
 ghost use Rattle.lab_form.specs.Forms.{head_of, form_of};
 
 use event::{Event, NodeEvent, Question};
+use rules_node::State;
 use rules_pool::Session;
 use text_words::lines::{self, Line, Token};
 use text_words::names::Name;
@@ -48,7 +49,7 @@ pub enum Command {
     PokeWritten(bool),
     PokeAssembled(bool),
     PokeSession(u64, Session),
-    PokeNode(u64, u64, bool, bool, u64, u64, u64),
+    PokeNode(u64, State, bool, bool, u64, u64, Option<u64>),
     PokeGot(u64, u64),
     PokeTick(u64),
     PokeDue(u64),

@@ -17,7 +17,7 @@ fn read_from(e: Event) -> Option<u64>
     }
 }
 
-// The event, on the client's map and a node's.
+// The event, on the client's map and a node's. lent is the lab's, which lines change; the bench is lent as a whole, to be written.
 pub fn client_event(c: Client, lent: Lent, e: Event, bench: &mut Bench) -> Out
     ensures value { result ≡ client_hands c lent e bench.old }
     ensures own_after { bench.new ≡ own_after c lent e bench.old }

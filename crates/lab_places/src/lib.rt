@@ -3,13 +3,14 @@
 
 ghost use Rattle.std.specs.Prelude.{◌≡◌};
 ghost use Rattle.lab_places.specs.Fresh.{fresh_nodes as Fresh·fresh_nodes};
-ghost use Rattle.lab_places.specs.Poke.{node_state_of, transfer_of, poked as Poke·poked, poked_got as Poke·poked_got, poked_word as Poke·poked_word};
+ghost use Rattle.lab_places.specs.Poke.{poked as Poke·poked, poked_got as Poke·poked_got, poked_word as Poke·poked_word};
 
 use lab_form::Command;
 use node::StorageNode;
 use rules_node::State;
 
 // Sixteen nodes, and of each a map and a staging map of 8,192 bytes. Only main holds one.
+// No array of a node with its maps: the maps of one kind stand one after another, since an event lends a part of them, and the part is found in such a buffer.
 #[derive(Drop)]
 pub struct Bench {
     pub own: [u8; 8192],
@@ -79,46 +80,24 @@ fn fresh_nodes(chunks: u64) -> [StorageNode; 16]
     nodes
 }
 
-fn state_of(x: u64) -> State
-    ensures { result ≡ node_state_of x }
-{
-    match x {
-        0 => State::Empty,
-        1 => State::Registered,
-        2 => State::Created,
-        3 => State::Normal,
-        _ => State::NoIo,
-    }
-}
-
-fn transfer_of(x: u64) -> Option<u64>
-    ensures { result ≡ transfer_of x }
-{
-    match x {
-        0 => None,
-        1 => Some(0),
-        _ => Some(map_numbers::refusals::MAP_BYTES as u64),
-    }
-}
-
 // A node's state put in, unchecked. Own id, chunk count and kept chunks stay.
 fn poked(
     mut n: StorageNode,
-    state: u64,
+    state: State,
     store: bool,
     create: bool,
     members: u64,
     version: u64,
-    transfer: u64,
+    transfer: Option<u64>,
 ) -> StorageNode
     ensures { result ≡ Poke·poked n state store create members version transfer }
 {
-    n.node.state = state_of(state);
+    n.node.state = state;
     n.node.store = store;
     n.node.create = create;
     n.node.members = members;
     n.node.version = version;
-    n.node.transfer = transfer_of(transfer);
+    n.node.transfer = transfer;
     n
 }
 

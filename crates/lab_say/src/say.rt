@@ -90,7 +90,7 @@ fn put_to(page: &mut Page, t: Told, i: u64)
     ensures { page.new ≡ emits page.old (told_to t i) }
 {
     match t {
-        Told::Nothing => {}
+        Told::Nothing | Told::Disable(_) | Told::Off(_) => {}
         Told::Marks(set, chunk, list, version) => {
             put_in(page, set, i, b" | MARK", &[i, chunk, list, version])
         }
@@ -106,8 +106,6 @@ fn put_to(page: &mut Page, t: Told, i: u64)
                 &[i, event_number::op_number(op), member],
             )
         }
-        Told::Disable(_) => {}
-        Told::Off(_) => {}
         Told::Extended(_, normals, member, version) => {
             put_in(page, normals, i, b" | FILL", &[i, member, version])
         }

@@ -25,7 +25,7 @@ pub fn store(w: Which, i: u64, v: u64, bench: &mut Bench)
     }
 }
 
-// The byte v at i of the nth map of all; there is none past 15, nor a byte past 8,191.
+// The byte v at i of the nth map of all; there is none past 15, nor a byte past 8,191. What is too much is taken off by %: a cast takes only a number that fits.
 fn put(all: &mut [u8], n: u64, i: u64, v: u64)
     ensures { all.new ≡ with_byte n i v all.old }
 {

@@ -59,7 +59,7 @@ impl Lab {
         self
     }
 
-    // What a line that sets the lab up does to it; the others leave it.
+    // What a line that sets the lab up does to it; the others leave it. What is too much is taken off by %: a cast takes only a number that fits.
     pub fn arrange(mut self, c: Command) -> Lab
         ensures { result ≡ arranged self c }
     {

@@ -14,7 +14,7 @@ pub fn pack(c: Client) -> [u64; 32]
 {
     let roster = c.pool.roster;
     let past = roster.past;
-    let job = crate::pool_words::job_words(c.pool.job);
+    let [tag, data, source, left, taken] = crate::pool_words::job_words(c.pool.job);
     let mut ws = [0; 32];
     ws[..16].copy_from_slice(&[
         roster.count,
@@ -25,11 +25,11 @@ pub fn pack(c: Client) -> [u64; 32]
         u64::from(past.assembled),
         u64::from(c.pool.number),
         c.pool.chunks,
-        job[0],
-        job[1],
-        job[2],
-        job[3],
-        job[4],
+        tag,
+        data,
+        source,
+        left,
+        taken,
         u64::from(c.check.tick),
         u64::from(c.check.due),
         u64::from(c.check.once),

@@ -156,6 +156,7 @@ pub fn job_words(j: Job) -> [u64; 5]
     }
 }
 
+// Five numbers and no array: they stand among a client's words, and as an array each would be taken out of it again.
 #[tactic(auto, unfolding(crate::specs::PoolWords::job_of))]
 pub fn job_of(tag: u64, a: u64, b: u64, c: u64, d: u64) -> Job
     ensures { result ≡ job_of tag a b c d }

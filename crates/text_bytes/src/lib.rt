@@ -33,6 +33,7 @@ pub fn number(s: &[u8]) -> Option<u64>
     Some(acc)
 }
 
+// What == of two slices says, in the words of a definition of ours: text_words and status_tool cite it.
 #[tactic(auto, using(crate::proofs::Laws::eq_is))]
 pub fn same(s: &[u8], t: &[u8]) -> bool
     ensures { result ≡ eq_bytes s.now t.now }

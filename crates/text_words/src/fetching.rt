@@ -5,7 +5,7 @@ ghost use Rattle.text_words.specs.Fetching.{started, next_line};
 use std::io;
 use std::io::Read;
 
-// Where the reading stands: the bytes of buf from pos up to end are not looked at yet; len bytes of the line are taken, 256 where there were more than 255.
+// Where the reading stands: the bytes of buf from pos up to end are not looked at yet; len bytes of the line are taken, 256 where there were more than 255. Places in lent buffers, as there is no heap.
 #[derive(Clone, Copy)]
 pub struct Cur {
     pub pos: usize,

@@ -133,7 +133,7 @@ const WORDS: [(&[u8], Name); 62] = [
     (b"summary", Name::Summary),
 ];
 
-// The name of the first word of the table that is s.
+// The name of the first word of the table that is s. By same, which says more than == of two slices in a loop: tried with ==, and the proof did not close.
 fn find(table: &[(&[u8], Name)], s: &[u8]) -> Option<Name>
     ensures { result ≡ named (map (λ k. (k.0.now, k.1)) table.now) s.now }
 {
