@@ -65,7 +65,7 @@ pub fn clear(map: &mut [u8], m: u64, c: u64)
     }
 }
 
-// Marks chunk c for each member of the set.
+// Marks chunk c for each member of the set. A loop: a walk over the ids that takes a closure on the lent map reads no plainer.
 #[tactic(auto, unfolding(rules_base::specs::Chunk::marked_for, rules_base::specs::Chunk::each))]
 pub fn mark_for(map: &mut [u8], set: u64, c: u64)
     ensures { map.new ≡ marked_for map.old set c }

@@ -1,4 +1,4 @@
-// Numbers chosen by a test, the first refusal, sets of member ids.
+// Numbers chosen by a test, the limits, sets of member ids.
 #![tactic(auto)]
 
 pub mod numbers;

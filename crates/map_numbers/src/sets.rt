@@ -41,6 +41,7 @@ pub fn size(set: u64) -> u64
     ensures value { result ≡ size set }
     ensures upper_bound { result ≤ 16 }
 {
+    // Tried as count_ones of the sixteen bits: the proof did not close but by a table of all 65,536 sets.
     let mut n: u64 = 0;
     for i in 0..16 {
         n += u64::from(has(set, i));
@@ -48,11 +49,12 @@ pub fn size(set: u64) -> u64
     n
 }
 
-// The lowest id of the set, 16 where it holds none.
+// The lowest id of the set, 16 where it holds none. A number and no Option: the rules' lowest is one, and their statements compute with its 16.
 #[tactic(auto, unfolding(rules_base::specs::Sets::lowest), using(crate::proofs::Lowest::lowest_found))]
 pub fn lowest(set: u64) -> u64
     ensures { result ≡ lowest set }
 {
+    // Tried as trailing_zeros of the set with bit 16: the proof did not close.
     for i in 0..16 {
         if has(set, i) {
             return i;

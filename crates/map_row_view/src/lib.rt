@@ -2,9 +2,10 @@
 // part; the functions at the end have plain parameters and serve every other caller. A row is a map of one row, that of member 0.
 #![tactic(auto)]
 
-ghost use Rattle.std.specs.Prelude.{◌≡◌, eqb};
+ghost use Rattle.std.specs.Prelude.{◌≡◌, true, false, eqb, MatchOption};
 ghost use Rattle.rules_base.specs.Chunk.{dirty, count};
-ghost use Rattle.map_row_view.specs.Row.{step_at, row_count, row_bit, row_next};
+ghost use Rattle.rules_base.specs.Map.{row_of};
+ghost use Rattle.map_row_view.specs.Row.{has_row, step_at, row_count, row_bit, row_next};
 
 #[derive(Clone, Copy)]
 pub struct Row<'a> {
@@ -40,28 +41,28 @@ pub fn next<'a>(r: Row<'a>, at: usize) -> Option<u8>
 }
 
 // ---- one member's row of a whole map; there is none where the map is of another length or the id above 15, which is told apart from a clean row
+fn row_in<'a>(map: &'a [u8], m: u64) -> Option<Row<'a>>
+    ensures { MatchOption result (has_row map.now m ≡ false) (λ r. (has_row map.now m ≡ true) × (r.bytes.now ≡ row_of map.now m)) }
+{
+    let row = map_whole::maps::row(map, m);
+    if row.len() != 512 {
+        return None;
+    }
+    Some(view(row))
+}
+
 #[tactic(auto, unfolding(crate::specs::Row::row_count))]
 pub fn row_count(map: &[u8], m: u64) -> Option<u64>
     ensures { result ≡ row_count map.now m }
 {
-    let row = map_whole::maps::row(map, m);
-    if row.len() == 512 {
-        Some(counted(view(row)))
-    } else {
-        None
-    }
+    Some(counted(row_in(map, m)?))
 }
 
 #[tactic(auto, unfolding(crate::specs::Row::row_bit))]
 pub fn row_is_dirty(map: &[u8], m: u64, c: u64) -> Option<bool>
     ensures { result ≡ row_bit map.now m c }
 {
-    let row = map_whole::maps::row(map, m);
-    if row.len() == 512 {
-        Some(is_dirty(view(row), c))
-    } else {
-        None
-    }
+    Some(is_dirty(row_in(map, m)?, c))
 }
 
 // What stands at a place of it. The outer None says that there is no such row, the inner one that the row ends before.
@@ -69,10 +70,5 @@ pub fn row_is_dirty(map: &[u8], m: u64, c: u64) -> Option<bool>
 pub fn row_next(map: &[u8], m: u64, at: usize) -> Option<Option<u8>>
     ensures { result ≡ row_next map.now m at }
 {
-    let row = map_whole::maps::row(map, m);
-    if row.len() == 512 {
-        Some(next(view(row), at))
-    } else {
-        None
-    }
+    Some(next(row_in(map, m)?, at))
 }

@@ -1,5 +1,6 @@
 // How summaries follow a chunk that was marked or cleared, for one member or for those of a set: the places above it are marked anew, each set exactly when one of the sixteen below it
-// is. Every public function takes a map of any length and any number.
+// is. Every public function takes a map of any length and any number. Words, map, m, level and i
+// stay five parameters: the words are lent to be changed here and to be read elsewhere, so a struct of them would be two structs.
 ghost use Rattle.std.specs.Prelude.{◌≡◌, ◌-◌, ◌*◌, ◌<◌, ◌≤◌};
 ghost use Rattle.rules_base.specs.Summary.{some, size, lit};
 ghost use Rattle.rules_base.specs.Mend.{bit_put, put, renewed, mended, mended_for};
@@ -50,10 +51,7 @@ fn renew(words: &mut Summaries, map: &[u8], m: u64, level: u64, i: u64)
 pub fn mend(words: &mut Summaries, map: &[u8], m: u64, c: u64)
     ensures { words.new ≡ mended map.now m c words.old }
 {
-    if 15 < m {
-        return;
-    }
-    if 4095 < c {
+    if 15 < m || 4095 < c {
         return;
     }
     renew(words, map, m, 1, c / 16);
@@ -61,7 +59,7 @@ pub fn mend(words: &mut Summaries, map: &[u8], m: u64, c: u64)
     renew(words, map, m, 3, 0);
 }
 
-// Chunk c was marked or cleared for each member of the set.
+// Chunk c was marked or cleared for each member of the set. A loop: a walk over the ids that takes a closure on the lent words reads no plainer.
 pub fn mend_for(words: &mut Summaries, map: &[u8], set: u64, c: u64)
     ensures { words.new ≡ mended_for map.now set c words.old }
 {

@@ -29,12 +29,10 @@ fn groups(map: &[u8], m: u64, k: u64) -> u64
     let from = (512 * m + 128 * k) as usize;
     let within = from + 128 <= map.len();
     let mut got: u64 = 0;
-    let mut digit: u64 = 1;
     for i in 0..64 {
         if pair(map, within, from + 2 * i) != 0 {
-            got |= digit;
+            got |= 1u64 << i;
         }
-        digit <<= 1;
     }
     got
 }
@@ -67,7 +65,7 @@ fn word_at(words: &Summaries, map: &[u8], j: u64) -> u64
         return over(words, m);
     }
     let below = words[(6 * m + 4) as usize];
-    if below == 0 { 0 } else { 1 }
+    u64::from(below != 0)
 }
 
 // The summaries of the map.
@@ -133,7 +131,7 @@ fn is_set(words: &Summaries, b: u64) -> bool
     (words[(b / 64) as usize] >> (b % 64)) % 2 == 1
 }
 
-// Whether the place is marked as dirty: a chunk by its own bit in the map, any other place by its bit in the summaries.
+// Whether the place is marked as dirty: a chunk by its own bit in the map, any other place by its bit in the summaries. Five parameters and no struct: mending.rt says why.
 pub fn lit(words: &Summaries, map: &[u8], m: u64, level: u64, i: u64) -> bool
     ensures { result ≡ lit words.now map.now m level i }
 {

@@ -7,14 +7,12 @@ ghost use Rattle.rules_base.specs.Scan.{or_to, row_spare};
 use map_numbers::refusals::MAP_BYTES;
 
 // Zeroes the bytes from a up to e, as far as the map goes.
-#[tactic(auto, unfolding(rules_base::specs::Map::zero_from))]
 fn zero_from(map: &mut [u8], a: usize, e: usize)
+    requires { a ≤ e }
     ensures { map.new ≡ zero_from a e map.old }
 {
-    // As a fill it would need a test that a is within the map.
-    for i in a..e.min(map.len()) {
-        map[i] = 0;
-    }
+    let n = map.len();
+    map[a.min(n)..e.min(n)].fill(0);
 }
 
 // Zeroes member m's row.
@@ -29,7 +27,7 @@ pub fn zero_row(map: &mut [u8], m: u64)
     zero_from(map, a, a + 512);
 }
 
-// Zeroes every row outside the set.
+// Zeroes every row outside the set. A loop: a walk over the ids that takes a closure on the lent map reads no plainer.
 #[tactic(auto, unfolding(rules_base::specs::Map::rows_kept, rules_base::specs::Chunk::each))]
 pub fn keep_rows(map: &mut [u8], set: u64)
     ensures { map.new ≡ rows_kept set map.old }

@@ -18,7 +18,7 @@ pub fn or_part(map: &mut [u8], offset: u64, part: &[u8])
     ensures { map.new ≡ or_part offset part.now map.old }
 {
     let a = offset as usize;
-    // An index: the byte of the map has another than the part's.
+    // An index: tried as a zip with the map's own bytes, of which no proof is told what they are after the loop.
     for i in a..map.len().min(a.saturating_add(part.len())) {
         map[i] |= part[i - a];
     }
@@ -29,9 +29,8 @@ pub fn is_clean(part: &[u8], n: u64, offset: u64) -> bool
     ensures { result ≡ clean_from n offset part.now }
 {
     let mut ok = true;
-    // An index: the byte's place in the map is needed.
-    for i in 0..part.len() {
-        ok = ok & byte_ok(n, offset, i, part[i]);
+    for (i, x) in part.iter().enumerate() {
+        ok &= byte_ok(n, offset, i, *x);
     }
     ok
 }

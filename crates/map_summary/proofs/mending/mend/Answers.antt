@@ -6,14 +6,14 @@ use native.Mathlib.Omega.{arith}
 use mathlib.Core.Path.{ap, ◌∙◌}
 use borrow.Author.Rules.{rules}
 use Rattle.map_summary.proofs.mending.mend.Goals as goal
+use Rattle.map_summary.proofs.mending.mend.Goals.{then-m-gt15-via-then-m-gt15, then-m-gt15-via-else-m-gt15+then-c-gt4095}
 
 pub returns-then-m-gt15 : goal.returns-then-m-gt15
 unfolding mended
-returns-then-m-gt15 c = rw (there-no-member _ _ c.if-m-gt15.true)
-
-pub returns-then-c-gt4095 : goal.returns-then-c-gt4095
-unfolding mended
-returns-then-c-gt4095 c = rw (there-no-chunk _ _ c.if-c-gt4095.true)
+returns-then-m-gt15 c = elim c.then-m-gt15.branch [
+  | then-m-gt15-via-then-m-gt15 w ↦ rw (there-no-member _ _ w.if-m-gt15.true)
+  | then-m-gt15-via-else-m-gt15+then-c-gt4095 w ↦ rw (there-no-chunk _ _ w.if-c-gt4095.true)
+]
 
 pub renew-requires : goal.renew-requires
 unfolding size

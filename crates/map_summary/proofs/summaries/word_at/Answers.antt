@@ -1,4 +1,9 @@
-use mathlib.Core.Path.{sym, ◌∙◌}
+use mathlib.Core.Path.{◌≡◌, sym, ◌∙◌}
+use Prim.Native.Nat.{ℕ, ◌+◌, ◌*◌, ◌/◌}
+use lib.Dec.{eqb}
+use lib.ListN.{get_or}
+use borrow.Author.Tests.{eqb-true, eqb-false}
+use Rattle.laws_words.specs.Tests.{by_cases}
 use native.Mathlib.Omega.{arith}
 use Rattle.rules_base.proofs.Words.{at-groups}
 use Rattle.rules_base.proofs.Meaning.{over-is, root-clear, root-set}
@@ -10,8 +15,10 @@ returns-then-k-lt4 c = let s = c.args in rw (at-groups s.map.now s.j c.if-k-lt4.
 pub returns-then-k-eq4 : goal.returns-then-k-eq4
 returns-then-k-eq4 c = let s = c in c.over.ensures ∙ over-is s.args.words.now s.args.map.now s.args.j s.requires.1 c.if-k-eq4.true
 
-pub returns-then-below-eq0 : goal.returns-then-below-eq0
-returns-then-below-eq0 c = let s = c in sym (root-clear s.args.words.now s.args.map.now s.args.j s.requires.1 (omega arith) c.if-below-eq0.true)
-
-pub returns-else-below-eq0 : goal.returns-else-below-eq0
-returns-else-below-eq0 c = let s = c in sym (root-set s.args.words.now s.args.map.now s.args.j s.requires.1 (omega arith) c.if-below-eq0.false)
+pub returns : goal.returns
+returns c =
+    let s = c.args in
+    let x : ℕ = get_or s.words.now (6 * (s.j / 6) + 4) 0 in
+    by_cases (eqb x 0)
+    (λ e. let z : c.from.result ≡ 0 = rw e at c.from.ensures in z ∙ sym (root-clear s.words.now s.map.now s.j c.requires.1 (omega arith) (eqb-true x 0 e)))
+    (λ e. let z : c.from.result ≡ 1 = rw e at c.from.ensures in z ∙ sym (root-set s.words.now s.map.now s.j c.requires.1 (omega arith) (eqb-false x 0 e)))
