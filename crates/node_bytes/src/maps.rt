@@ -1,7 +1,7 @@
 // What a node's events do to its two maps, carried out by the functions of `maps`. Every function takes maps of any length.
-ghost use Rattle.std.specs.Prelude.{◌≡◌, ◌<◌};
+ghost use Rattle.std.specs.Prelude.{◌≡◌};
 ghost use Rattle.rules_base.specs.Map.{rows_kept, copied};
-ghost use Rattle.rules_node.specs.Carry.{last_io, last_io_at, last_ios, map_after, staging_after, taken_in};
+ghost use Rattle.rules_node.specs.Carry.{last_io, last_ios, map_after, staging_after, taken_in};
 
 use rules_node::{Effect, Node, OnMap, OnStaging};
 
@@ -65,19 +65,9 @@ pub fn take_in(e: OnStaging, part: &[u8], staging: &mut [u8])
 fn last_ios(n: Node, chosen: u64, map: &mut [u8])
     ensures { map.new ≡ last_ios n chosen map.old }
 {
-    // An index: its place says whether a chunk is kept.
-    for i in 0..16usize {
-        last_io_at(n, chosen, i, map);
-    }
-}
-
-#[tactic(auto, unfolding(rules_node::specs::Carry::last_io_at))]
-fn last_io_at(n: Node, chosen: u64, i: usize, map: &mut [u8])
-    requires { i < 16 }
-    ensures { map.new ≡ last_io_at n chosen i map.old }
-{
-    if (16 - i) as u64 <= n.held {
-        last_io(n.members, chosen, n.kept[i], map);
+    let from = 16u64.saturating_sub(n.held) as usize;
+    for chunk in &n.kept[from..] {
+        last_io(n.members, chosen, *chunk, map);
     }
 }
 

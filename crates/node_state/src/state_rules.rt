@@ -1,6 +1,7 @@
 // The node's state rules.
-ghost use Rattle.std.specs.Prelude.{◌≡◌, ◌<◌};
-ghost use Rattle.rules_node.specs.StateRules.{place_ok, kept_ok, store_ok, standing, valid};
+ghost use Rattle.std.specs.Prelude.{◌≡◌, ltb};
+ghost use Rattle.std.specs.List.{list_all};
+ghost use Rattle.rules_node.specs.StateRules.{kept_ok, store_ok, standing, valid};
 
 use crate::states;
 use rules_node::{Node, State};
@@ -51,17 +52,11 @@ fn store_ok(s: State, store: bool) -> bool
 fn kept_ok(n: Node) -> bool
     ensures { result ≡ kept_ok n }
 {
-    let mut ok = n.held <= 16;
-    // An index: its place says whether a chunk is kept.
-    for i in 0..16usize {
-        ok = ok && place_ok(n, i);
-    }
-    ok
+    n.held <= 16 && all_below(&n.kept[16 - n.held as usize..], n.chunks)
 }
 
-fn place_ok(n: Node, i: usize) -> bool
-    requires { i < 16 }
-    ensures { result ≡ place_ok n i }
+fn all_below(kept: &[u64], chunks: u64) -> bool
+    ensures { result ≡ list_all (λ c. ltb c chunks) kept.now }
 {
-    n.held < (16 - i) as u64 || n.kept[i] < n.chunks
+    kept.iter().all(|chunk| *chunk < chunks)
 }
