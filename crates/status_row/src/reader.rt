@@ -3,7 +3,8 @@ ghost use Rattle.std.specs.Prelude.{◌≡◌, true, ◌+◌, ◌<◌, ◌≤◌
 ghost use Rattle.status_row.specs.Descriptors.{word_at, descs_of};
 ghost use Rattle.status_row.specs.Reading.{desc_good, status_good, flags_of, stored, painted, read_answer, read_leaves};
 
-use crate::descriptors::{Refused, Volume, row_sound};
+use crate::descriptors::{Volume, row_sound};
+use rules_base::Refusal;
 
 // Reads 32 bits, big-endian.
 fn get32(bytes: &[u8], at: usize) -> u64
@@ -13,11 +14,12 @@ fn get32(bytes: &[u8], at: usize) -> u64
     u64::from(u32::from_be_bytes([bytes[at], bytes[at + 1], bytes[at + 2], bytes[at + 3]]))
 }
 
+#[tactic(auto, unfolding(crate::specs::Reading::desc_good))]
 fn desc_good(s: u64, b: u64, f: u64) -> bool
     requires { 0 < s }
     ensures { result ≡ desc_good s b f }
 {
-    (b != 0) & ((b % s == 0) & (f < 2))
+    b != 0 && b % s == 0 && f < 2
 }
 
 // Whether the bytes are descriptors of the volume. Chunks are counted, and no further than its count.
@@ -80,18 +82,15 @@ fn fill(bytes: &[u8], v: Volume, row: &mut [u8])
     }
 }
 
-// Reads the descriptors of the volume into a lent row; where it refuses, the row is untouched.
-pub fn read(bytes: &[u8], v: Volume, row: &mut [u8]) -> Result<(), Refused>
+// Reads the descriptors of the volume into a lent row; where it refuses, the row is untouched: BadMap is of the row, BadStatus of the volume or its descriptors.
+pub fn read(bytes: &[u8], v: Volume, row: &mut [u8]) -> Result<(), Refusal>
     ensures { (result ≡ read_answer v.chunks v.size bytes.now row.old) × (row.new ≡ read_leaves v.chunks v.size bytes.now row.old) }
 {
     if !row_sound(row, v.chunks) {
-        return Err(Refused::Row);
+        return Err(Refusal::BadMap);
     }
-    if !v.good() {
-        return Err(Refused::Volume);
-    }
-    if !status_good(bytes, v) {
-        return Err(Refused::Volume);
+    if !v.good() || !status_good(bytes, v) {
+        return Err(Refusal::BadStatus);
     }
     fill(bytes, v, row);
     Ok(())
