@@ -17,6 +17,7 @@ pub fn row_sound(row: &[u8], n: u64) -> bool
     if row.len() != 512 {
         return false;
     }
+    // Tried as all of the range: the proof did not close.
     for c in n..4096 {
         if flag(row, c) != 0 {
             return false;

@@ -1,5 +1,5 @@
 // Block status descriptors read back into a row. The public function takes slices of any length and any numbers.
-ghost use Rattle.std.specs.Prelude.{◌≡◌, true, ◌+◌, ◌<◌, ◌≤◌, length, replicate};
+ghost use Rattle.std.specs.Prelude.{◌≡◌, true, ◌+◌, ◌*◌, ◌<◌, ◌≤◌, length, replicate};
 ghost use Rattle.status_row.specs.Descriptors.{word_at, descs_of};
 ghost use Rattle.status_row.specs.Reading.{desc_good, status_good, flags_of, stored, painted, read_answer, read_leaves};
 
@@ -12,6 +12,14 @@ fn get32(bytes: &[u8], at: usize) -> u64
     ensures { (result ≡ word_at bytes.now at) × (result < 4294967296) }
 {
     u64::from(u32::from_be_bytes([bytes[at], bytes[at + 1], bytes[at + 2], bytes[at + 3]]))
+}
+
+// Descriptor i: its bytes and its flags. By its place, as the definitions count them.
+fn desc_at(bytes: &[u8], i: usize) -> (u64, u64)
+    requires { 8 * i + 8 ≤ length bytes.now }
+    ensures { ((result.0 ≡ word_at bytes.now (8 * i)) × (result.0 < 4294967296)) × (result.1 ≡ word_at bytes.now (8 * i + 4)) }
+{
+    (get32(bytes, 8 * i), get32(bytes, 8 * i + 4))
 }
 
 #[tactic(auto, unfolding(crate::specs::Reading::desc_good))]
@@ -32,8 +40,7 @@ fn status_good(bytes: &[u8], v: Volume) -> bool
     }
     let mut c: u64 = 0;
     for i in 0..bytes.len() / 8 {
-        let b = get32(bytes, 8 * i);
-        let f = get32(bytes, 8 * i + 4);
+        let (b, f) = desc_at(bytes, i);
         if !desc_good(v.size, b, f) {
             return false;
         }
@@ -74,8 +81,7 @@ fn fill(bytes: &[u8], v: Volume, row: &mut [u8])
 {
     let mut c: u64 = 0;
     for i in 0..bytes.len() / 8 {
-        let b = get32(bytes, 8 * i);
-        let f = get32(bytes, 8 * i + 4);
+        let (b, f) = desc_at(bytes, i);
         let k = b / v.size;
         paint(row, c, k, f);
         c += k;
