@@ -12,12 +12,13 @@ use Rattle.laws_words.specs.Bits.{upto-at}
 use Rattle.laws_words.specs.Tests.{by_cases, and-false}
 use Rattle.text_bytes.specs.Ink.{dec_from, decimal, joined}
 use Rattle.text_bytes.proofs.Meaning.{joined_length, decimal-length}
-use Rattle.compare_walk.specs.Dumps.{dumps_refusal, number}
+use Rattle.rules_base.specs.Refusals.{number}
+use Rattle.compare_walk.specs.Dumps.{dumps_refusal}
 use Rattle.std.specs.Prelude.{Result, Ok, Err, Option, Some, None}
 use Rattle.compare_walk.proofs.DumpsLaws.{short, taken, good}
 use Rattle.compare_walk.specs.declared.differences.Difference.{Difference}
 use Rattle.compare_walk.specs.declared.differences.Dump.{Dump}
-use Rattle.compare_walk.specs.declared.dumps.Refused.{Refused}
+use Rattle.rules_base.specs.declared.Refusal.{Refusal}
 use Rattle.compare_walk.specs.Differences.{dump_number, difference_at, first_place, next_difference, list_from, differences}
 use Rattle.compare_walk.proofs.Places.{list_on, list-here, at_place, hop-none, hop-found, is_found, is-over, next-taken, next-refused}
 use Rattle.compare_say.specs.Said.{line_text, lines_text, member_text, head_of, head_text, both_whole, answer_text}
@@ -129,7 +130,7 @@ lines-length xs ys (suc n) p h =
     (λ e. rw (list-here xs ys p n e, lines_cons (difference_at xs ys p) (list_from xs ys (suc p) n), length-append (line_text (difference_at xs ys p)) (lines_text (list_from xs ys (suc p) n)))
     (omega (arith, line-length xs ys p (omega arith))))
 
-head-length : (a : Result (Option Difference) Refused) → length (head_of a) ≤ 40960
+head-length : (a : Result (Option Difference) Refusal) → length (head_of a) ≤ 40960
 unfolding joined
 head-length (Err r) = rw (joined_length (_ ∷ decimal (number r) ∷ (10 ∷ []) ∷ [])) (omega (arith, decimal-length (number r)))
 head-length (Ok (Some d)) = omega arith

@@ -13,7 +13,7 @@ use Rattle.compare_walk.specs.Dumps.{dumps_refusal}
 use Rattle.std.specs.Prelude.{Result, Ok, Err, Option, Some, None}
 use Rattle.compare_walk.proofs.DumpsLaws.{good}
 use Rattle.compare_walk.specs.declared.differences.Difference.{Difference}
-use Rattle.compare_walk.specs.declared.dumps.Refused.{Refused}
+use Rattle.rules_base.specs.declared.Refusal.{Refusal}
 use Rattle.compare_walk.specs.Differences.{difference_at, first_place, place_of, next_difference, list_from}
 use Rattle.compare_walk.proofs.Places.{place-from, hop-none, hop-found, is_found, is-over, next-taken, next-refused}
 use Rattle.compare_say.specs.Said.{line_text, lines_text, member_text}
@@ -29,13 +29,13 @@ record At (xs ys : List ℕ) (m c : ℕ) (d : Difference) : Type 0 where
   is : d ≡ difference_at xs ys (stop xs ys m c)
 
 -- two different answers
-not_found : {P : Type 0} {a : Result (Option Difference) Refused} {n : Refused} {d : Difference} → a ≡ Err n → a ≡ Ok (Some d) → P
+not_found : {P : Type 0} {a : Result (Option Difference) Refusal} {n : Refusal} {d : Difference} → a ≡ Err n → a ≡ Ok (Some d) → P
 not_found p q = let z : ◌≡◌ {A = ℕ} 0 1 = cc in absurd (omega arith)
 
-not-over : {P : Type 0} {a : Result (Option Difference) Refused} {n : Refused} → a ≡ Err n → a ≡ Ok None → P
+not-over : {P : Type 0} {a : Result (Option Difference) Refusal} {n : Refusal} → a ≡ Err n → a ≡ Ok None → P
 not-over p q = let z : ◌≡◌ {A = ℕ} 0 1 = cc in absurd (omega arith)
 
-over-not-found : {P : Type 0} {a : Result (Option Difference) Refused} {d : Difference} → a ≡ Ok None → a ≡ Ok (Some d) → P
+over-not-found : {P : Type 0} {a : Result (Option Difference) Refusal} {d : Difference} → a ≡ Ok None → a ≡ Ok (Some d) → P
 over-not-found p q = let z : ◌≡◌ {A = ℕ} 0 1 = cc in absurd (omega arith)
 
 at : (xs ys : List ℕ) (m c : ℕ) (d : Difference) → next_difference xs ys m c ≡ Ok (Some d) → At xs ys m c d
@@ -65,7 +65,7 @@ lined-start xs ys m k = let a : 4096 * m + 0 ≡ 4096 * m = omega arith in recor
 ended : {xs ys : List ℕ} {m c : ℕ} {r k : Ink} → Lined xs ys m r k c → left xs ys m c ≡ [] → k ≡ r
 ended {k = k} v e = sym (emits-end k) ∙ (rw e at v.rest)
 
-pub lined-refused : {xs ys : List ℕ} {m c : ℕ} {n : Refused} {r k : Ink} → Lined xs ys m r k c → next_difference xs ys m c ≡ Err n → k ≡ r
+pub lined-refused : {xs ys : List ℕ} {m c : ℕ} {n : Refusal} {r k : Ink} → Lined xs ys m r k c → next_difference xs ys m c ≡ Err n → k ≡ r
 lined-refused {xs} {ys} {m} {c} v e =
     by_cases (eqb (dumps_refusal xs ys m) 0)
     (λ a. let t = next-taken xs ys m c (eqb-true (dumps_refusal xs ys m) 0 a) in

@@ -4,9 +4,10 @@ use Rattle.laws_words.specs.Words.{pick}
 use Rattle.text_bytes.specs.Bytes.{bytes}
 use Rattle.text_bytes.specs.Ink.{decimal, joined}
 use Rattle.rules_base.specs.Limits.{map_bytes}
-use Rattle.compare_walk.specs.Dumps.{dumps_refusal, number}
+use Rattle.rules_base.specs.Refusals.{number}
+use Rattle.compare_walk.specs.Dumps.{dumps_refusal}
 use Rattle.compare_walk.specs.declared.differences.Difference.{Difference}
-use Rattle.compare_walk.specs.declared.dumps.Refused.{Refused}
+use Rattle.rules_base.specs.declared.Refusal.{Refusal}
 use Rattle.compare_walk.specs.Differences.{dump_number, next_difference, list_from, differences}
 
 -- MEMBER CHUNK WHICH and a newline: 32 is a space, 10 the newline
@@ -22,7 +23,7 @@ unfoldable pub member_text : List ℕ → List ℕ → ℕ → List ℕ
 member_text xs ys m = pick (eqb (dumps_refusal xs ys m) 0) (lines_text (list_from xs ys (4096 * m) 4096)) []
 
 -- what comes before the lines
-abbrev pub head_of : Result (Option Difference) Refused → List ℕ
+abbrev pub head_of : Result (Option Difference) Refusal → List ℕ
 head_of (Err r) = joined (bytes "refused " ∷ decimal (number r) ∷ (10 ∷ []) ∷ [])
 head_of (Ok (Some d)) = []
 head_of (Ok None) = joined (bytes "same" ∷ (10 ∷ []) ∷ [])

@@ -10,7 +10,7 @@ use lib.ListN.{length}
 use borrow.Author.Tests.{eq-eqb, ne_eqb, lt-ltb, le-ltb, ltb-true, ltb-false}
 use Rattle.laws_words.specs.Tests.{by_cases, clash}
 use Rattle.compare_walk.specs.Dumps.{dumps_refusal, refused_by, dumps_taken}
-use Rattle.compare_walk.specs.declared.dumps.Refused.{Refused}
+use Rattle.rules_base.specs.declared.Refusal.{Refusal}
 use Rattle.std.specs.Prelude.{Ok, Err, Option, Some, None, is_none}
 use Rattle.compare_walk.proofs.DumpsLaws.{taken}
 use Rattle.compare_walk.specs.declared.differences.Dump.{Dump}
@@ -112,7 +112,7 @@ pub next-refused : (xs ys : List ℕ) (m c n : ℕ) → (n ≡ 0 → ⊥) → du
 unfolding next_difference
 next-refused xs ys m c n h e = rw (e, ne_eqb n 0 h)
 
-pub next-err : (xs ys : List ℕ) (m c : ℕ) (r : Refused) → dumps_taken xs ys m ≡ Err r → next_difference xs ys m c ≡ Err r
+pub next-err : (xs ys : List ℕ) (m c : ℕ) (r : Refusal) → dumps_taken xs ys m ≡ Err r → next_difference xs ys m c ≡ Err r
 unfolding dumps_taken next_difference
 next-err xs ys m c r e =
     by_cases (eqb (dumps_refusal xs ys m) 0)

@@ -6,7 +6,7 @@ use Rattle.rules_base.specs.Chunk.{dirty}
 use Rattle.compare_walk.specs.Dumps.{dumps_refusal, refused_by}
 use Rattle.compare_walk.specs.declared.differences.Difference.{Difference}
 use Rattle.compare_walk.specs.declared.differences.Dump.{Dump}
-use Rattle.compare_walk.specs.declared.dumps.Refused.{Refused}
+use Rattle.rules_base.specs.declared.Refusal.{Refusal}
 
 -- the number of a dump, as it is printed
 abbrev pub dump_number : Dump → ℕ
@@ -41,7 +41,7 @@ abbrev pub place_of : ℕ → ℕ → ℕ
 place_of m c = 4096 * m + min c 4096
 
 -- the first difference at or after member m's chunk c; two dumps or a member that are refused give the refusal
-unfoldable pub next_difference : List ℕ → List ℕ → ℕ → ℕ → Result (Option Difference) Refused
+unfoldable pub next_difference : List ℕ → List ℕ → ℕ → ℕ → Result (Option Difference) Refusal
 next_difference xs ys m c = pick (eqb (dumps_refusal xs ys m) 0) (Ok (told xs ys (first_place xs ys (place_of m c) (65536 - place_of m c)))) (Err (refused_by (dumps_refusal xs ys m)))
 
 -- ---- all of them
@@ -54,7 +54,7 @@ unfoldable pub differences : List ℕ → List ℕ → List Difference
 differences xs ys = list_from xs ys 0 65536
 
 -- a difference that was found, with those that follow it
-abbrev pub with_rest : Result (Option Difference) Refused → (Difference → List Difference) → List Difference
+abbrev pub with_rest : Result (Option Difference) Refusal → (Difference → List Difference) → List Difference
 with_rest (Err r) rest = []
 with_rest (Ok (Some d)) rest = d ∷ rest d
 with_rest (Ok None) rest = []

@@ -3,7 +3,7 @@ use Rattle.std.specs.Prelude.{◌≡◌, ◌⊎◌, Ok, Err, Some, None, List, [
 use Rattle.rules_base.specs.Chunk.{dirty}
 use Rattle.compare_walk.specs.declared.differences.Difference.{Difference}
 use Rattle.compare_walk.specs.declared.differences.Dump.{Dump}
-use Rattle.compare_walk.specs.declared.dumps.Refused.{Refused}
+use Rattle.rules_base.specs.declared.Refusal.{Refusal}
 use Rattle.compare_walk.specs.Differences.{next_difference, list_from, differences, walk}
 
 -- d is in the list
@@ -48,8 +48,8 @@ Walked = (xs ys : List ℕ) (n : ℕ) → length xs ≡ 8192 → length ys ≡ 8
 
 -- The refusals: a dump of another length, whatever the member; then a member above 15.
 pub record Refusals : Type 0 where
-  pub short : (xs ys : List ℕ) (m c : ℕ) → ((length xs ≡ 8192 → ⊥) ⊎ (length ys ≡ 8192 → ⊥)) → next_difference xs ys m c ≡ Err Refused.Dump
-  pub no_member : (xs ys : List ℕ) (m c : ℕ) → length xs ≡ 8192 → length ys ≡ 8192 → 16 ≤ m → next_difference xs ys m c ≡ Err Refused.Member
+  pub short : (xs ys : List ℕ) (m c : ℕ) → ((length xs ≡ 8192 → ⊥) ⊎ (length ys ≡ 8192 → ⊥)) → next_difference xs ys m c ≡ Err Refusal.BadMap
+  pub no_member : (xs ys : List ℕ) (m c : ℕ) → length xs ≡ 8192 → length ys ≡ 8192 → 16 ≤ m → next_difference xs ys m c ≡ Err Refusal.BadId
 
 -- ---- the ends of rows, computed: in a byte 1 is its first chunk, 128 its last
 abbrev pub empty : List ℕ

@@ -4,22 +4,18 @@ use Rattle.laws_words.specs.Words.{pick}
 use Rattle.rules_base.specs.Limits.{map_bytes}
 use Rattle.rules_base.specs.Refusals.{test, refusal}
 use Rattle.rules_base.specs.Map.{row_of}
-use Rattle.compare_walk.specs.declared.dumps.Refused.{Refused}
+use Rattle.rules_base.specs.declared.Refusal.{Refusal}
 
 -- 2 where a dump is not of 8,192 bytes, then 3 where the member is above 15; 0 for none
 unfoldable pub dumps_refusal : List ℕ → List ℕ → ℕ → ℕ
 dumps_refusal xs ys m = refusal (test 2 (not (eqb (length xs) map_bytes) || not (eqb (length ys) map_bytes)) ∷ test 3 (ltb 15 m) ∷ [])
 
--- the number of a refusal, and the refusal of a number
-abbrev pub number : Refused → ℕ
-number Refused.Dump = 2
-number Refused.Member = 3
-
-abbrev pub refused_by : ℕ → Refused
-refused_by n = pick (eqb n 2) Refused.Dump Refused.Member
+-- the refusal of a number
+abbrev pub refused_by : ℕ → Refusal
+refused_by n = pick (eqb n 2) Refusal.BadMap Refusal.BadId
 
 -- two dumps and a member are taken, or refused
-unfoldable pub dumps_taken : List ℕ → List ℕ → ℕ → Result (Unit {0}) Refused
+unfoldable pub dumps_taken : List ℕ → List ℕ → ℕ → Result (Unit {0}) Refusal
 dumps_taken xs ys m = pick (eqb (dumps_refusal xs ys m) 0) (Ok tt) (Err (refused_by (dumps_refusal xs ys m)))
 
 -- member m's row of the dump with the higher version, of the first at a tie; no bytes where the two are refused

@@ -1,7 +1,7 @@
 -- What must hold of two dumps. Each is a type; proofs/Laws.antt has its proof under the same name in small letters.
-use Rattle.std.specs.Prelude.{◌≡◌, Result, Ok, Err, List, [], ◌⊎◌, ℕ, ◌*◌, ◌≤◌, ◌<◌, length, take, drop}
-use Rattle.compare_walk.specs.Dumps.{dumps_refusal, number, dumps_taken, newer_row}
-use Rattle.compare_walk.specs.declared.dumps.Refused.{Refused}
+use Rattle.std.specs.Prelude.{◌≡◌, List, [], ◌⊎◌, ℕ, ◌*◌, ◌≤◌, ◌<◌, length, take, drop}
+use Rattle.rules_base.specs.Refusals.{number_of}
+use Rattle.compare_walk.specs.Dumps.{dumps_refusal, dumps_taken, newer_row}
 
 -- ---- refusals
 -- A dump of another length is refused with 2, whatever the member.
@@ -17,10 +17,6 @@ abbrev pub Taken : Type 0
 Taken = (xs ys : List ℕ) (m : ℕ) → length xs ≡ 8192 → length ys ≡ 8192 → m < 16 → dumps_refusal xs ys m ≡ 0
 
 -- The number of what is answered is the refusal's, and 0 where nothing is refused.
-abbrev pub number_of : Result (Unit {0}) Refused → ℕ
-number_of (Ok _) = 0
-number_of (Err r) = number r
-
 abbrev pub Numbered : Type 0
 Numbered = (xs ys : List ℕ) (m : ℕ) → number_of (dumps_taken xs ys m) ≡ dumps_refusal xs ys m
 

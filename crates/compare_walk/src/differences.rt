@@ -2,7 +2,7 @@
 ghost use Rattle.std.specs.Prelude.{◌≡◌, ◌-◌};
 ghost use Rattle.compare_walk.specs.Differences.{dump_number, which, first_place, told, next_difference};
 
-use crate::dumps::Refused;
+use rules_base::Refusal;
 
 // One of the two dumps.
 #[derive(Clone, Copy, PartialEq, Eq)]
@@ -69,7 +69,7 @@ pub fn next_difference(
     second: &[u8],
     member: u64,
     chunk: u64,
-) -> Result<Option<Difference>, Refused>
+) -> Result<Option<Difference>, Refusal>
     ensures { result ≡ next_difference first.now second.now member chunk }
 {
     crate::dumps::refusal(first, second, member)?;

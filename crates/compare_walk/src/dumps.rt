@@ -1,36 +1,19 @@
 // Two map dumps side by side: what is refused of them, and a member's row from the one with the higher version. Every function takes dumps of any length and any number.
 ghost use Rattle.std.specs.Prelude.{◌≡◌};
-ghost use Rattle.compare_walk.specs.Dumps.{number, dumps_taken, newer_row};
+ghost use Rattle.compare_walk.specs.Dumps.{dumps_taken, newer_row};
 
 use map_numbers::refusals::MAP_BYTES;
+use rules_base::Refusal;
 
-// Why two dumps and a member are refused: a dump of another length than 8,192 bytes, or a member above 15.
-#[derive(Clone, Copy, PartialEq, Eq)]
-pub enum Refused {
-    Dump,
-    Member,
-}
-
-impl Refused {
-    pub fn number(self) -> u64
-        ensures { result ≡ number self }
-    {
-        match self {
-            Refused::Dump => 2,
-            Refused::Member => 3,
-        }
-    }
-}
-
-// The refusal of two dumps and a member: the dumps' length comes before the member.
-pub fn refusal(first: &[u8], second: &[u8], member: u64) -> Result<(), Refused>
+// The refusal of two dumps and a member: BadMap for a dump of another length than 8,192 bytes, then BadId for a member above 15.
+pub fn refusal(first: &[u8], second: &[u8], member: u64) -> Result<(), Refusal>
     ensures { result ≡ dumps_taken first.now second.now member }
 {
     if first.len() != MAP_BYTES || second.len() != MAP_BYTES {
-        return Err(Refused::Dump);
+        return Err(Refusal::BadMap);
     }
     if 15 < member {
-        return Err(Refused::Member);
+        return Err(Refusal::BadId);
     }
     Ok(())
 }

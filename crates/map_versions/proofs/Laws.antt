@@ -9,7 +9,7 @@ use Rattle.std.specs.Cmp.{ranks}
 use Rattle.std.specs.Prelude.{Ok, Err}
 use Rattle.laws_words.specs.Tests.{by_cases, and-false}
 use Rattle.map_versions.specs.declared.VersionRecord.{VersionRecord}
-use Rattle.map_versions.specs.declared.VersionError.{VersionError}
+use Rattle.rules_base.specs.declared.Refusal.{Refusal}
 use Rattle.map_versions.specs.Versions.{record_of, word_of}
 use Rattle.map_versions.specs.Laws.{WordBack, OneRecord, RecordBack, Refused, Ordered, Agree, Ends}
 
@@ -17,10 +17,10 @@ use Rattle.map_versions.specs.Laws.{WordBack, OneRecord, RecordBack, Refused, Or
 pub good-word : (r : VersionRecord) → r.version < 2 ^ 63 → r.flag ≤ 1 → word_of r ≡ Ok (r.version + 2 ^ 63 * r.flag)
 good-word r h l = rw (lt-ltb r.version (2 ^ 63) h, le-leb r.flag 1 l)
 
-pub high-refused : (r : VersionRecord) → 2 ^ 63 ≤ r.version → word_of r ≡ Err VersionError.BadRecord
+pub high-refused : (r : VersionRecord) → 2 ^ 63 ≤ r.version → word_of r ≡ Err Refusal.BadRecord
 high-refused r h = rw (le-ltb r.version (2 ^ 63) h)
 
-pub flag-refused : (r : VersionRecord) → 1 < r.flag → word_of r ≡ Err VersionError.BadRecord
+pub flag-refused : (r : VersionRecord) → 1 < r.flag → word_of r ≡ Err Refusal.BadRecord
 flag-refused r h = simp (lt-leb r.flag 1 h, and-false)
 
 -- by whether the version is below 2^63 and the flag at most 1

@@ -3,8 +3,9 @@ use Rattle.std.specs.Prelude.{◌≡◌, ◌⊎◌, ℕ, ◌-◌, ◌^◌, ◌�
 use Rattle.std.specs.declared.cmp.Ordering.{Ordering}
 use Rattle.std.specs.Ordering.{MatchOrdering}
 use Rattle.map_versions.specs.declared.VersionRecord.{VersionRecord}
-use Rattle.map_versions.specs.declared.VersionError.{VersionError}
-use Rattle.map_versions.specs.Versions.{number, record_of, word_of, compare_words, compare_records}
+use Rattle.rules_base.specs.declared.Refusal.{Refusal}
+use Rattle.rules_base.specs.Refusals.{number}
+use Rattle.map_versions.specs.Versions.{record_of, word_of, compare_words, compare_records}
 
 -- Every old word comes back the same from its record.
 abbrev pub WordBack : Type 0
@@ -25,7 +26,7 @@ abbrev pub RecordBack : Type 0
 RecordBack = (r : VersionRecord) → r.version < 2 ^ 63 → r.flag ≤ 1 → Kept r
 
 -- The answer is a refusal with the number n.
-abbrev pub RefusedWith : ℕ → Result ℕ VersionError → Type 0
+abbrev pub RefusedWith : ℕ → Result ℕ Refusal → Type 0
 RefusedWith n a = IsErrAnd a (λ e. number e ≡ n)
 
 -- A record with a version of 2^63 or more, or a flag above 1, is refused with 21. By RecordBack no other record is refused.

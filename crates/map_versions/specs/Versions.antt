@@ -5,11 +5,7 @@ use Rattle.std.specs.declared.cmp.Ordering.{Ordering}
 use Rattle.std.specs.Ordering.{nat_cmp}
 use Rattle.laws_words.specs.Words.{pick}
 use Rattle.map_versions.specs.declared.VersionRecord.{VersionRecord}
-use Rattle.map_versions.specs.declared.VersionError.{VersionError}
-
--- the number with which it is refused
-abbrev pub number : VersionError → ℕ
-number VersionError.BadRecord = 21
+use Rattle.rules_base.specs.declared.Refusal.{Refusal}
 
 -- the new record of an old word
 abbrev pub record_of : ℕ → VersionRecord
@@ -20,8 +16,8 @@ abbrev pub good : VersionRecord → Bool
 good r = ltb r.version (2 ^ 63) && leb r.flag 1
 
 -- the old word of a new record; one that is not good is refused
-abbrev pub word_of : VersionRecord → Result ℕ VersionError
-word_of r = pick (good r) (Ok (r.version + 2 ^ 63 * r.flag)) (Err VersionError.BadRecord)
+abbrev pub word_of : VersionRecord → Result ℕ Refusal
+word_of r = pick (good r) (Ok (r.version + 2 ^ 63 * r.flag)) (Err Refusal.BadRecord)
 
 -- how two versions compare
 abbrev pub compare : ℕ → ℕ → Ordering

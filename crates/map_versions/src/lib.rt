@@ -3,8 +3,9 @@
 #![tactic(auto)]
 
 ghost use Rattle.std.specs.Prelude.{◌≡◌};
-ghost use Rattle.map_versions.specs.Versions.{number, record_of, word_of, compare_words, compare_records};
+ghost use Rattle.map_versions.specs.Versions.{record_of, word_of, compare_words, compare_records};
 
+use rules_base::Refusal;
 use std::cmp::Ordering;
 
 // The new form. Any two numbers can be read from a store: flag is to be 0 or 1, version below 2^63. It has no order of its own: compare_records says Equal of two records
@@ -13,23 +14,6 @@ use std::cmp::Ordering;
 pub struct VersionRecord {
     pub version: u64,
     pub flag: u64,
-}
-
-// Why a record has no old form.
-#[derive(Clone, Copy, Debug, PartialEq, Eq)]
-pub enum VersionError {
-    BadRecord,
-}
-
-impl VersionError {
-    // The number with which it is refused.
-    pub fn number(self) -> u64
-        ensures { result ≡ number self }
-    {
-        match self {
-            VersionError::BadRecord => 21,
-        }
-    }
 }
 
 // The weight of the top bit, 2^63: a version is below it.
@@ -53,22 +37,22 @@ impl From<u64> for VersionRecord {
     }
 }
 
-// The old word of a new record.
-pub fn word_of(r: VersionRecord) -> Result<u64, VersionError>
+// The old word of a new record; one that has none is refused.
+pub fn word_of(r: VersionRecord) -> Result<u64, Refusal>
     ensures { result ≡ word_of r }
 {
     if TOP <= r.version || 1 < r.flag {
-        return Err(VersionError::BadRecord);
+        return Err(Refusal::BadRecord);
     }
     Ok(r.version + TOP * r.flag)
 }
 
 impl TryFrom<VersionRecord> for u64 {
-    type Error = VersionError;
+    type Error = Refusal;
 
     ghost try_from_gives = { λ r a. a ≡ word_of r };
 
-    fn try_from(r: VersionRecord) -> Result<u64, VersionError> {
+    fn try_from(r: VersionRecord) -> Result<u64, Refusal> {
         word_of(r)
     }
 }

@@ -14,14 +14,15 @@ use lib.Seq.{sets}
 use Rattle.laws_words.specs.Words.{pick}
 use Rattle.laws_words.specs.Tests.{by_cases, clash, and_left, and_right, and-false}
 use Rattle.std.specs.Prelude.{Result, Ok, Err}
-use Rattle.status_row.specs.Volume.{number, refused_by, row_sound, volume_good}
+use Rattle.rules_base.specs.Refusals.{number, number_of}
+use Rattle.status_row.specs.Volume.{refused_by, row_sound, volume_good}
 use Rattle.status_row.specs.Descriptors.{Desc, total, word_at, descs_from, descs_of}
 use Rattle.status_row.proofs.DescriptorsLaws.{size-cases, volume}
-use Rattle.status_row.specs.declared.descriptors.Refused.{Refused}
+use Rattle.rules_base.specs.declared.Refusal.{Refusal}
 use Rattle.status_row.specs.Writing.{status_of, write_refusal, write_answer, write_leaves}
 use Rattle.status_row.specs.Reading.{desc_good, every_good, status_good, flags_of, painted, read_refusal, read_answer, read_leaves}
 use Rattle.status_row.proofs.ReaderLaws.{good_from, good-descs}
-use Rattle.status_proof.specs.Laws.{Writes, Largest, SameRow, TakenMost, Untouched, Numbered, number_of, BadInput, Worked}
+use Rattle.status_proof.specs.Laws.{Writes, Largest, SameRow, TakenMost, Untouched, Numbered, BadInput, Worked}
 use Rattle.status_proof.proofs.Back.{back}
 use Rattle.status_proof.proofs.Written.{written}
 use Rattle.status_proof.proofs.Cases.{two_runs, longest-clean, longest-dirty, alternating, same-neighbours}
@@ -43,7 +44,7 @@ taken : (n s : ℕ) (xs out : List ℕ) (k : ℕ) → write_answer n s xs out �
 unfolding write_answer write_refusal
 taken n s xs out k w = go (row_sound n xs) refl (volume_good n s) refl (leb 32768 (length out)) refl w
   where
-    go : (a : Bool) → row_sound n xs ≡ a → (b : Bool) → volume_good n s ≡ b → (c : Bool) → leb 32768 (length out) ≡ c → ◌≡◌ {A = Result ℕ Refused} (pick (eqb (pick a (pick (b && c) 0 20) 2) 0) (Ok (length (status_of n s xs))) (Err (refused_by (pick a (pick (b && c) 0 20) 2)))) (Ok k) → (row_sound n xs ≡ true) × ((volume_good n s ≡ true) × (leb 32768 (length out) ≡ true))
+    go : (a : Bool) → row_sound n xs ≡ a → (b : Bool) → volume_good n s ≡ b → (c : Bool) → leb 32768 (length out) ≡ c → ◌≡◌ {A = Result ℕ Refusal} (pick (eqb (pick a (pick (b && c) 0 20) 2) 0) (Ok (length (status_of n s xs))) (Err (refused_by (pick a (pick (b && c) 0 20) 2)))) (Ok k) → (row_sound n xs ≡ true) × ((volume_good n s ≡ true) × (leb 32768 (length out) ≡ true))
     go true p true q true r z = (p, (q, r))
     go true p true q false r z = absurd (let y : ◌≡◌ {A = ℕ} 0 1 = cc in let w : ⊥ = omega arith in w)
     go true p false q c r z = absurd (let y : ◌≡◌ {A = ℕ} 0 1 = cc in let w : ⊥ = omega arith in w)
@@ -56,7 +57,7 @@ same_row n s xs ys out k a b q w =
     let e : k ≡ length (status_of n s xs) = bytes (sym w ∙ v.answer) in
     rw (e, v.front) (back n s xs ys a b t.0 q t.1.0)
   where
-    bytes : {i j : ℕ} → ◌≡◌ {A = Result ℕ Refused} (Ok i) (Ok j) → i ≡ j
+    bytes : {i j : ℕ} → ◌≡◌ {A = Result ℕ Refusal} (Ok i) (Ok j) → i ≡ j
     bytes z = cc
 
 -- ---- what is taken
@@ -94,17 +95,17 @@ taken-most n s bs g e =
     whole-bytes n s bs e = unfold status_good in eqb-true (length bs % 8) 0 (and_left (eqb (length bs % 8) 0) _ e)
 
 -- ---- what is refused
-numbers : (q : Refused) {r : Refused} → ◌≡◌ {A = Result ℕ Refused} (Err q) (Err r) → number r ≡ number q
+numbers : (q : Refusal) {r : Refusal} → ◌≡◌ {A = Result ℕ Refusal} (Err q) (Err r) → number r ≡ number q
 numbers q z = let e : q ≡ _ = cc in sym (ap number e)
 
-write-refused : (n s : ℕ) (xs out : List ℕ) (r : Refused) → write_answer n s xs out ≡ Err r → ((number r ≡ 2) ⊎ (number r ≡ 20)) × (write_leaves n s xs out ≡ out)
+write-refused : (n s : ℕ) (xs out : List ℕ) (r : Refusal) → write_answer n s xs out ≡ Err r → ((number r ≡ 2) ⊎ (number r ≡ 20)) × (write_leaves n s xs out ≡ out)
 unfolding write_answer write_leaves write_refusal
 write-refused n s xs out r w = go (row_sound n xs) (volume_good n s && leb 32768 (length out)) (length (status_of n s xs)) (sets out 0 (status_of n s xs)) w
   where
-    go : (a b : Bool) (k : ℕ) (ys : List ℕ) → ◌≡◌ {A = Result ℕ Refused} (pick (eqb (pick a (pick b 0 20) 2) 0) (Ok k) (Err (refused_by (pick a (pick b 0 20) 2)))) (Err r) → ((number r ≡ 2) ⊎ (number r ≡ 20)) × (pick (eqb (pick a (pick b 0 20) 2) 0) ys out ≡ out)
+    go : (a b : Bool) (k : ℕ) (ys : List ℕ) → ◌≡◌ {A = Result ℕ Refusal} (pick (eqb (pick a (pick b 0 20) 2) 0) (Ok k) (Err (refused_by (pick a (pick b 0 20) 2)))) (Err r) → ((number r ≡ 2) ⊎ (number r ≡ 20)) × (pick (eqb (pick a (pick b 0 20) 2) 0) ys out ≡ out)
     go true true k ys z = absurd (let y : ◌≡◌ {A = ℕ} 0 1 = cc in let w : ⊥ = omega arith in w)
-    go true false k ys z = (inr (numbers Refused.Volume z), refl)
-    go false b k ys z = (inl (numbers Refused.Row z), refl)
+    go true false k ys z = (inr (numbers Refusal.BadStatus z), refl)
+    go false b k ys z = (inl (numbers Refusal.BadMap z), refl)
 
 read-refused : (n s : ℕ) (bs xs : List ℕ) → (read_refusal n s bs xs ≡ 0) ⊎ (((read_refusal n s bs xs ≡ 2) ⊎ (read_refusal n s bs xs ≡ 20)) × (read_leaves n s bs xs ≡ xs))
 unfolding read_leaves read_refusal
@@ -119,7 +120,7 @@ pub numbered : Numbered
 unfolding read_answer read_refusal
 numbered n s bs xs = go (row_sound n xs) (volume_good n s && status_good n s bs)
   where
-    go : (a b : Bool) → ◌≡◌ {A = ℕ} (number_of (pick (eqb (pick a (pick b 0 20) 2) 0) (Ok tt) (Err (refused_by (pick a (pick b 0 20) 2))))) (pick a (pick b 0 20) 2)
+    go : (a b : Bool) → ◌≡◌ {A = ℕ} (number_of {A = Unit {0}} (pick (eqb (pick a (pick b 0 20) 2) 0) (Ok tt) (Err (refused_by (pick a (pick b 0 20) 2))))) (pick a (pick b 0 20) 2)
     go true true = refl
     go true false = refl
     go false b = refl

@@ -1,8 +1,9 @@
 -- What must hold of writing a row as descriptors and of reading them back. Each statement is a type; proofs/Laws.antt has its proof under the same name in small letters.
-use Rattle.std.specs.Prelude.{◌≡◌, ◌⊎◌, Result, Ok, Err, Bool, true, false, not, ◌&&◌, ◌||◌, List, [], ◌∷◌, ℕ, ◌+◌, ◌*◌, ◌/◌, ◌%◌, ◌^◌, ◌≤◌, ◌<◌, eqb, length, get_or, take, drop, replicate}
-use Rattle.status_row.specs.Volume.{number, row_sound, volume_good}
+use Rattle.std.specs.Prelude.{◌≡◌, ◌⊎◌, Ok, Err, Bool, true, false, not, ◌&&◌, ◌||◌, List, [], ◌∷◌, ℕ, ◌+◌, ◌*◌, ◌/◌, ◌%◌, ◌^◌, ◌≤◌, ◌<◌, eqb, length, get_or, take, drop, replicate}
+use Rattle.rules_base.specs.declared.Refusal.{Refusal}
+use Rattle.rules_base.specs.Refusals.{number, number_of}
+use Rattle.status_row.specs.Volume.{row_sound, volume_good}
 use Rattle.status_row.specs.Descriptors.{Desc, total, word_at, descs_of}
-use Rattle.status_row.specs.declared.descriptors.Refused.{Refused}
 use Rattle.status_row.specs.Writing.{status_of, write_answer, write_leaves}
 use Rattle.status_row.specs.Reading.{desc_good, status_good, read_refusal, read_answer, read_leaves}
 
@@ -58,14 +59,10 @@ TakenMost = (n s : ℕ) (bs : List ℕ) → volume_good n s ≡ true → status_
 -- ---- what is refused
 -- A refusal is 2 or 20, and touches nothing.
 pub record Untouched : Type 0 where
-  pub writing : (n s : ℕ) (xs out : List ℕ) (r : Refused) → write_answer n s xs out ≡ Err r → ((number r ≡ 2) ⊎ (number r ≡ 20)) × (write_leaves n s xs out ≡ out)
+  pub writing : (n s : ℕ) (xs out : List ℕ) (r : Refusal) → write_answer n s xs out ≡ Err r → ((number r ≡ 2) ⊎ (number r ≡ 20)) × (write_leaves n s xs out ≡ out)
   pub reading : (n s : ℕ) (bs xs : List ℕ) → (read_refusal n s bs xs ≡ 0) ⊎ (((read_refusal n s bs xs ≡ 2) ⊎ (read_refusal n s bs xs ≡ 20)) × (read_leaves n s bs xs ≡ xs))
 
 -- The number of what reading answers is the refusal's, and 0 where nothing is refused.
-abbrev pub number_of : Result (Unit {0}) Refused → ℕ
-number_of (Ok _) = 0
-number_of (Err r) = number r
-
 abbrev pub Numbered : Type 0
 Numbered = (n s : ℕ) (bs xs : List ℕ) → number_of (read_answer n s bs xs) ≡ read_refusal n s bs xs
 

@@ -4,7 +4,7 @@ use Rattle.laws_words.specs.Words.{pick}
 use Rattle.rules_base.specs.Chunk.{chunk_marked, cleared}
 use Rattle.status_row.specs.Volume.{refused_by, row_sound, volume_good}
 use Rattle.status_row.specs.Descriptors.{Desc, total, descs_of}
-use Rattle.status_row.specs.declared.descriptors.Refused.{Refused}
+use Rattle.rules_base.specs.declared.Refusal.{Refusal}
 
 -- ---- which descriptors are taken
 -- a length that is not 0 and a whole number of chunks of s bytes, and no flag bit but bit 0
@@ -39,7 +39,7 @@ painted c (f ∷ fs) xs = painted (suc c) fs (stored c f xs)
 unfoldable pub read_refusal : ℕ → ℕ → List ℕ → List ℕ → ℕ
 read_refusal n s bs xs = pick (row_sound n xs) (pick (volume_good n s && status_good n s bs) 0 20) 2
 
-unfoldable pub read_answer : ℕ → ℕ → List ℕ → List ℕ → Result (Unit {0}) Refused
+unfoldable pub read_answer : ℕ → ℕ → List ℕ → List ℕ → Result (Unit {0}) Refusal
 read_answer n s bs xs = pick (eqb (read_refusal n s bs xs) 0) (Ok tt) (Err (refused_by (read_refusal n s bs xs)))
 
 unfoldable pub read_leaves : ℕ → ℕ → List ℕ → List ℕ → List ℕ

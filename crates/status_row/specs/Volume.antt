@@ -3,16 +3,11 @@ use Rattle.std.specs.Prelude.{Bool, true, ◌&&◌, ◌||◌, List, [], ◌∷�
 use Rattle.rules_base.specs.Limits.{chunk_limit}
 use Rattle.rules_base.specs.Chunk.{dirty}
 use Rattle.laws_words.specs.Words.{pick}
-use Rattle.status_row.specs.declared.descriptors.Refused.{Refused}
+use Rattle.rules_base.specs.declared.Refusal.{Refusal}
 
--- the number of a refusal, and the refusal of a number
-abbrev pub number : Refused → ℕ
-number Refused.Row = 2
-number Refused.Member = 3
-number Refused.Volume = 20
-
-abbrev pub refused_by : ℕ → Refused
-refused_by n = pick (eqb n 2) Refused.Row (pick (eqb n 3) Refused.Member Refused.Volume)
+-- the refusal of a number
+abbrev pub refused_by : ℕ → Refusal
+refused_by n = pick (eqb n 2) Refusal.BadMap (pick (eqb n 3) Refusal.BadId Refusal.BadStatus)
 
 -- the flags of the row's m chunks from c on: 1 dirty, 0 clean. A row is a map of one row, that of member 0
 unfoldable pub flags_from : List ℕ → ℕ → ℕ → List ℕ

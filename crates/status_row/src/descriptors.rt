@@ -1,33 +1,13 @@
 // A row's chunks as flags, and the tests that writing and reading of descriptors begin with. Every operation takes a row of any length and any numbers.
 ghost use Rattle.std.specs.Prelude.{◌≡◌};
 ghost use Rattle.rules_base.specs.Chunk.{dirty};
-ghost use Rattle.status_row.specs.Volume.{number, row_sound, size_good, volume_good};
-
-// Why writing or reading is refused: the row or the map that is lent, the member, or else the volume, its descriptors or their room.
-#[derive(Clone, Copy, PartialEq, Eq)]
-pub enum Refused {
-    Row,
-    Member,
-    Volume,
-}
-
-impl Refused {
-    pub fn number(self) -> u64
-        ensures { result ≡ number self }
-    {
-        match self {
-            Refused::Row => 2,
-            Refused::Member => 3,
-            Refused::Volume => 20,
-        }
-    }
-}
+ghost use Rattle.status_row.specs.Volume.{row_sound, size_good, volume_good};
 
 // Chunk c of the row: 1 dirty, 0 clean.
 pub fn flag(row: &[u8], c: u64) -> u64
     ensures { result ≡ dirty row.now 0 c }
 {
-    if map_chunk::test(row, 0, c) { 1 } else { 0 }
+    u64::from(map_chunk::test(row, 0, c))
 }
 
 // Whether the row has 512 bytes and no bit past the chunk count n.
@@ -37,6 +17,7 @@ pub fn row_sound(row: &[u8], n: u64) -> bool
     if row.len() != 512 {
         return false;
     }
+    // Tried as all of the range: the proof did not close.
     for c in n..4096 {
         if flag(row, c) != 0 {
             return false;
@@ -47,18 +28,14 @@ pub fn row_sound(row: &[u8], n: u64) -> bool
 
 // Whether s is a power of two from 4,096 to 1,048,576.
 // A list, as the definition is: both are read off at a glance, and they are one.
+#[tactic(auto, unfolding(crate::specs::Volume::size_good))]
 fn size_good(s: u64) -> bool
     ensures { result ≡ size_good s }
 {
-    (s == 4096)
-        | (s == 8192)
-        | (s == 16384)
-        | (s == 32768)
-        | (s == 65536)
-        | (s == 131072)
-        | (s == 262144)
-        | (s == 524288)
-        | (s == 1048576)
+    matches!(
+        s,
+        4096 | 8192 | 16384 | 32768 | 65536 | 131072 | 262144 | 524288 | 1048576
+    )
 }
 
 // A chunk count and a chunk size, whatever they are.
@@ -74,7 +51,6 @@ impl Volume {
     pub fn good(self) -> bool
         ensures { result ≡ volume_good self.chunks self.size }
     {
-        (0 < self.chunks)
-            & ((self.chunks <= map_numbers::refusals::CHUNK_LIMIT) & size_good(self.size))
+        0 < self.chunks && self.chunks <= map_numbers::refusals::CHUNK_LIMIT && size_good(self.size)
     }
 }

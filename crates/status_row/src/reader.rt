@@ -1,9 +1,10 @@
 // Block status descriptors read back into a row. The public function takes slices of any length and any numbers.
-ghost use Rattle.std.specs.Prelude.{◌≡◌, true, ◌+◌, ◌<◌, ◌≤◌, length, replicate};
+ghost use Rattle.std.specs.Prelude.{◌≡◌, true, ◌+◌, ◌*◌, ◌<◌, ◌≤◌, length, replicate};
 ghost use Rattle.status_row.specs.Descriptors.{word_at, descs_of};
 ghost use Rattle.status_row.specs.Reading.{desc_good, status_good, flags_of, stored, painted, read_answer, read_leaves};
 
-use crate::descriptors::{Refused, Volume, row_sound};
+use crate::descriptors::{Volume, row_sound};
+use rules_base::Refusal;
 
 // Reads 32 bits, big-endian.
 fn get32(bytes: &[u8], at: usize) -> u64
@@ -13,11 +14,20 @@ fn get32(bytes: &[u8], at: usize) -> u64
     u64::from(u32::from_be_bytes([bytes[at], bytes[at + 1], bytes[at + 2], bytes[at + 3]]))
 }
 
+// Descriptor i: its bytes and its flags. By its place, as the definitions count them.
+fn desc_at(bytes: &[u8], i: usize) -> (u64, u64)
+    requires { 8 * i + 8 ≤ length bytes.now }
+    ensures { ((result.0 ≡ word_at bytes.now (8 * i)) × (result.0 < 4294967296)) × (result.1 ≡ word_at bytes.now (8 * i + 4)) }
+{
+    (get32(bytes, 8 * i), get32(bytes, 8 * i + 4))
+}
+
+#[tactic(auto, unfolding(crate::specs::Reading::desc_good))]
 fn desc_good(s: u64, b: u64, f: u64) -> bool
     requires { 0 < s }
     ensures { result ≡ desc_good s b f }
 {
-    (b != 0) & ((b % s == 0) & (f < 2))
+    b != 0 && b % s == 0 && f < 2
 }
 
 // Whether the bytes are descriptors of the volume. Chunks are counted, and no further than its count.
@@ -30,8 +40,7 @@ fn status_good(bytes: &[u8], v: Volume) -> bool
     }
     let mut c: u64 = 0;
     for i in 0..bytes.len() / 8 {
-        let b = get32(bytes, 8 * i);
-        let f = get32(bytes, 8 * i + 4);
+        let (b, f) = desc_at(bytes, i);
         if !desc_good(v.size, b, f) {
             return false;
         }
@@ -72,26 +81,22 @@ fn fill(bytes: &[u8], v: Volume, row: &mut [u8])
 {
     let mut c: u64 = 0;
     for i in 0..bytes.len() / 8 {
-        let b = get32(bytes, 8 * i);
-        let f = get32(bytes, 8 * i + 4);
+        let (b, f) = desc_at(bytes, i);
         let k = b / v.size;
         paint(row, c, k, f);
         c += k;
     }
 }
 
-// Reads the descriptors of the volume into a lent row; where it refuses, the row is untouched.
-pub fn read(bytes: &[u8], v: Volume, row: &mut [u8]) -> Result<(), Refused>
+// Reads the descriptors of the volume into a lent row; where it refuses, the row is untouched: BadMap is of the row, BadStatus of the volume or its descriptors.
+pub fn read(bytes: &[u8], v: Volume, row: &mut [u8]) -> Result<(), Refusal>
     ensures { (result ≡ read_answer v.chunks v.size bytes.now row.old) × (row.new ≡ read_leaves v.chunks v.size bytes.now row.old) }
 {
     if !row_sound(row, v.chunks) {
-        return Err(Refused::Row);
+        return Err(Refusal::BadMap);
     }
-    if !v.good() {
-        return Err(Refused::Volume);
-    }
-    if !status_good(bytes, v) {
-        return Err(Refused::Volume);
+    if !v.good() || !status_good(bytes, v) {
+        return Err(Refusal::BadStatus);
     }
     fill(bytes, v, row);
     Ok(())

@@ -4,7 +4,8 @@ ghost use Rattle.std.proofs.lemmas.List.Edits.{sets};
 ghost use Rattle.status_row.specs.Descriptors.{word};
 ghost use Rattle.status_row.specs.Writing.{joins, status_of, write_answer, write_leaves, member_answer, member_leaves};
 
-use crate::descriptors::{Refused, Volume, flag, row_sound};
+use crate::descriptors::{Volume, flag, row_sound};
+use rules_base::Refusal;
 
 // Stores 32 bits, big-endian.
 fn put32(out: &mut [u8], at: usize, v: u64)
@@ -27,7 +28,7 @@ fn put_desc(out: &mut [u8], at: usize, bytes: u64, flags: u64)
 fn joins(f: u64, g: u64, next: u64) -> bool
     ensures { result ≡ joins f g next }
 {
-    (f == g) & (next < 4294967296)
+    f == g && next < 4294967296
 }
 
 // Stores the row's descriptors, and says how many bytes they are. The open run has b bytes and flag f.
@@ -54,31 +55,28 @@ fn put_status(row: &[u8], v: Volume, out: &mut [u8]) -> usize
     at + 8
 }
 
-// Writes the descriptors of a row of the volume into what is lent, and says how many bytes they are.
-pub fn write(row: &[u8], v: Volume, out: &mut [u8]) -> Result<usize, Refused>
+// Writes the descriptors of a row of the volume into what is lent, and says how many bytes they are. BadMap is of the row, BadStatus of the volume or the room.
+pub fn write(row: &[u8], v: Volume, out: &mut [u8]) -> Result<usize, Refusal>
     ensures { (result ≡ write_answer v.chunks v.size row.now out.old) × (out.new ≡ write_leaves v.chunks v.size row.now out.old) }
 {
     if !row_sound(row, v.chunks) {
-        return Err(Refused::Row);
+        return Err(Refusal::BadMap);
     }
-    if !v.good() {
-        return Err(Refused::Volume);
-    }
-    if out.len() < 32768 {
-        return Err(Refused::Volume);
+    if !v.good() || out.len() < 32768 {
+        return Err(Refusal::BadStatus);
     }
     Ok(put_status(row, v, out))
 }
 
 // The same for member m's row of a whole map.
-pub fn write_member(map: &[u8], m: u64, v: Volume, out: &mut [u8]) -> Result<usize, Refused>
+pub fn write_member(map: &[u8], m: u64, v: Volume, out: &mut [u8]) -> Result<usize, Refusal>
     ensures { (result ≡ member_answer v.chunks v.size map.now m out.old) × (out.new ≡ member_leaves v.chunks v.size map.now m out.old) }
 {
     if map.len() != map_numbers::refusals::MAP_BYTES {
-        return Err(Refused::Row);
+        return Err(Refusal::BadMap);
     }
     if 15 < m {
-        return Err(Refused::Member);
+        return Err(Refusal::BadId);
     }
     write(map_whole::maps::row(map, m), v, out)
 }

@@ -1,4 +1,4 @@
-// The backup tool: its words, and a map or descriptors, in; descriptors or a row out. What is made of the bytes is `statuswriter`'s and `statusreader`'s; no contract can
+// The backup tool: its words, and a map or descriptors, in; descriptors or a row out. What is made of the bytes is `status_row`'s; no contract can
 // speak of what is read and written.
 #![tactic(auto)]
 
