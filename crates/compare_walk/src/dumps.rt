@@ -1,4 +1,5 @@
 // Two map dumps side by side: what is refused of them, and a member's row from the one with the higher version. Every function takes dumps of any length and any number.
+// The two stay two parameters, here and where they are compared and told: each is lent by itself, and a pair of them would be made only to be taken apart.
 ghost use Rattle.std.specs.Prelude.{◌≡◌};
 ghost use Rattle.compare_walk.specs.Dumps.{dumps_taken, newer_row};
 
