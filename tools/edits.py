@@ -17,7 +17,7 @@ MOST_SECONDS = 60
 MOST_OF_CODE = 3
 HEADER = re.compile(r"^[ \t]*(?:pub )?(?:extern \"C\" )?fn (\w+)", re.M)
 ENSURES = re.compile(r"\bensures(?: \w+)? \{")
-EQUATION = re.compile(r"(?:result(?:\.now)?|\w+\.new) ≡ |number_of \w+ ≡ |ink \w+\.new |whole |outcome |\(result ≡ .* × \(\w+\.new ≡ ")
+EQUATION = re.compile(r"lender |page_ink |(?:result(?:\.now)?|\w+\.new) ≡ |number_of \w+ ≡ |ink \w+\.new |whole |outcome |\(result ≡ .* × \(\w+\.new ≡ ")
 
 
 def facts(contract):
@@ -33,7 +33,7 @@ def facts(contract):
 
 
 def is_equation(fact):
-    """Whether a clause says what the result is, or what is left of a buffer."""
+    """Whether a clause says what the result is, or what is left of a buffer or a page."""
     return bool(EQUATION.match(fact))
 
 

@@ -40,6 +40,18 @@ mixed() {
 	fi
 }
 
+# needs FOLDER: the archives there need nothing from outside but what docs/LIBRARY.md says.
+needs() {
+	if ! command -v nm >/dev/null 2>&1; then
+		echo 'library-test: what the archives need from outside SKIPPED: nm was not found'
+		return
+	fi
+	for archive in "$1"/libmunzolkheg_*.a; do
+		others=$(nm -u "$archive" 2>/dev/null | sed -n 's/^ *U //p' | grep -vxE 'memcpy|memset' | sort -u | tr '\n' ' ')
+		[ -z "$others" ] || { echo "library-test: FAILED: $archive needs from outside $others"; failed=1; }
+	done
+}
+
 # The sources compile without a warning, the header and the examples as C++ too; what has the new names alone compiles without the old ones.
 for file in "$root"/c/*.c "$root"/examples/*.c; do
 	# shellcheck disable=SC2086
@@ -66,6 +78,7 @@ if [ "$quick" = 1 ]; then
 		# shellcheck disable=SC2086
 		"$cc" -std=c99 $strict ${CFLAGS-} -I"$root/c" "$root/c/numbers.c" -L"$there" -lmunzolkheg_client -lmunzolkheg_node -o "$mine/numbers"
 		"$mine/numbers" >"$mine/said" || { cat "$mine/said"; failed=1; }
+		needs "$there"
 	else
 		echo "library-test: the numbers' test SKIPPED: the archives are not built, or older than their sources (./library builds them)"
 	fi
@@ -74,6 +87,7 @@ if [ "$quick" = 1 ]; then
 fi
 
 there=$("$root/library")
+needs "$there"
 
 # compile NAME FILE OPTIONS..: a program of the library.
 compile() {

@@ -8,6 +8,7 @@ import tempfile
 
 from tools.check_times import seconds
 from tools.crates import above, depths, graph, made_of, statics, under
+from tools.trust import cited_in
 from tools.wrong_rules import cell, parse
 
 CRATES = """# a comment: with a colon
@@ -29,6 +30,14 @@ new:  f x = 2
 refuted:
 |pub no : NotBefore → ⊥
 |no f = f
+"""
+
+CODE = """ghost use Rattle.a.specs.B.{c as B·c, d};
+impl X {
+    ghost use Rattle.a.specs.E.{
+        f,
+    };
+}
 """
 
 
@@ -53,6 +62,7 @@ def main():
     same(wrong.edits, [["crates/rules_node/specs/States.antt", "f x =\n  1", " f x = 2"]], "its edits")
     same(wrong.refuted, "\npub no : NotBefore → ⊥\nno f = f", "its refutation")
     same((wrong.touched, cell(wrong.rule)), ({"rules_node"}, "one \\| two"), "the crates that it touches, and a cell of the page")
+    same(cited_in(CODE), ({"B·c": ("a", "B", "c"), "d": ("a", "B", "d"), "f": ("a", "E", "f")}, {}), "what contracts cite, under another name and inside an impl too")
     same(set(seconds()) & set(graph()) != set(), True, "whether docs/CHECK-TIMES.md has times of crates")
 
 

@@ -27,7 +27,7 @@ USE = re.compile(r"^(?:ghost )?use Rattle\.(\w+)\.specs\.([\w.]+?)(?:\.\{([^}]*)
 TOKEN = re.compile(r"[^\s(){}\[\],;]+")
 
 
-LISTED = re.compile(r"(?m)^(?:ghost )?use [^;{}]*\{[^}]*\}")
+LISTED = re.compile(r"(?m)^ *(?:ghost )?use [^;{}]*\{[^}]*\}")
 
 
 def text_of(path):
@@ -54,7 +54,8 @@ def imports(text):
             modules[alias] = (crate, module)
         else:
             for name in filter(None, map(str.strip, listed.split(","))):
-                names[name] = (crate, module, name)
+                there, _, here = name.partition(" as ")
+                names[here or there] = (crate, module, there)
     return names, modules
 
 
@@ -85,12 +86,17 @@ def load():
     return files
 
 
+def cited_in(text):
+    """What the lines `ghost use` of a file of src/ bring in; inside an impl they stand to the right."""
+    lines = map(str.strip, on_one_line(text).split("\n"))
+    return imports("\n".join(l for l in lines if l.startswith("ghost use ")))
+
+
 def cited(files):
     """The definitions that contracts and statements cite."""
     roots = set()
     for path in glob.glob(os.path.join(ROOT, "crates", "*", "src", "**", "*.rt"), recursive=True):
-        text = text_of(path)
-        names, modules = imports("\n".join(l for l in on_one_line(text).split("\n") if l.startswith("ghost use ")))
+        names, modules = cited_in(text_of(path))
         roots |= set(names.values())
         for crate, module in modules.values():
             roots |= {(crate, module, n) for n in files[crate, module][0]}

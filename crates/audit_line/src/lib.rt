@@ -3,6 +3,7 @@
 
 ghost use Rattle.std.specs.Prelude.{◌≡◌};
 ghost use Rattle.text_bytes.specs.Ink.{emits_all};
+ghost use Rattle.text_bytes.specs.Pages.{page_ink, lender};
 ghost use Rattle.audit_line.specs.Text.{is_record, numbers_in, record_line, record_in, counted, verdict_text};
 
 use audit_record::records::{self, Record};
@@ -62,7 +63,8 @@ pub fn record_in(n: usize, line: &[u8]) -> Record
 }
 
 pub fn put_verdict(page: &mut Page, v: Verdict)
-    ensures { page.new ≡ emits_all page.old (verdict_text v) }
+    ensures same_reference { lender page.new ≡ lender page.old }
+    ensures value { page_ink page.new ≡ emits_all (page_ink page.old) (verdict_text v) }
 {
     match v {
         Verdict::Accepted(n) => put_counted(page, b"accepted ", n),
@@ -72,7 +74,8 @@ pub fn put_verdict(page: &mut Page, v: Verdict)
 
 // A word, a number and a newline.
 fn put_counted(page: &mut Page, word: &[u8], n: u64)
-    ensures { page.new ≡ emits_all page.old (counted word.now n) }
+    ensures same_reference { lender page.new ≡ lender page.old }
+    ensures value { page_ink page.new ≡ emits_all (page_ink page.old) (counted word.now n) }
 {
     page.put_bytes(word);
     page.put_number(n);

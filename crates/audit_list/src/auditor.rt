@@ -13,7 +13,7 @@ pub fn start() -> Walk
 {
     Walk {
         place: 0,
-        pool: Some(Client::fresh(false, Client::CHUNK_LIMIT).pool),
+        pool: Ok(Client::fresh(false, Client::CHUNK_LIMIT).pool),
     }
 }
 

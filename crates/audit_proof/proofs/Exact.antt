@@ -1,5 +1,5 @@
 -- The auditor accepts exactly the good logs, and names the first record that is not so otherwise; a log in parts.
-use Rattle.std.specs.Prelude.{Option, Some, None, is_some}
+use Rattle.std.specs.Prelude.{Option, Some, None, Result, Ok, Err, is_ok}
 use mathlib.Core.Path.{◌≡◌, refl, sym, ap, subst, ◌∙◌}
 use mathlib.Core.Bool.{Bool, true, false, true≢false}
 use mathlib.Core.Logic.{inl, inr}
@@ -32,22 +32,22 @@ use Rattle.audit_proof.proofs.Back.{event-back, same_self, same-is}
 abbrev SoTo : ℕ → Pool → Record → Pool → Type 0
 SoTo n p r q = (x : So n p r) × (q ≡ (taken x.event p).pool)
 
-judged-so : (p q : Pool) (n : ℕ) (r : Record) (e : Logged) (a : Answer) → (taken e p).answer ≡ a → judged n r e a (taken e p).pool ≡ Some q → SoTo n p r q
+judged-so : (p q : Pool) (n : ℕ) (r : Record) (e : Logged) (a : Answer) → (taken e p).answer ≡ a → judged p n r e a (taken e p).pool ≡ Ok q → SoTo n p r q
 judged-so p q n r e (Answer.Refused k) ea t = cc t
 judged-so p q n r e (Answer.Done s) ea t =
     by_cases (same_record r (record_of n e s.outcome (taken e p).pool.roster))
-    (λ z. let u : Some (taken e p).pool ≡ Some q = rw z at t in (record { event = e; sent = s; accepted = ea; written = same-is r _ z }, cc u))
-    (λ z. let u : None ≡ Some q = rw z at t in cc u)
+    (λ z. let u : Ok (taken e p).pool ≡ Ok q = rw z at t in (record { event = e; sent = s; accepted = ea; written = same-is r _ z }, cc u))
+    (λ z. let u : Err p ≡ Ok q = rw z at t in cc u)
 
-named-so : (m : Option Logged) (p q : Pool) (n : ℕ) (r : Record) → checked_as m p n r ≡ Some q → SoTo n p r q
+named-so : (m : Option Logged) (p q : Pool) (n : ℕ) (r : Record) → checked_as m p n r ≡ Ok q → SoTo n p r q
 named-so None p q n r t = cc t
 named-so (Some e) p q n r t = judged-so p q n r e (taken e p).answer refl t
 
-checked-so : (p q : Pool) (n : ℕ) (r : Record) → checked p n r ≡ Some q → SoTo n p r q
+checked-so : (p q : Pool) (n : ℕ) (r : Record) → checked p n r ≡ Ok q → SoTo n p r q
 unfolding checked
 checked-so p q n r t = named-so (event_in r) p q n r t
 
-so-checked : (p : Pool) (n : ℕ) (r : Record) (x : So n p r) → checked p n r ≡ Some (taken x.event p).pool
+so-checked : (p : Pool) (n : ℕ) (r : Record) (x : So n p r) → checked p n r ≡ Ok (taken x.event p).pool
 unfolding checked
 so-checked p n r x =
     let e : event_in r ≡ Some x.event = ap event_in x.written ∙ event-back n x.event x.sent.outcome (taken x.event p).pool.roster in
@@ -59,7 +59,7 @@ so-checked p n r x =
 
 -- n records were so, and left p
 abbrev at : ℕ → Pool → Walk
-at n p = record { place = n; pool = Some p }
+at n p = record { place = n; pool = Ok p }
 
 pub place-after : (n : ℕ) → n < most → place_after n ≡ suc n
 unfolding place_after
@@ -69,25 +69,25 @@ turned-is : (n : ℕ) (p : Pool) (r : Record) → n < most → turned (at n p) r
 unfolding turned
 turned-is n p r h = rw (place-after n h) refl
 
-turned-stuck : (w : Walk) (r : Record) → w.pool ≡ None → turned w r ≡ w
+turned-stuck : (w : Walk) (p : Pool) (r : Record) → w.pool ≡ Err p → turned w r ≡ w
 unfolding turned
-turned-stuck w r e = ap (λ (o : Option Pool). turned_from o w r) e
+turned-stuck w p r e = ap (λ (o : Result Pool Pool). turned_from o w r) e
 
-stuck : (w : Walk) (rs : List Record) → w.pool ≡ None → walked w rs ≡ w
+stuck : (w : Walk) (p : Pool) (rs : List Record) → w.pool ≡ Err p → walked w rs ≡ w
 unfolding walked
-stuck w [] e = refl
-stuck w (r ∷ rs) e = ap (λ (v : Walk). walked v rs) (turned-stuck w r e) ∙ stuck w rs e
+stuck w p [] e = refl
+stuck w p (r ∷ rs) e = ap (λ (v : Walk). walked v rs) (turned-stuck w p r e) ∙ stuck w p rs e
 
 data Goes (n : ℕ) (p : Pool) (rs : List Record) (w : Walk) : Type 0 where
-  all : Log n p rs → is_some w.pool ≡ true → w.place ≡ n + length rs → Goes n p rs w
-  stops : (k : ℕ) → k < length rs → Log n p (take k rs) → (Log n p (take (suc k) rs) → ⊥) → is_some w.pool ≡ false → w.place ≡ suc (n + k) → Goes n p rs w
+  all : Log n p rs → is_ok w.pool ≡ true → w.place ≡ n + length rs → Goes n p rs w
+  stops : (k : ℕ) → k < length rs → Log n p (take k rs) → (Log n p (take (suc k) rs) → ⊥) → is_ok w.pool ≡ false → w.place ≡ suc (n + k) → Goes n p rs w
 
 -- a record is so to one pool
-one_pool : (o : Option Pool) (p q : Pool) → o ≡ Some p → o ≡ Some q → p ≡ q
+one_pool : (o : Result Pool Pool) (p q : Pool) → o ≡ Ok p → o ≡ Ok q → p ≡ q
 one_pool o p q e f = cc
 
 -- a record that is so stands before them
-goes-more : (n : ℕ) (p q : Pool) (r : Record) (rs : List Record) (w : Walk) → checked p (suc n) r ≡ Some q → Goes (suc n) q rs w → Goes n p (r ∷ rs) w
+goes-more : (n : ℕ) (p q : Pool) (r : Record) (rs : List Record) (w : Walk) → checked p (suc n) r ≡ Ok q → Goes (suc n) q rs w → Goes n p (r ∷ rs) w
 goes-more n p q r rs w t (Goes.all l e f) =
     let x = checked-so p q (suc n) r t in
     Goes.all (x.0, subst (λ (q : Pool). Log (suc n) q rs) x.1 l) e (omega (arith, f))
@@ -97,14 +97,14 @@ goes-more n p q r rs w t (Goes.stops k h l m e f) =
     (λ y. m (subst (λ (q : Pool). Log (suc n) q (take (suc k) rs)) (one_pool _ _ q (so-checked p (suc n) r y.0) t) y.1))
     e (omega (arith, f))
 
-goes-on : (n : ℕ) (p : Pool) (r : Record) (rs : List Record) → n < most → ((q : Pool) → Goes (suc n) q rs (walked (at (suc n) q) rs)) → (o : Option Pool) → checked p (suc n) r ≡ o → Goes n p (r ∷ rs) (walked (turned (at n p) r) rs)
-goes-on n p r rs h m None t =
-    let v : Walk = record { place = suc n; pool = None } in
-    let e : turned (at n p) r ≡ v = turned-is n p r h ∙ ap (λ (o : Option Pool). record { place = suc n; pool = o }) t in
-    subst (Goes n p (r ∷ rs)) (sym (ap (λ (w : Walk). walked w rs) e ∙ stuck v rs refl))
-    (Goes.stops 0 (omega arith) tt (λ y. let z : None ≡ Some (taken y.0.event p).pool = sym t ∙ so-checked p (suc n) r y.0 in cc z) refl (omega arith))
-goes-on n p r rs h m (Some q) t =
-    let e : turned (at n p) r ≡ at (suc n) q = turned-is n p r h ∙ ap (λ (o : Option Pool). record { place = suc n; pool = o }) t in
+goes-on : (n : ℕ) (p : Pool) (r : Record) (rs : List Record) → n < most → ((q : Pool) → Goes (suc n) q rs (walked (at (suc n) q) rs)) → (o : Result Pool Pool) → checked p (suc n) r ≡ o → Goes n p (r ∷ rs) (walked (turned (at n p) r) rs)
+goes-on n p r rs h m (Err x) t =
+    let v : Walk = record { place = suc n; pool = Err x } in
+    let e : turned (at n p) r ≡ v = turned-is n p r h ∙ ap (λ (o : Result Pool Pool). record { place = suc n; pool = o }) t in
+    subst (Goes n p (r ∷ rs)) (sym (ap (λ (w : Walk). walked w rs) e ∙ stuck v x rs refl))
+    (Goes.stops 0 (omega arith) tt (λ y. let z : Err x ≡ Ok (taken y.0.event p).pool = sym t ∙ so-checked p (suc n) r y.0 in cc z) refl (omega arith))
+goes-on n p r rs h m (Ok q) t =
+    let e : turned (at n p) r ≡ at (suc n) q = turned-is n p r h ∙ ap (λ (o : Result Pool Pool). record { place = suc n; pool = o }) t in
     subst (λ (w : Walk). Goes n p (r ∷ rs) (walked w rs)) (sym e) (goes-more n p q r rs _ t (m q))
 
 goes : (n : ℕ) (p : Pool) (rs : List Record) → n + length rs ≤ most → Goes n p rs (walked (at n p) rs)

@@ -1,5 +1,5 @@
 -- The audit of a log, record by record. That it accepts exactly the logs that it must is said in the crate `logs`.
-use Rattle.std.specs.Prelude.{List, [], ◌∷◌, ℕ, Option, Some, None, is_some}
+use Rattle.std.specs.Prelude.{List, [], ◌∷◌, ℕ, Option, Some, None, Result, Ok, Err, is_ok}
 use Rattle.laws_words.specs.Words.{pick}
 use Rattle.rules_pool.specs.declared.Answer.{Answer}
 use Rattle.rules_pool.specs.declared.Pool.{Pool}
@@ -10,22 +10,22 @@ use Rattle.audit_replay.specs.Replay.{taken}
 use Rattle.audit_replay.specs.declared.auditing.Walk.{Walk}
 use Rattle.audit_replay.specs.declared.auditing.Verdict.{Verdict}
 
--- the pool after a record that is so: the event is accepted, and the record is the one that it makes; else none
-abbrev pub judged : ℕ → Record → Logged → Answer → Pool → Option Pool
-judged n r e (Answer.Refused k) after = None
-judged n r e (Answer.Done s) after = pick (same_record r (record_of n e s.outcome after.roster)) (Some after) None
+-- Ok: the event is accepted, the record is the one that it makes, and this is the pool after it. Err: it is not so, and the pool stays as it was before the record.
+abbrev pub judged : Pool → ℕ → Record → Logged → Answer → Pool → Result Pool Pool
+judged p n r e (Answer.Refused k) after = Err p
+judged p n r e (Answer.Done s) after = pick (same_record r (record_of n e s.outcome after.roster)) (Ok after) (Err p)
 
-abbrev pub checked_as : Option Logged → Pool → ℕ → Record → Option Pool
-checked_as None p n r = None
-checked_as (Some e) p n r = judged n r e (taken e p).answer (taken e p).pool
+abbrev pub checked_as : Option Logged → Pool → ℕ → Record → Result Pool Pool
+checked_as None p n r = Err p
+checked_as (Some e) p n r = judged p n r e (taken e p).answer (taken e p).pool
 
--- the pool after the record r at the place n, after the pool p; none where it is not so
-unfoldable pub checked : Pool → ℕ → Record → Option Pool
+-- the record r at the place n, after the pool p
+unfoldable pub checked : Pool → ℕ → Record → Result Pool Pool
 checked p n r = checked_as (event_in r) p n r
 
-abbrev pub turned_from : Option Pool → Walk → Record → Walk
-turned_from None w r = w
-turned_from (Some p) w r = record { place = place_after w.place; pool = checked p (place_after w.place) r }
+abbrev pub turned_from : Result Pool Pool → Walk → Record → Walk
+turned_from (Err p) w r = w
+turned_from (Ok p) w r = record { place = place_after w.place; pool = checked p (place_after w.place) r }
 
 -- One record more. After the first that is not so nothing is looked at.
 unfoldable pub turned : Walk → Record → Walk
@@ -37,4 +37,4 @@ walked w [] = w
 walked w (r ∷ rs) = walked (turned w r) rs
 
 unfoldable pub verdict_of : Walk → Verdict
-verdict_of w = pick (is_some w.pool) (Verdict.Accepted w.place) (Verdict.Wrong w.place)
+verdict_of w = pick (is_ok w.pool) (Verdict.Accepted w.place) (Verdict.Wrong w.place)

@@ -5,11 +5,11 @@ ghost use Rattle.audit_replay.specs.Audit.{judged, checked, turned, verdict_of};
 use audit_record::records::{Logged, Record};
 use rules_pool::{Answer, Pool, Turn};
 
-// How far an audit is. pool is the one after the records so far, all of which were so, and place is how many there were. None: a record was not so, and place is its place in the log, from 1.
+// How far an audit is. Ok: all the records so far were so, place is how many there were, and the pool is the one after them. Err: a record was not so, place is its place in the log, from 1, and the pool is the one before it.
 #[derive(Clone, Copy)]
 pub struct Walk {
     pub place: u64,
-    pub pool: Option<Pool>,
+    pub pool: Result<Pool, Pool>,
 }
 
 // Accepted: how many records. Wrong: the place of the first that is not so. No Result: both are verdicts, each a number, and nobody goes on with the one or the other.
@@ -19,24 +19,24 @@ pub enum Verdict {
     Wrong(u64),
 }
 
-// The pool after a record at the place n that names the event e, which came to t; none where it is not so: the event is accepted, and the record is the one that it makes.
-fn judge(n: u64, r: Record, e: Logged, t: Turn) -> Option<Pool>
-    ensures { result ≡ judged n r e t.answer t.pool }
+// A record at the place n, after the pool p, that names the event e, which came to t. Ok: the event is accepted, the record is the one that it makes, and this is the pool after it. Err: it is not so, and the pool is p.
+fn judge(p: Pool, n: u64, r: Record, e: Logged, t: Turn) -> Result<Pool, Pool>
+    ensures { result ≡ judged p n r e t.answer t.pool }
 {
     let Answer::Done(s) = t.answer else {
-        return None;
+        return Err(p);
     };
     let must = audit_record::records::record_of(n, e, s.outcome, t.pool.roster);
-    (r == must).then_some(t.pool)
+    if r == must { Ok(t.pool) } else { Err(p) }
 }
 
-// The pool after the record r at the place n, after the pool p; none where the record is not so.
+// The record r at the place n, after the pool p. Ok: it is so, and this is the pool after it. Err: it is not so, and the pool is p.
 #[tactic(auto, unfolding(crate::specs::Audit::checked))]
-fn check(p: Pool, n: u64, r: Record) -> Option<Pool>
+fn check(p: Pool, n: u64, r: Record) -> Result<Pool, Pool>
     ensures { result ≡ checked p n r }
 {
-    let e = audit_record::records::event_in(r)?;
-    judge(n, r, e, crate::replay::take(p, e))
+    let e = audit_record::records::event_in(r).ok_or(p)?;
+    judge(p, n, r, e, crate::replay::take(p, e))
 }
 
 // One record more. After the first that is not so nothing is looked at.
@@ -44,7 +44,7 @@ fn check(p: Pool, n: u64, r: Record) -> Option<Pool>
 pub fn turn(w: Walk, r: Record) -> Walk
     ensures { result ≡ turned w r }
 {
-    let Some(pool) = w.pool else {
+    let Ok(pool) = w.pool else {
         return w;
     };
     let place = audit_record::records::place_after(w.place);
@@ -58,7 +58,7 @@ pub fn turn(w: Walk, r: Record) -> Walk
 pub fn verdict_of(w: Walk) -> Verdict
     ensures { result ≡ verdict_of w }
 {
-    if w.pool.is_some() {
+    if w.pool.is_ok() {
         Verdict::Accepted(w.place)
     } else {
         Verdict::Wrong(w.place)

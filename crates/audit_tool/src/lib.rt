@@ -2,7 +2,12 @@
 // what is made of a line, of a record and of the verdict is in those below.
 #![tactic(auto)]
 
+ghost use Rattle.std.specs.Prelude.{◌≡◌};
+ghost use Rattle.text_bytes.specs.Ink.{ink, emits_all};
+ghost use Rattle.audit_line.specs.Text.{verdict_text};
+
 use audit_list::batches::Batch;
+use audit_replay::auditing::Verdict;
 use std::io;
 use std::io::{Print, Read};
 use text_bytes::page::Page;
@@ -50,7 +55,18 @@ fn take_last(b: Batch, n: usize, line: &[u8]) -> Batch {
 
 fn answer(rt: &impl Print, b: Batch, out: &mut [u8]) -> io::Result<()> {
     let v = audit_replay::auditing::verdict_of(audit_list::batches::close(b));
+    let n = verdict_line(v, out);
+    if out.len() < n {
+        return Ok(());
+    }
+    rt.write_all(&out[..n])
+}
+
+// Puts the verdict's line at the start of out, and says how long it is.
+fn verdict_line(v: Verdict, out: &mut [u8]) -> usize
+    ensures { ink out.new result ≡ emits_all (ink out.old 0) (verdict_text v) }
+{
     let mut page = Page::new(out, 0);
     audit_line::put_verdict(&mut page, v);
-    rt.write_all(page.text())
+    page.at()
 }

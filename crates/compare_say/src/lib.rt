@@ -3,13 +3,15 @@
 
 ghost use Rattle.std.specs.Prelude.{◌≡◌};
 ghost use Rattle.text_bytes.specs.Ink.{emits};
+ghost use Rattle.text_bytes.specs.Pages.{page_ink, lender};
 ghost use Rattle.compare_say.specs.Said.{line_text, member_text, head_text};
 
 use compare_walk::differences::{Difference, next_difference};
 use text_bytes::page::Page;
 
 fn put_line(page: &mut Page, d: Difference)
-    ensures { page.new ≡ emits page.old (line_text d) }
+    ensures same_reference { lender page.new ≡ lender page.old }
+    ensures value { page_ink page.new ≡ emits (page_ink page.old) (line_text d) }
 {
     page.put_number(d.member);
     page.put(b' ');
@@ -21,7 +23,8 @@ fn put_line(page: &mut Page, d: Difference)
 
 // The lines of one member's differences, by a walk through its row.
 pub fn put_member(page: &mut Page, first: &[u8], second: &[u8], member: u64)
-    ensures { page.new ≡ emits page.old (member_text first.now second.now member) }
+    ensures same_reference { lender page.new ≡ lender page.old }
+    ensures value { page_ink page.new ≡ emits (page_ink page.old) (member_text first.now second.now member) }
 {
     let mut c = 0;
     // No range: each turn goes on behind the chunk that was found.
@@ -43,7 +46,8 @@ pub fn put_member(page: &mut Page, first: &[u8], second: &[u8], member: u64)
 
 // What comes before the lines: that the dumps are refused, or the same; nothing where there are differences.
 pub fn put_head(page: &mut Page, first: &[u8], second: &[u8])
-    ensures { page.new ≡ emits page.old (head_text first.now second.now) }
+    ensures same_reference { lender page.new ≡ lender page.old }
+    ensures value { page_ink page.new ≡ emits (page_ink page.old) (head_text first.now second.now) }
 {
     match next_difference(first, second, 0, 0) {
         Err(why) => {

@@ -2,6 +2,10 @@
 // nothing is written on standard output.
 #![tactic(auto)]
 
+ghost use Rattle.std.specs.Prelude.{◌≡◌};
+ghost use Rattle.text_bytes.specs.Ink.{ink, emits};
+ghost use Rattle.compare_say.specs.Said.{head_text, member_text};
+
 use std::io::{Print, Read};
 use std::rt::Files;
 use std::{fs, io};
@@ -26,15 +30,39 @@ fn load(rt: &impl Files, errors: &impl Print, name: &str, buf: &mut [u8]) -> Opt
     }
 }
 
-// The head, then the lines of each member: together the whole answer (`printed`). Each fits a buffer of 40,960 bytes (`fits`).
-fn say_all(rt: &impl Print, first: &[u8], second: &[u8], out: &mut [u8]) -> io::Result<()> {
+// Writes what stands in out up to at.
+fn flush(rt: &impl Print, at: usize, out: &[u8]) -> io::Result<()> {
+    if out.len() < at {
+        return Ok(());
+    }
+    rt.write_all(&out[..at])
+}
+
+// Puts what comes before the lines at the start of out, and says how long it is.
+fn head(first: &[u8], second: &[u8], out: &mut [u8]) -> usize
+    ensures { ink out.new result ≡ emits (ink out.old 0) (head_text first.now second.now) }
+{
     let mut page = Page::new(out, 0);
     compare_say::put_head(&mut page, first, second);
-    rt.write_all(page.text())?;
+    page.at()
+}
+
+// Puts a member's lines at the start of out, and says how long they are.
+fn lines(first: &[u8], second: &[u8], member: u64, out: &mut [u8]) -> usize
+    ensures { ink out.new result ≡ emits (ink out.old 0) (member_text first.now second.now member) }
+{
+    let mut page = Page::new(out, 0);
+    compare_say::put_member(&mut page, first, second, member);
+    page.at()
+}
+
+// The head, then the lines of each member: together the whole answer (`printed`). Each fits a buffer of 40,960 bytes (`fits`).
+fn say_all(rt: &impl Print, first: &[u8], second: &[u8], out: &mut [u8]) -> io::Result<()> {
+    let n = head(first, second, out);
+    flush(rt, n, out)?;
     for m in 0..16 {
-        let mut page = Page::new(out, 0);
-        compare_say::put_member(&mut page, first, second, m);
-        rt.write_all(page.text())?;
+        let n = lines(first, second, m, out);
+        flush(rt, n, out)?;
     }
     Ok(())
 }

@@ -3,15 +3,24 @@
 
 pub mod obeying;
 
+ghost use Rattle.std.specs.Prelude.{◌≡◌};
+ghost use Rattle.text_bytes.specs.Ink.{ink};
+ghost use Rattle.lab_say_line.specs.Lines.{line_in, row_in};
+
 use crate::obeying::Desk;
+use lab_form::Which;
+use lab_places::Bench;
 use lab_say_line::Said;
+use rules_client::Check;
+use rules_node::Node;
+use rules_pool::Pool;
 use std::io;
 use std::io::{Print, Read};
 use text_bytes::page::Page;
 use text_words::fetching::{Cur, Got};
 
 // Where a run stands: the lab, the reading with its buffer and the line so far, and the output, of which the first bytes up to at are not written yet.
-#[derive(Drop)]
+#[derive(Clone, Copy)]
 pub struct Stand {
     pub desk: Desk,
     pub cur: Cur,
@@ -70,13 +79,11 @@ impl Stand {
         self.room(rt)?;
         let Desk { bench, lab, .. } = &self.desk;
         let (pool, check) = (lab.client.pool, lab.client.check);
-        let node = bench.node_in(number_of(said)).node;
-        let mut page = Page::new(&mut self.out, self.at);
-        lab_say_line::put_line(&mut page, said, pool, check, node);
+        let node = lab_places::node_in(number_of(said), &bench.nodes).node;
+        self.at = said_line(self.at, said, pool, check, node, &mut self.out);
         if let Said::Row(w, m) = said {
-            lab_say_line::put_row(&mut page, w, m, &bench.own, &bench.maps, &bench.stagings);
+            self.at = row_line(self.at, w, m, bench, &mut self.out);
         }
-        self.at = page.at();
         Ok(())
     }
 
@@ -105,4 +112,22 @@ fn number_of(s: Said) -> u64 {
         Said::Node(n) | Said::Asked(n, _) | Said::Next(n, _) | Said::LookNode(n) => n,
         _ => 0,
     }
+}
+
+// Puts what is said into out, at the place `at`, and gives the next place.
+fn said_line(at: usize, said: Said, pool: Pool, check: Check, node: Node, out: &mut [u8]) -> usize
+    ensures { ink out.new result ≡ line_in (ink out.old at) said pool check node }
+{
+    let mut page = Page::new(out, at);
+    lab_say_line::put_line(&mut page, said, pool, check, node);
+    page.at()
+}
+
+// The same of member m's row in one of the maps.
+fn row_line(at: usize, w: Which, m: u64, bench: &Bench, out: &mut [u8]) -> usize
+    ensures { ink out.new result ≡ row_in (ink out.old at) w m bench.now.own bench.now.maps bench.now.stagings }
+{
+    let mut page = Page::new(out, at);
+    lab_say_line::put_row(&mut page, w, m, &bench.own, &bench.maps, &bench.stagings);
+    page.at()
 }

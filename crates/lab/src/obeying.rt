@@ -2,15 +2,17 @@
 use audit_record::journal::Journal;
 use event::{Event, Question};
 use event_ask::ask::Finding;
+use lab_deliver::delivery::Places;
 use lab_deliver::post::Errand;
 use lab_form::{Command, Which};
 use lab_places::Bench;
 use lab_say_line::Said;
 use lab_state::Lab;
 use rules_node::Answer;
+use rules_pool::Told;
 
 // The nodes and the maps, the client with what the lab knows beside it, and the log of the client's events.
-#[derive(Drop)]
+#[derive(Clone, Copy)]
 pub struct Desk {
     pub bench: Bench,
     pub lab: Lab,
@@ -49,11 +51,26 @@ impl Desk {
     }
 
     fn run(&mut self, errand: Option<Errand>) -> Answer {
-        lab_deliver::delivery::run(errand, self.lab.cut, self.lab.lent, &mut self.bench)
+        let mut places = Places {
+            nodes: &mut self.bench.nodes,
+            maps: &mut self.bench.maps,
+            stagings: &mut self.bench.stagings,
+        };
+        lab_deliver::delivery::run(errand, self.lab.cut, self.lab.lent, &mut places)
+    }
+
+    fn tell(&mut self, told: Told) {
+        let mut places = Places {
+            nodes: &mut self.bench.nodes,
+            maps: &mut self.bench.maps,
+            stagings: &mut self.bench.stagings,
+        };
+        lab_deliver::delivery::tell_all(told, self.lab.lent, &mut places);
     }
 
     fn ask(&self, n: u64, q: Question) -> Finding {
-        lab_deliver::delivery::ask(n, q, self.lab.lent, &self.bench)
+        let b = &self.bench;
+        lab_deliver::delivery::ask(n, q, self.lab.lent, &b.nodes, &b.maps, &b.stagings)
     }
 
     fn node_said(&mut self, n: u64, errand: Errand) -> Said {
@@ -100,14 +117,14 @@ impl Desk {
             auto,
             ..
         } = self.lab;
-        let out = lab_lend::client_event::client_event(client, lent, e, &mut self.bench);
+        let b = &mut self.bench;
+        let out = lab_lend::client_event::client_event(client, lent, e, &mut b.own, &b.maps);
         self.log = audit_record::journal::enter(self.log, e, out.answer, out.client.pool.roster);
         match out.answer {
             rules_pool::Answer::Refused(why) => Said::Refused(why),
             rules_pool::Answer::Done(sent) => {
                 self.lab = self.lab.after(out.client, sent.awaited, sent.number);
-                let told = lab_deliver::heard::told_if(auto, sent.told);
-                lab_deliver::delivery::tell_all(told, lent, &mut self.bench);
+                self.tell(lab_deliver::heard::told_if(auto, sent.told));
                 Said::Client(sent)
             }
         }
@@ -115,17 +132,18 @@ impl Desk {
 
     // A line that sets the lab up. A new pool's log is empty; a byte in a node's map: the six words of its row are made true of it.
     fn arrange(&mut self, c: Command) {
-        self.bench.arrange(c);
+        let b = &mut self.bench;
+        lab_places::arrange(c, &mut b.nodes);
         self.lab = self.lab.arrange(c);
         match c {
             Command::Pool(_, _) => {
-                lab_set::arranging::zero_all(&mut self.bench);
+                lab_set::arranging::zero_all(&mut b.own, &mut b.maps, &mut b.stagings);
                 self.log = audit_record::journal::fresh();
             }
             Command::Byte(w, i, v) => {
-                lab_set::arranging::store(w, i, v, &mut self.bench);
+                lab_set::arranging::store(w, i, v, &mut b.own, &mut b.maps, &mut b.stagings);
                 if let Which::Node(n) = w {
-                    lab_set::truing::true_row(n, i / 512, &mut self.bench);
+                    lab_set::truing::true_row(n, i / 512, &mut b.nodes, &b.maps);
                 }
             }
             _ => {}

@@ -15,14 +15,13 @@ use Rattle.event_ask.specs.declared.lending.Span.{Span}
 use Rattle.event_ask.specs.Lending.{cut, Stands}
 use Rattle.event_ask.proofs.Parts.{part-is, put_is}
 use Rattle.event.specs.OfClient.{event_of, own_left}
-use Rattle.lab_places.specs.declared.Bench.{Bench}
 use Rattle.lab_lend.specs.Client.{lender, read_of, client_hands, own_after}
 
-module _ (lent : Lent) (e : value.Event) (b : Bench) {c : Client} {map read : List ℕ} {left : LentMap} {r : Out} {s : Span} where
-  pub lent-meets : Stands (length b.own) 0 (cut lent.own) s
-      → read ≡ read_of lent (lender e) b.maps
-      → Meets (event_of e (take (s.to - s.from) (drop s.from b.own)) read) (held c) (came r) left
-      → map ≡ own_left e (held c) (take (s.to - s.from) (drop s.from b.own))
-      → (r ≡ client_hands c lent e b) × (put_mid s.from (s.to - s.from) b.own map ≡ (own_after c lent e b).own)
+module _ (lent : Lent) (e : value.Event) (own xs : List ℕ) {c : Client} {map read : List ℕ} {left : LentMap} {r : Out} {s : Span} where
+  pub lent-meets : Stands (length own) 0 (cut lent.own) s
+      → read ≡ read_of lent (lender e) xs
+      → Meets (event_of e (take (s.to - s.from) (drop s.from own)) read) (held c) (came r) left
+      → map ≡ own_left e (held c) (take (s.to - s.from) (drop s.from own))
+      → (r ≡ client_hands c lent e own xs) × (put_mid s.from (s.to - s.from) own map ≡ own_after c lent e own)
   lent-meets x y p q =
-      (ap given (rw (part-is b.own x, y) at p).answer, put_is b.own x (rw (part-is b.own x) at q))
+      (ap given (rw (part-is own x, y) at p).answer, put_is own x (rw (part-is own x) at q))

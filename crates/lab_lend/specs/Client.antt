@@ -1,4 +1,4 @@
--- A client's event, its maps lent as far as the lab lends them. xs holds the maps of all nodes.
+-- A client's event, its maps lent as far as the lab lends them. own is the client's map, xs holds the maps of all nodes.
 use Rattle.std.specs.Prelude.{List, [], ℕ, Option, Some, None}
 use Rattle.event.specs.declared.Event as value
 use Rattle.client.specs.declared.Client.{Client}
@@ -7,7 +7,6 @@ use Rattle.client.specs.Client.{held, given}
 use Rattle.rules_client.specs.ClientEvents.{Event, out_of}
 use Rattle.event_ask.specs.declared.lending.Lent.{Lent}
 use Rattle.event_ask.specs.Lending.{cut, size_of, part, put_back}
-use Rattle.lab_places.specs.declared.Bench.{Bench}
 use Rattle.event.specs.OfClient.{event_of, own_left}
 
 -- whose map is lent to synced; nobody's at any other event
@@ -38,18 +37,12 @@ read_of lent None xs = []
 read_of lent (Some n) xs = part xs n (size_of lent.maps n)
 
 -- the event of the theorems: what is read is the lent part of that node's map
-abbrev pub lent_event : value.Event → Lent → Bench → Event
-lent_event e lent b = event_of e (own_of lent b.own) (read_of lent (lender e) b.maps)
+abbrev pub lent_event : value.Event → Lent → List ℕ → List ℕ → Event
+lent_event e lent own xs = event_of e (own_of lent own) (read_of lent (lender e) xs)
 
--- what the client hands back, and the bench after the event: the lent part of the client's map as the event leaves it, all other bytes as they were
-abbrev pub client_hands : Client → Lent → value.Event → Bench → Out
-client_hands c lent e b = given (out_of (lent_event e lent b) (held c))
+-- what the client hands back, and its map after the event: the lent part as the event leaves it, all other bytes as they were
+abbrev pub client_hands : Client → Lent → value.Event → List ℕ → List ℕ → Out
+client_hands c lent e own xs = given (out_of (lent_event e lent own xs) (held c))
 
-abbrev pub own_after : Client → Lent → value.Event → Bench → Bench
-own_after c lent e b =
-    record {
-      own = put_back b.own 0 (cut lent.own) (own_left e (held c) (own_of lent b.own));
-      nodes = b.nodes;
-      maps = b.maps;
-      stagings = b.stagings;
-    }
+abbrev pub own_after : Client → Lent → value.Event → List ℕ → List ℕ
+own_after c lent e own = put_back own 0 (cut lent.own) (own_left e (held c) (own_of lent own))

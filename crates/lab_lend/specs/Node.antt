@@ -1,7 +1,8 @@
--- A node's event, its maps lent as far as the lab lends them. xs holds the maps of all nodes.
-use Rattle.std.specs.Prelude.{List, [], ◌∷◌, ℕ, zero, suc, min, set, drop}
+-- A node's event, its maps lent as far as the lab lends them. xs holds the maps of all nodes, ys their staging maps.
+use Rattle.std.specs.Prelude.{List, [], ◌∷◌, ℕ, zero, suc, min, drop}
 use Rattle.rules_base.specs.Limits.{map_bytes}
 use Rattle.event.specs.declared.NodeEvent.{NodeEvent}
+use Rattle.node.specs.declared.StorageNode.{StorageNode}
 use Rattle.node.specs.declared.Out.{Out}
 use Rattle.rules_node.specs.declared.Answer.{Answer}
 use Rattle.rules_node.specs.Events.{Event}
@@ -9,8 +10,6 @@ use Rattle.node.specs.Face.{answers, map_left, staging_left}
 use Rattle.event_ask.specs.declared.lending.Lent.{Lent}
 use Rattle.event_ask.specs.Lending.{size_of, part, map_of, staging_of, put_back}
 use Rattle.event.specs.OfNode.{event_of}
-use Rattle.lab_places.specs.declared.Bench.{Bench}
-use Rattle.lab_places.specs.Places.{node_in}
 
 -- how much is taken at a time: twice as much as a part may have, so that one that is too long can be tried
 abbrev pub most_taken : ℕ
@@ -46,22 +45,15 @@ part_taken NodeEvent.MapGetVer xs = []
 part_taken (NodeEvent.Fill member version) xs = []
 
 -- the event of the theorems, with the part that it takes
-abbrev pub lent_event : NodeEvent → Bench → Event
-lent_event e b = event_of e (part_taken e b.maps)
+abbrev pub lent_event : NodeEvent → List ℕ → Event
+lent_event e xs = event_of e (part_taken e xs)
 
--- what node k hands back
-abbrev pub out_at : ℕ → Lent → NodeEvent → Bench → Out Answer
-out_at k lent e b = answers (lent_event e b) (node_in b k) (map_of lent k b.maps) (staging_of lent k b.stagings)
+-- what node k answers, and the two buffers after it: the lent parts as the event leaves them, all other bytes as they were
+abbrev pub node_answers : StorageNode → ℕ → Lent → NodeEvent → List ℕ → List ℕ → Out Answer
+node_answers n k lent e xs ys = answers (lent_event e xs) n (map_of lent k xs) (staging_of lent k ys)
 
--- its answer, and the bench after it: the node and the lent parts as the event leaves them, the other nodes and all other bytes as they were
-abbrev pub answer_at : ℕ → Lent → NodeEvent → Bench → Answer
-answer_at k lent e b = (out_at k lent e b).answer
+abbrev pub maps_left : StorageNode → ℕ → Lent → NodeEvent → List ℕ → List ℕ → List ℕ
+maps_left n k lent e xs ys = put_back xs k (size_of lent.maps k) (map_left (lent_event e xs) n (map_of lent k xs) (staging_of lent k ys))
 
-abbrev pub left_at : ℕ → Lent → NodeEvent → Bench → Bench
-left_at k lent e b =
-    record {
-      own = b.own;
-      nodes = set b.nodes k (out_at k lent e b).node;
-      maps = put_back b.maps k (size_of lent.maps k) (map_left (lent_event e b) (node_in b k) (map_of lent k b.maps) (staging_of lent k b.stagings));
-      stagings = put_back b.stagings k (size_of lent.stagings k) (staging_left (lent_event e b) (node_in b k) (map_of lent k b.maps) (staging_of lent k b.stagings));
-    }
+abbrev pub stagings_left : StorageNode → ℕ → Lent → NodeEvent → List ℕ → List ℕ → List ℕ
+stagings_left n k lent e xs ys = put_back ys k (size_of lent.stagings k) (staging_left (lent_event e xs) n (map_of lent k xs) (staging_of lent k ys))

@@ -5,7 +5,6 @@ ghost use Rattle.lab_lend.specs.Client.{lender, client_hands, own_after};
 use client::{Client, Out};
 use event::Event;
 use event_ask::lending::Lent;
-use lab_places::Bench;
 
 // Whose map is read, if any.
 fn read_from(e: Event) -> Option<u64>
@@ -17,18 +16,17 @@ fn read_from(e: Event) -> Option<u64>
     }
 }
 
-// The event, on the client's map and a node's. lent is the lab's, which lines change; the bench is lent as a whole, to be written.
-pub fn client_event(c: Client, lent: Lent, e: Event, bench: &mut Bench) -> Out
-    ensures value { result ≡ client_hands c lent e bench.old }
-    ensures own_after { bench.new ≡ own_after c lent e bench.old }
+// The event; own is the client's map, maps are those of the nodes.
+pub fn client_event(c: Client, lent: Lent, e: Event, own: &mut [u8], maps: &[u8]) -> Out
+    ensures value { result ≡ client_hands c lent e own.old maps.now }
+    ensures own_after { own.new ≡ own_after c lent e own.old }
 {
-    let s = event_ask::lending::find(bench.own.len(), 0, event_ask::lending::cut(lent.own));
-    let maps: &[u8] = &bench.maps;
+    let s = event_ask::lending::find(own.len(), 0, event_ask::lending::cut(lent.own));
     match read_from(e) {
-        None => event_call::client_event::call(c, e, &mut bench.own[s.from..s.to], &[]),
+        None => event_call::client_event::call(c, e, &mut own[s.from..s.to], &[]),
         Some(n) => {
             let t = event_ask::lending::find(maps.len(), n, event_ask::lending::size(lent.maps, n));
-            event_call::client_event::call(c, e, &mut bench.own[s.from..s.to], &maps[t.from..t.to])
+            event_call::client_event::call(c, e, &mut own[s.from..s.to], &maps[t.from..t.to])
         }
     }
 }

@@ -1,10 +1,10 @@
 // A node's event, its two maps lent as far as the lab lends them.
 ghost use Rattle.std.specs.Prelude.{◌≡◌, ◌≤◌, min, take, drop, replicate};
-ghost use Rattle.lab_lend.specs.Node.{most_taken, padded, part_taken, answer_at, left_at};
+ghost use Rattle.lab_lend.specs.Node.{most_taken, padded, part_taken, node_answers, maps_left, stagings_left};
 
 use event::NodeEvent;
 use event_ask::lending::Lent;
-use lab_places::Bench;
+use node::{Out, StorageNode};
 use rules_node::Answer;
 
 // n bytes of a map from the offset on in scratch, 0 past its end.
@@ -34,25 +34,31 @@ fn fetch(e: NodeEvent, maps: &[u8], scratch: &mut [u8]) -> usize
 }
 
 // The event of node k, on its part of the nodes' maps and of their staging maps.
-pub fn node_event(k: u64, lent: Lent, e: NodeEvent, bench: &mut Bench) -> Answer
-    ensures value { result ≡ answer_at k lent e bench.old }
-    ensures after { bench.new ≡ left_at k lent e bench.old }
+pub fn node_event(
+    n: StorageNode,
+    k: u64,
+    lent: Lent,
+    e: NodeEvent,
+    maps: &mut [u8],
+    stagings: &mut [u8],
+) -> Out<Answer>
+    ensures value { result ≡ node_answers n k lent e maps.old stagings.old }
+    ensures maps_after { maps.new ≡ maps_left n k lent e maps.old stagings.old }
+    ensures stagings_after { stagings.new ≡ stagings_left n k lent e maps.old stagings.old }
 {
     let mut scratch = [0u8; 2048];
-    let size = fetch(e, &bench.maps, &mut scratch);
-    let s = event_ask::lending::find(bench.maps.len(), k, event_ask::lending::size(lent.maps, k));
+    let size = fetch(e, maps, &mut scratch);
+    let s = event_ask::lending::find(maps.len(), k, event_ask::lending::size(lent.maps, k));
     let t = event_ask::lending::find(
-        bench.stagings.len(),
+        stagings.len(),
         k,
         event_ask::lending::size(lent.stagings, k),
     );
-    let out = event_call::node_event::call(
-        bench.node_in(k),
+    event_call::node_event::call(
+        n,
         e,
-        &mut bench.maps[s.from..s.to],
-        &mut bench.stagings[t.from..t.to],
+        &mut maps[s.from..s.to],
+        &mut stagings[t.from..t.to],
         &scratch[..size],
-    );
-    bench.put(k, out.node);
-    out.answer
+    )
 }

@@ -3,7 +3,7 @@ use lib.Seq.{get_or-set_same, get_or-set_other}
 use Rattle.lab_places.specs.Kept.{PutStands, OthersStay}
 
 pub put-stands : PutStands
-put-stands b n s h = get_or-set_same b.nodes n _ _ h
+put-stands ns n s h = get_or-set_same ns n _ _ h
 
 pub others-stay : OthersStay
-others-stay b n m s h = get_or-set_other b.nodes n m _ _ h
+others-stay ns n m s h = get_or-set_other ns n m _ _ h

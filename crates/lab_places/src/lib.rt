@@ -1,17 +1,18 @@
 // The lab's bench: the nodes, each in its place, and the maps: the client's, and those of the nodes, which stand one after another.
 #![tactic(auto)]
 
-ghost use Rattle.std.specs.Prelude.{◌≡◌};
-ghost use Rattle.lab_places.specs.Fresh.{fresh_nodes as Fresh·fresh_nodes};
+ghost use Rattle.std.specs.Prelude.{◌≡◌, length};
+ghost use Rattle.lab_places.specs.Fresh.{fresh_nodes};
+ghost use Rattle.lab_places.specs.Places.{node_in, with_node, arranged};
 ghost use Rattle.lab_places.specs.Poke.{poked as Poke·poked, poked_got as Poke·poked_got, poked_word as Poke·poked_word};
 
 use lab_form::Command;
 use node::StorageNode;
 use rules_node::State;
 
-// Sixteen nodes, and of each a map and a staging map of 8,192 bytes. Only main holds one.
+// Sixteen nodes, and of each a map and a staging map of 8,192 bytes. Only main holds one; what works on nodes and maps takes slices of any length, and of the bench's those that it writes or reads.
 // No array of a node with its maps: the maps of one kind stand one after another, since an event lends a part of them, and the part is found in such a buffer.
-#[derive(Drop)]
+#[derive(Clone, Copy)]
 pub struct Bench {
     pub own: [u8; 8192],
     pub nodes: [StorageNode; 16],
@@ -20,64 +21,66 @@ pub struct Bench {
 }
 
 impl Bench {
-    ghost use Rattle.lab_places.specs.Places.{node_in, with_node, fresh_bench, arranged};
+    ghost use Rattle.lab_places.specs.Places.{fresh_bench};
 
     // Sixteen fresh nodes, and all maps zeroed.
     pub fn new(chunks: u64) -> Bench
         ensures { result ≡ fresh_bench chunks }
     {
+        let mut nodes = [StorageNode::fresh(0, chunks); 16];
+        renew(chunks, &mut nodes);
         Bench {
             own: [0; 8192],
-            nodes: fresh_nodes(chunks),
+            nodes,
             maps: [0; 131072],
             stagings: [0; 131072],
         }
     }
+}
 
-    // The node in place n; a fresh one of no chunks where there is no such place.
-    pub fn node_in(&self, n: u64) -> StorageNode
-        ensures { result ≡ node_in self.now n }
-    {
-        if 15 < n {
-            return StorageNode::fresh(0, 0);
-        }
-        self.nodes[n as usize]
+// The node in place n; a fresh one of no chunks where there is no such place.
+pub fn node_in(n: u64, nodes: &[StorageNode]) -> StorageNode
+    ensures { result ≡ node_in nodes.now n }
+{
+    let i = n as usize;
+    if nodes.len() <= i {
+        return StorageNode::fresh(0, 0);
     }
+    nodes[i]
+}
 
-    // A node in place n; nothing changes where there is no such place.
-    pub fn put(&mut self, n: u64, node: StorageNode)
-        ensures { self.new ≡ with_node self.old n node }
-    {
-        if n < 16 {
-            self.nodes[n as usize] = node;
-        }
+// A node in place n; nothing changes where there is no such place.
+pub fn put(n: u64, node: StorageNode, nodes: &mut [StorageNode])
+    ensures { nodes.new ≡ with_node nodes.old n node }
+{
+    let i = n as usize;
+    if i < nodes.len() {
+        nodes[i] = node;
     }
+}
 
-    // What a line that sets the lab up does to the nodes; the others leave them.
-    pub fn arrange(&mut self, c: Command)
-        ensures { self.new ≡ arranged self.old c }
-    {
-        match c {
-            Command::Pool(_, chunks) => self.nodes = fresh_nodes(chunks),
-            Command::PokeNode(n, s, st, cr, m, v, t) => {
-                self.put(n, poked(self.node_in(n), s, st, cr, m, v, t));
-            }
-            Command::PokeGot(n, got) => self.put(n, poked_got(self.node_in(n), got)),
-            Command::Summary(n, i, v) => self.put(n, poked_word(self.node_in(n), i, v)),
-            _ => {}
+// What a line that sets the lab up does to the nodes; the others leave them.
+pub fn arrange(c: Command, nodes: &mut [StorageNode])
+    ensures { nodes.new ≡ arranged nodes.old c }
+{
+    match c {
+        Command::Pool(_, chunks) => renew(chunks, nodes),
+        Command::PokeNode(n, s, st, cr, m, v, t) => {
+            put(n, poked(node_in(n, nodes), s, st, cr, m, v, t), nodes);
         }
+        Command::PokeGot(n, got) => put(n, poked_got(node_in(n, nodes), got), nodes),
+        Command::Summary(n, i, v) => put(n, poked_word(node_in(n, nodes), i, v), nodes),
+        _ => {}
     }
 }
 
 // A fresh node in each place.
-fn fresh_nodes(chunks: u64) -> [StorageNode; 16]
-    ensures { result ≡ Fresh·fresh_nodes chunks 16 }
+fn renew(chunks: u64, nodes: &mut [StorageNode])
+    ensures { nodes.new ≡ fresh_nodes chunks (length nodes.old) }
 {
-    let mut nodes = [StorageNode::fresh(0, chunks); 16];
-    for i in 0..16 {
+    for i in 0..nodes.len() {
         nodes[i] = StorageNode::fresh(i as u64, chunks);
     }
-    nodes
 }
 
 // A node's state put in, unchecked. Own id, chunk count and kept chunks stay.

@@ -1,6 +1,7 @@
 // A node's line after an accepted event, and the line of its further fields.
 ghost use Rattle.std.specs.Prelude.{◌≡◌};
 ghost use Rattle.text_bytes.specs.Ink.{emits};
+ghost use Rattle.text_bytes.specs.Pages.{page_ink, lender};
 ghost use Rattle.lab_say.specs.NodeLine.{state_text, transfer_number, kept_text, front_text, node_text, look_text};
 
 use crate::say::{put_pair, put_sign};
@@ -9,7 +10,8 @@ use rules_node::{Node, State};
 use text_bytes::page::Page;
 
 fn put_state(page: &mut Page, s: State)
-    ensures { page.new ≡ emits page.old (state_text s) }
+    ensures same_reference { lender page.new ≡ lender page.old }
+    ensures value { page_ink page.new ≡ emits (page_ink page.old) (state_text s) }
 {
     page.put_bytes(match s {
         State::Empty => b" state=EMPTY",
@@ -32,7 +34,8 @@ fn transfer_number(t: Option<u64>) -> u64
 
 // The kept chunks are the last ones; the first has no comma before it.
 fn put_kept(page: &mut Page, kept: [u64; 16], held: u64)
-    ensures { page.new ≡ emits page.old (kept_text kept held) }
+    ensures same_reference { lender page.new ≡ lender page.old }
+    ensures value { page_ink page.new ≡ emits (page_ink page.old) (kept_text kept held) }
 {
     let from = 16u64.saturating_sub(held) as usize;
     if from == 16 {
@@ -46,7 +49,8 @@ fn put_kept(page: &mut Page, kept: [u64; 16], held: u64)
 }
 
 fn put_front(page: &mut Page, n: Node)
-    ensures { page.new ≡ emits page.old (front_text n) }
+    ensures same_reference { lender page.new ≡ lender page.old }
+    ensures value { page_ink page.new ≡ emits (page_ink page.old) (front_text n) }
 {
     put_pair(page, b"ok node=", n.id);
     put_state(page, n.state);
@@ -56,7 +60,8 @@ fn put_front(page: &mut Page, n: Node)
 
 // The line of an accepted event, without its newline.
 pub fn put_node(page: &mut Page, n: Node)
-    ensures { page.new ≡ emits page.old (node_text n) }
+    ensures same_reference { lender page.new ≡ lender page.old }
+    ensures value { page_ink page.new ≡ emits (page_ink page.old) (node_text n) }
 {
     put_front(page, n);
     put_pair(page, b" members=", n.members);
@@ -68,7 +73,8 @@ pub fn put_node(page: &mut Page, n: Node)
 
 // The line of a node's further fields, without its newline.
 pub fn put_look(page: &mut Page, n: Node)
-    ensures { page.new ≡ emits page.old (look_text n) }
+    ensures same_reference { lender page.new ≡ lender page.old }
+    ensures value { page_ink page.new ≡ emits (page_ink page.old) (look_text n) }
 {
     put_pair(page, b"look got=", states::taken(n.transfer));
 }

@@ -3,6 +3,7 @@ ghost use Rattle.std.specs.Prelude.{◌≡◌, [], ◌∷◌, ◌++◌};
 ghost use Rattle.laws_words.specs.Words.{pick};
 ghost use Rattle.rules_base.specs.Sets.{has};
 ghost use Rattle.text_bytes.specs.Ink.{emits, decimal as Ink·decimal};
+ghost use Rattle.text_bytes.specs.Pages.{page_ink, lender};
 ghost use Rattle.lab_say.specs.Say.{paired, said, message_text, awaited_text, told_to, each, told_text};
 
 use map_numbers::sets::has;
@@ -13,7 +14,8 @@ use text_bytes::page::Page;
 // A byte and a number.
 #[tactic(auto, unfolding(text_bytes::specs::Ink::emits))]
 pub(crate) fn put_sign(page: &mut Page, sign: u8, n: u64)
-    ensures { page.new ≡ emits page.old (sign ∷ Ink·decimal n) }
+    ensures same_reference { lender page.new ≡ lender page.old }
+    ensures value { page_ink page.new ≡ emits (page_ink page.old) (sign ∷ Ink·decimal n) }
 {
     page.put(sign);
     page.put_number(n);
@@ -21,7 +23,8 @@ pub(crate) fn put_sign(page: &mut Page, sign: u8, n: u64)
 
 // A text and numbers, each after a space.
 pub fn put_numbers(page: &mut Page, s: &[u8], numbers: &[u64])
-    ensures { page.new ≡ emits page.old (said s.now numbers.now) }
+    ensures same_reference { lender page.new ≡ lender page.old }
+    ensures value { page_ink page.new ≡ emits (page_ink page.old) (said s.now numbers.now) }
 {
     page.put_bytes(s);
     for n in numbers {
@@ -31,14 +34,16 @@ pub fn put_numbers(page: &mut Page, s: &[u8], numbers: &[u64])
 
 // A text and a number, with nothing between.
 pub fn put_pair(page: &mut Page, s: &[u8], n: u64)
-    ensures { page.new ≡ emits page.old (paired s.now n) }
+    ensures same_reference { lender page.new ≡ lender page.old }
+    ensures value { page_ink page.new ≡ emits (page_ink page.old) (paired s.now n) }
 {
     page.put_bytes(s);
     page.put_number(n);
 }
 
 fn put_message(page: &mut Page, m: Message)
-    ensures { page.new ≡ emits page.old (message_text m) }
+    ensures same_reference { lender page.new ≡ lender page.old }
+    ensures value { page_ink page.new ≡ emits (page_ink page.old) (message_text m) }
 {
     match m {
         Message::Nothing => {}
@@ -67,7 +72,8 @@ fn put_message(page: &mut Page, m: Message)
 
 // The awaited message with its number; nothing where none is awaited.
 pub fn put_awaited(page: &mut Page, m: Message, number: u64)
-    ensures { page.new ≡ emits page.old (awaited_text m number) }
+    ensures same_reference { lender page.new ≡ lender page.old }
+    ensures value { page_ink page.new ≡ emits (page_ink page.old) (awaited_text m number) }
 {
     if client_state::state::is_nothing(m) {
         return;
@@ -78,7 +84,8 @@ pub fn put_awaited(page: &mut Page, m: Message, number: u64)
 
 // A text and numbers, where the set has i.
 fn put_in(page: &mut Page, set: u64, i: u64, s: &[u8], numbers: &[u64])
-    ensures { page.new ≡ emits page.old (pick (has set i) (said s.now numbers.now) []) }
+    ensures same_reference { lender page.new ≡ lender page.old }
+    ensures value { page_ink page.new ≡ emits (page_ink page.old) (pick (has set i) (said s.now numbers.now) []) }
 {
     if has(set, i) {
         put_numbers(page, s, numbers);
@@ -87,7 +94,8 @@ fn put_in(page: &mut Page, set: u64, i: u64, s: &[u8], numbers: &[u64])
 
 // The message to the id i, where one goes there; of Extended the fill.
 fn put_to(page: &mut Page, t: Told, i: u64)
-    ensures { page.new ≡ emits page.old (told_to t i) }
+    ensures same_reference { lender page.new ≡ lender page.old }
+    ensures value { page_ink page.new ≡ emits (page_ink page.old) (told_to t i) }
 {
     match t {
         Told::Nothing | Told::Disable(_) | Told::Off(_) => {}
@@ -114,7 +122,8 @@ fn put_to(page: &mut Page, t: Told, i: u64)
 }
 
 fn put_each(page: &mut Page, t: Told)
-    ensures { page.new ≡ emits page.old (each (told_to t) 16 0) }
+    ensures same_reference { lender page.new ≡ lender page.old }
+    ensures value { page_ink page.new ≡ emits (page_ink page.old) (each (told_to t) 16 0) }
 {
     for i in 0..16 {
         put_to(page, t, i);
@@ -123,7 +132,8 @@ fn put_each(page: &mut Page, t: Told)
 
 // The messages that are not awaited.
 pub fn put_told(page: &mut Page, t: Told)
-    ensures { page.new ≡ emits page.old (told_text t) }
+    ensures same_reference { lender page.new ≡ lender page.old }
+    ensures value { page_ink page.new ≡ emits (page_ink page.old) (told_text t) }
 {
     match t {
         Told::Disable(to) => put_numbers(page, b" | MAP_DISABLE", &[to]),

@@ -3,6 +3,7 @@
 
 ghost use Rattle.std.specs.Prelude.{◌≡◌, map};
 ghost use Rattle.text_bytes.specs.Ink.{emits};
+ghost use Rattle.text_bytes.specs.Pages.{page_ink, lender};
 ghost use Rattle.lab_say_client.specs.Client.{letter, phase_text, job_text, outcome_text, roster_text, flags_text, client_text, past_text, check_text, causes_text, look_text};
 
 use client_state::roster::ids;
@@ -26,7 +27,8 @@ fn letter_of(s: Session) -> u8
 }
 
 fn put_letters(page: &mut Page, ss: [Session; 16])
-    ensures { page.new ≡ emits page.old (map letter ss) }
+    ensures same_reference { lender page.new ≡ lender page.old }
+    ensures value { page_ink page.new ≡ emits (page_ink page.old) (map letter ss) }
 {
     for s in &ss {
         page.put(letter_of(*s));
@@ -34,7 +36,8 @@ fn put_letters(page: &mut Page, ss: [Session; 16])
 }
 
 fn put_phase(page: &mut Page, p: Phase)
-    ensures { page.new ≡ emits page.old (phase_text p) }
+    ensures same_reference { lender page.new ≡ lender page.old }
+    ensures value { page_ink page.new ≡ emits (page_ink page.old) (phase_text p) }
 {
     page.put_bytes(match p {
         Phase::Versions(_) => b" job=run:versions",
@@ -47,7 +50,8 @@ fn put_phase(page: &mut Page, p: Phase)
 }
 
 fn put_job(page: &mut Page, j: Job)
-    ensures { page.new ≡ emits page.old (job_text j) }
+    ensures same_reference { lender page.new ≡ lender page.old }
+    ensures value { page_ink page.new ≡ emits (page_ink page.old) (job_text j) }
 {
     match j {
         Job::Idle => page.put_bytes(b" job=none"),
@@ -57,7 +61,8 @@ fn put_job(page: &mut Page, j: Job)
 }
 
 fn put_outcome(page: &mut Page, o: Outcome)
-    ensures { page.new ≡ emits page.old (outcome_text o) }
+    ensures same_reference { lender page.new ≡ lender page.old }
+    ensures value { page_ink page.new ≡ emits (page_ink page.old) (outcome_text o) }
 {
     match o {
         Outcome::Plain => {}
@@ -71,7 +76,8 @@ fn put_outcome(page: &mut Page, o: Outcome)
 }
 
 fn put_roster(page: &mut Page, ro: Roster)
-    ensures { page.new ≡ emits page.old (roster_text ro) }
+    ensures same_reference { lender page.new ≡ lender page.old }
+    ensures value { page_ink page.new ≡ emits (page_ink page.old) (roster_text ro) }
 {
     put_pair(page, b"ok version=", ro.version);
     put_pair(page, b" count=", ro.count);
@@ -81,7 +87,8 @@ fn put_roster(page: &mut Page, ro: Roster)
 }
 
 fn put_flags(page: &mut Page, ro: Roster)
-    ensures { page.new ≡ emits page.old (flags_text ro) }
+    ensures same_reference { lender page.new ≡ lender page.old }
+    ensures value { page_ink page.new ≡ emits (page_ink page.old) (flags_text ro) }
 {
     put_pair(page, b" maint=", ids(Kind::Maintained, ro));
     put_pair(page, b" marked=", ids(Kind::Marked, ro));
@@ -91,7 +98,8 @@ fn put_flags(page: &mut Page, ro: Roster)
 
 // The line of an accepted event, without its newline.
 pub fn put_client(page: &mut Page, p: Pool, sent: Sent)
-    ensures { page.new ≡ emits page.old (client_text p sent) }
+    ensures same_reference { lender page.new ≡ lender page.old }
+    ensures value { page_ink page.new ≡ emits (page_ink page.old) (client_text p sent) }
 {
     put_roster(page, p.roster);
     put_flags(page, p.roster);
@@ -102,14 +110,16 @@ pub fn put_client(page: &mut Page, p: Pool, sent: Sent)
 }
 
 fn put_past(page: &mut Page, past: Past)
-    ensures { page.new ≡ emits page.old (past_text past) }
+    ensures same_reference { lender page.new ≡ lender page.old }
+    ensures value { page_ink page.new ≡ emits (page_ink page.old) (past_text past) }
 {
     put_pair(page, b"look written=", u64::from(past.written));
     put_pair(page, b" assembled=", u64::from(past.assembled));
 }
 
 fn put_check(page: &mut Page, k: Check)
-    ensures { page.new ≡ emits page.old (check_text k) }
+    ensures same_reference { lender page.new ≡ lender page.old }
+    ensures value { page_ink page.new ≡ emits (page_ink page.old) (check_text k) }
 {
     put_pair(page, b" tick=", u64::from(k.tick));
     put_pair(page, b" due=", u64::from(k.due));
@@ -117,7 +127,8 @@ fn put_check(page: &mut Page, k: Check)
 }
 
 fn put_causes(page: &mut Page, ro: Roster)
-    ensures { page.new ≡ emits page.old (causes_text ro) }
+    ensures same_reference { lender page.new ≡ lender page.old }
+    ensures value { page_ink page.new ≡ emits (page_ink page.old) (causes_text ro) }
 {
     put_pair(page, b" link=", ids(Kind::Link, ro));
     put_pair(page, b" io=", ids(Kind::Io, ro));
@@ -125,7 +136,8 @@ fn put_causes(page: &mut Page, ro: Roster)
 
 // The line of the further fields, without its newline.
 pub fn put_look(page: &mut Page, p: Pool, k: Check)
-    ensures { page.new ≡ emits page.old (look_text p k) }
+    ensures same_reference { lender page.new ≡ lender page.old }
+    ensures value { page_ink page.new ≡ emits (page_ink page.old) (look_text p k) }
 {
     put_past(page, p.roster.past);
     put_check(page, k);

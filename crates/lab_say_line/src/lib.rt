@@ -3,6 +3,7 @@
 
 ghost use Rattle.std.specs.Prelude.{◌≡◌};
 ghost use Rattle.text_bytes.specs.Ink.{emits};
+ghost use Rattle.text_bytes.specs.Pages.{page_ink, lender};
 ghost use Rattle.lab_say_line.specs.Lines.{asked_text, found_text, next_text, line_in, row_of, row_in};
 
 use audit_record::records::Record;
@@ -37,7 +38,8 @@ pub enum Said {
 
 // The line: p and k are the client's state after the command, n the state of the node that it went to. A row is written by put_row.
 pub fn put_line(page: &mut Page, s: Said, p: Pool, k: Check, n: Node)
-    ensures { page.new ≡ line_in page.old s p k n }
+    ensures same_reference { lender page.new ≡ lender page.old }
+    ensures value { page_ink page.new ≡ line_in (page_ink page.old) s p k n }
 {
     match s {
         Said::Nothing => return,
@@ -58,7 +60,8 @@ pub fn put_line(page: &mut Page, s: Said, p: Pool, k: Check, n: Node)
 }
 
 fn put_asked(page: &mut Page, n: Node, empty: bool)
-    ensures { page.new ≡ emits page.old (asked_text n empty) }
+    ensures same_reference { lender page.new ≡ lender page.old }
+    ensures value { page_ink page.new ≡ emits (page_ink page.old) (asked_text n empty) }
 {
     put_node(page, n);
     put_pair(page, b" empty=", u64::from(empty));
@@ -66,7 +69,8 @@ fn put_asked(page: &mut Page, n: Node, empty: bool)
 
 #[tactic(auto, unfolding(crate::specs::Lines::found_text))]
 fn put_found(page: &mut Page, f: Option<u64>)
-    ensures { page.new ≡ emits page.old (found_text f) }
+    ensures same_reference { lender page.new ≡ lender page.old }
+    ensures value { page_ink page.new ≡ emits (page_ink page.old) (found_text f) }
 {
     match f {
         Some(c) => put_pair(page, b" next=", c),
@@ -75,7 +79,8 @@ fn put_found(page: &mut Page, f: Option<u64>)
 }
 
 fn put_next(page: &mut Page, n: Node, f: Option<u64>)
-    ensures { page.new ≡ emits page.old (next_text n f) }
+    ensures same_reference { lender page.new ≡ lender page.old }
+    ensures value { page_ink page.new ≡ emits (page_ink page.old) (next_text n f) }
 {
     put_node(page, n);
     put_found(page, f);
@@ -83,7 +88,8 @@ fn put_next(page: &mut Page, n: Node, f: Option<u64>)
 
 // The line of member m's row in one of the maps; own is the client's, maps and stagings hold those of the nodes.
 pub fn put_row(page: &mut Page, w: Which, m: u64, own: &[u8], maps: &[u8], stagings: &[u8])
-    ensures { page.new ≡ row_in page.old w m own.now maps.now stagings.now }
+    ensures same_reference { lender page.new ≡ lender page.old }
+    ensures value { page_ink page.new ≡ row_in (page_ink page.old) w m own.now maps.now stagings.now }
 {
     match w {
         Which::Client => row_line(page, own, 0, m),
@@ -94,7 +100,8 @@ pub fn put_row(page: &mut Page, w: Which, m: u64, own: &[u8], maps: &[u8], stagi
 
 // The row of member m in the nth map of all.
 fn row_line(page: &mut Page, all: &[u8], n: u64, m: u64)
-    ensures { page.new ≡ row_of page.old all.now n m }
+    ensures same_reference { lender page.new ≡ lender page.old }
+    ensures value { page_ink page.new ≡ row_of (page_ink page.old) all.now n m }
 {
     if 15 < n {
         return;

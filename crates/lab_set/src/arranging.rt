@@ -1,27 +1,31 @@
 // The maps, where a line sets them up.
 ghost use Rattle.std.specs.Prelude.{◌≡◌};
-ghost use Rattle.lab_set.specs.Arranging.{with_byte, cleared, stored};
+ghost use Rattle.rules_base.specs.Map.{zeroed};
+ghost use Rattle.lab_set.specs.Arranging.{with_byte, in_own, in_maps, in_stagings};
 
 use lab_form::Which;
-use lab_places::Bench;
 
 // All of them zeroed.
-pub fn zero_all(bench: &mut Bench)
-    ensures { bench.new ≡ cleared bench.old }
+pub fn zero_all(own: &mut [u8], maps: &mut [u8], stagings: &mut [u8])
+    ensures own_after { own.new ≡ zeroed own.old }
+    ensures maps_after { maps.new ≡ zeroed maps.old }
+    ensures stagings_after { stagings.new ≡ zeroed stagings.old }
 {
-    map_whole::maps::zero(&mut bench.own);
-    map_whole::maps::zero(&mut bench.maps);
-    map_whole::maps::zero(&mut bench.stagings);
+    map_whole::maps::zero(own);
+    map_whole::maps::zero(maps);
+    map_whole::maps::zero(stagings);
 }
 
-// The byte v at i of one of them.
-pub fn store(w: Which, i: u64, v: u64, bench: &mut Bench)
-    ensures { bench.new ≡ stored w i v bench.old }
+// The byte v at i of one of them; own is the client's, maps and stagings hold those of the nodes.
+pub fn store(w: Which, i: u64, v: u64, own: &mut [u8], maps: &mut [u8], stagings: &mut [u8])
+    ensures own_after { own.new ≡ in_own w i v own.old }
+    ensures maps_after { maps.new ≡ in_maps w i v maps.old }
+    ensures stagings_after { stagings.new ≡ in_stagings w i v stagings.old }
 {
     match w {
-        Which::Client => put(&mut bench.own, 0, i, v),
-        Which::Node(n) => put(&mut bench.maps, n, i, v),
-        Which::Staging(n) => put(&mut bench.stagings, n, i, v),
+        Which::Client => put(own, 0, i, v),
+        Which::Node(n) => put(maps, n, i, v),
+        Which::Staging(n) => put(stagings, n, i, v),
     }
 }
 

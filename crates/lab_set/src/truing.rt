@@ -2,8 +2,8 @@
 ghost use Rattle.std.specs.Prelude.{◌≡◌};
 ghost use Rattle.lab_set.specs.Truing.{row_trued, trued};
 
-use lab_places::Bench;
 use map_summary::summaries::Summaries;
+use node::StorageNode;
 
 fn row_trued(m: u64, mut words: Summaries, map: &[u8]) -> Summaries
     ensures { result ≡ row_trued m map.now words }
@@ -17,12 +17,12 @@ fn row_trued(m: u64, mut words: Summaries, map: &[u8]) -> Summaries
     words
 }
 
-// Member m's six words at node n made true of its map.
-pub fn true_row(n: u64, m: u64, bench: &mut Bench)
-    ensures { bench.new ≡ trued bench.old n m }
+// Member m's six words at node n made true of its map, however much of that is lent.
+pub fn true_row(n: u64, m: u64, nodes: &mut [StorageNode], maps: &[u8])
+    ensures { nodes.new ≡ trued nodes.old n m maps.now }
 {
-    let s = event_ask::lending::find(bench.maps.len(), n, map_numbers::refusals::MAP_BYTES);
-    let mut node = bench.node_in(n);
-    node.summaries = row_trued(m, node.summaries, &bench.maps[s.from..s.to]);
-    bench.put(n, node)
+    let s = event_ask::lending::find(maps.len(), n, map_numbers::refusals::MAP_BYTES);
+    let mut node = lab_places::node_in(n, nodes);
+    node.summaries = row_trued(m, node.summaries, &maps[s.from..s.to]);
+    lab_places::put(n, node, nodes)
 }

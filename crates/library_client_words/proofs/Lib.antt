@@ -1,3 +1,3 @@
 pub mod ClientInverse
-mod Mapped
+mod Fills
 pub mod PoolInverse

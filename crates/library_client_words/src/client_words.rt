@@ -15,8 +15,8 @@ pub fn pack(c: Client) -> [u64; 32]
     let roster = c.pool.roster;
     let past = roster.past;
     let [tag, data, source, left, taken] = crate::pool_words::job_words(c.pool.job);
-    let mut ws = [0; 32];
-    ws[..16].copy_from_slice(&[
+    // The sessions' words come after the others; the others copied in from a list of their own would cost the time of packing once more.
+    let mut ws = [
         roster.count,
         roster.version,
         roster.members,
@@ -33,13 +33,29 @@ pub fn pack(c: Client) -> [u64; 32]
         u64::from(c.check.tick),
         u64::from(c.check.due),
         u64::from(c.check.once),
-    ]);
+        0,
+        0,
+        0,
+        0,
+        0,
+        0,
+        0,
+        0,
+        0,
+        0,
+        0,
+        0,
+        0,
+        0,
+        0,
+        0,
+    ];
     ws[16..].copy_from_slice(&crate::pool_words::session_words(roster.sessions));
     ws
 }
 
-// Any 32 words give a client.
-fn unpack(ws: [u64; 32]) -> Client
+// Any 32 words give a client, those too that no client is packed to.
+pub fn unpack(ws: [u64; 32]) -> Client
     ensures { result ≡ unpacked ws }
 {
     let mut sessions = [0; 16];

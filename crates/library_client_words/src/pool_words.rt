@@ -57,13 +57,22 @@ fn session_in(w: u64) -> Session
 pub fn session_words(ss: [Session; 16]) -> [u64; 16]
     ensures { result ≡ map session_word ss }
 {
-    ss.map(session_word)
+    // Here and in sessions_in the place and no `map`: with it a client took nearly twice the time to pack, and half more to read.
+    let mut ws = [0; 16];
+    for i in 0..16 {
+        ws[i] = session_word(ss[i]);
+    }
+    ws
 }
 
 pub fn sessions_in(ws: [u64; 16]) -> [Session; 16]
     ensures { result ≡ map session_in ws }
 {
-    ws.map(session_in)
+    let mut ss = [client_state::state::new(State::Free); 16];
+    for i in 0..16 {
+        ss[i] = session_in(ws[i]);
+    }
+    ss
 }
 
 fn step_word(s: Step) -> u64

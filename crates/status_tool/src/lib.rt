@@ -3,7 +3,8 @@
 #![tactic(auto)]
 
 ghost use Rattle.std.specs.Prelude.{◌≡◌, ◌≤◌, length};
-ghost use Rattle.text_bytes.specs.Ink.{emits_all};
+ghost use Rattle.text_bytes.specs.Ink.{ink, emits_all};
+ghost use Rattle.text_bytes.specs.Pages.{page_ink, lender};
 ghost use Rattle.status_tool.specs.Lines.{refused_line};
 
 use status_row::descriptors::Volume;
@@ -172,14 +173,26 @@ fn give(rt: &impl Print, errors: &impl Print, k: usize, bytes: &[u8]) {
 // Writes a refusal's line, which is never longer than 29 bytes, to standard error.
 fn say_refused(errors: &impl Print, number: u64) {
     let mut line = [0u8; 32];
-    let mut page = Page::new(&mut line, 0);
+    let n = refused_line(number, &mut line);
+    if line.len() < n {
+        return;
+    }
+    let _ = errors.write_all(&line[..n]);
+}
+
+// Puts a refusal's line at the start of out, and says how long it is.
+fn refused_line(number: u64, out: &mut [u8]) -> usize
+    ensures { ink out.new result ≡ emits_all (ink out.old 0) (refused_line number) }
+{
+    let mut page = Page::new(out, 0);
     put_refused(&mut page, number);
-    let _ = errors.write_all(page.text());
+    page.at()
 }
 
 #[tactic(auto, unfolding(crate::specs::Lines::refused_line))]
 fn put_refused(page: &mut Page, number: u64)
-    ensures { page.new ≡ emits_all page.old (refused_line number) }
+    ensures same_reference { lender page.new ≡ lender page.old }
+    ensures value { page_ink page.new ≡ emits_all (page_ink page.old) (refused_line number) }
 {
     page.put_bytes(b"refused ");
     page.put_number(number);

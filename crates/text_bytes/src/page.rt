@@ -1,8 +1,8 @@
-// A page: a lent buffer, and the place of the next byte. A clause sees both as `Ink`.
+// A page: a lent buffer, and the place of the next byte. A clause sees both as `Ink`, and the name of the reference that the page holds: whoever lent the
+// buffer knows by it that what the page holds at the end stands there.
 ghost use Rattle.std.specs.Prelude.{◌≡◌, take};
 ghost use Rattle.text_bytes.specs.Ink.{ink, emit, emits, decimal};
-
-use std::marker::Model;
+ghost use Rattle.text_bytes.specs.Pages.{page_ink, lender};
 
 #[derive(Drop)]
 pub struct Page<'a> {
@@ -10,18 +10,11 @@ pub struct Page<'a> {
     at: usize,
 }
 
-impl<'a> Model for Page<'a> {
-    ghost use Rattle.text_bytes.specs.Ink.{Ink, ink};
-
-    ghost Value = { Ink };
-
-    ghost view = { λ p. ink p.out.now p.at };
-}
-
 impl<'a> Page<'a> {
     // The next byte goes to the place `at`.
     pub fn new(out: &'a mut [u8], at: usize) -> Page<'a>
-        ensures { result ≡ ink out.old at }
+        ensures same_reference { lender result ≡ out.entry.ghost_name }
+        ensures value { page_ink result ≡ ink out.old at }
     {
         Page { out, at }
     }
@@ -29,7 +22,8 @@ impl<'a> Page<'a> {
     // A byte. Where there is no room, nothing is put.
     #[tactic(auto, unfolding(crate::specs::Ink::emit))]
     pub fn put(&mut self, b: u8)
-        ensures { self.new ≡ emit self.old b }
+        ensures same_reference { lender self.new ≡ lender self.old }
+        ensures value { page_ink self.new ≡ emit (page_ink self.old) b }
     {
         if self.at < self.out.len() {
             self.out[self.at] = b;
@@ -38,7 +32,8 @@ impl<'a> Page<'a> {
     }
 
     pub fn put_bytes(&mut self, s: &[u8])
-        ensures { self.new ≡ emits self.old s.now }
+        ensures same_reference { lender self.new ≡ lender self.old }
+        ensures value { page_ink self.new ≡ emits (page_ink self.old) s.now }
     {
         for b in s {
             self.put(*b);
@@ -46,7 +41,8 @@ impl<'a> Page<'a> {
     }
 
     pub fn put_number(&mut self, n: u64)
-        ensures { self.new ≡ emits self.old (decimal n) }
+        ensures same_reference { lender self.new ≡ lender self.old }
+        ensures value { page_ink self.new ≡ emits (page_ink self.old) (decimal n) }
     {
         let mut d = [0u8; 20];
         let k = io::decimal(n, &mut d);
@@ -55,14 +51,14 @@ impl<'a> Page<'a> {
 
     // The place of the next byte.
     pub fn at(&self) -> usize
-        ensures { result ≡ self.now.at }
+        ensures { result ≡ (page_ink self.now).at }
     {
         self.at
     }
 
     // What stands in front of that place: the whole buffer where the place is behind its end.
     pub fn text(&self) -> &[u8]
-        ensures { result.now ≡ take self.now.at self.now.buf }
+        ensures { result.now ≡ take (page_ink self.now).at (page_ink self.now).buf }
     {
         &self.out[..self.at.min(self.out.len())]
     }

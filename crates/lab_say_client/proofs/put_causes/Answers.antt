@@ -4,6 +4,6 @@ use Rattle.text_bytes.proofs.Laws.{emits-parts, emits_then}
 use mathlib.Core.Path.{ap, refl}
 use Rattle.lab_say_client.proofs.put_causes.Goals as goal
 
-pub returns : goal.returns
+pub returns-clause-value : goal.returns-clause-value
 unfolding causes_text
-returns c = emits-parts _ _ (emits_then (emits_then refl (ap (paired _) c.ids.ensures) c.put_pair.ensures) (ap (paired _) c.ids-2.ensures) c.put_pair-2.ensures)
+returns-clause-value c = emits-parts _ _ (emits_then (emits_then refl (ap (paired _) c.ids.ensures) c.put_pair.ensures.value) (ap (paired _) c.ids-2.ensures) c.put_pair-2.ensures.value)

@@ -2,6 +2,6 @@ use Rattle.lab_say_client.specs.Client.{roster_text}
 use Rattle.text_bytes.proofs.Laws.{emits-parts}
 use Rattle.lab_say_client.proofs.put_roster.Goals as goal
 
-pub returns : goal.returns
+pub returns-clause-value : goal.returns-clause-value
 unfolding roster_text
-returns c = emits-parts _ _ cc
+returns-clause-value c = emits-parts _ _ cc

@@ -2,6 +2,10 @@ use Rattle.std.proofs.Common.{rules}
 use Rattle.audit_record.specs.Records.{same_record}
 use Rattle.audit_replay.proofs.auditing.judge.Goals as goal
 
-pub returns : goal.returns
+pub returns-then-eq : goal.returns-then-eq
 unfolding same_record
-returns c = search rules
+returns-then-eq c = search rules
+
+pub returns-else-eq : goal.returns-else-eq
+unfolding same_record
+returns-else-eq c = search rules

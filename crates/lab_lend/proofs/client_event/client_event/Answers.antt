@@ -1,4 +1,4 @@
-use Rattle.std.proofs.Common.{refl, arith, [], ◌≡◌, ◌-◌, length, take, drop}
+use Rattle.std.proofs.Common.{refl, [], ◌≡◌, ◌-◌, take, drop}
 use Rattle.event_ask.proofs.Parts.{part-is}
 use Rattle.lab_lend.specs.Client.{lender, read_of}
 use Rattle.lab_lend.proofs.ClientLent.{lent-meets}
@@ -7,20 +7,18 @@ use Rattle.lab_lend.proofs.client_event.client_event.Goals as goal
 pub returns-in-None : goal.returns-in-None
 returns-in-None c =
     let a = c.args in
-    let b = a.bench.now in
-    let all : length b.own ≡ 8192 = omega arith in
-    let read : [] ≡ read_of a.lent (lender a.e) b.maps = rw (← c.read_from.ensures, c.in-None.is) refl in
-    let w = lent-meets a.lent a.e b (rw (← all, c.cut.ensures) at c.find-s.ensures) read c.call.ensures.meets c.call.ensures.own_after in
-    record { value = w.0; own_after = rw w.1 refl }
+    let xs = a.maps.now in
+    let read : [] ≡ read_of a.lent (lender a.e) xs = rw (← c.read_from.ensures, c.in-None.is) refl in
+    let w = lent-meets a.lent a.e a.own.now xs (rw c.cut.ensures at c.find-s.ensures) read c.call.ensures.meets c.call.ensures.own_after in
+    record { value = w.0; own_after = w.1 }
 
 pub returns-in-Some : goal.returns-in-Some
 returns-in-Some c =
     let a = c.args in
-    let b = a.bench.now in
+    let xs = a.maps.now in
     let t = c.find-t.result in
-    let all : length b.own ≡ 8192 = omega arith in
-    let read : take (t.to - t.from) (drop t.from b.maps) ≡ read_of a.lent (lender a.e) b.maps =
-    rw (← c.read_from.ensures, c.in-Some.is, ← c.size.ensures) (part-is b.maps c.find-t.ensures)
+    let read : take (t.to - t.from) (drop t.from xs) ≡ read_of a.lent (lender a.e) xs =
+    rw (← c.read_from.ensures, c.in-Some.is, ← c.size.ensures) (part-is xs c.find-t.ensures)
     in
-    let w = lent-meets a.lent a.e b (rw (← all, c.cut.ensures) at c.find-s.ensures) read c.call-in-Some.ensures.meets c.call-in-Some.ensures.own_after in
-    record { value = w.0; own_after = rw w.1 refl }
+    let w = lent-meets a.lent a.e a.own.now xs (rw c.cut.ensures at c.find-s.ensures) read c.call-in-Some.ensures.meets c.call-in-Some.ensures.own_after in
+    record { value = w.0; own_after = w.1 }

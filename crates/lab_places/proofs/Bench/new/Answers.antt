@@ -2,4 +2,4 @@ use Rattle.std.proofs.Common.{refl}
 use Rattle.lab_places.proofs.Bench.new.Goals as goal
 
 pub returns : goal.returns
-returns c = rw c.fresh_nodes.ensures refl
+returns c = rw c.renew.ensures refl

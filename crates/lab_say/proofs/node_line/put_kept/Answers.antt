@@ -7,17 +7,17 @@ use Rattle.lab_say.proofs.NodeLineLaws.{commas-more, commas-end, kept-rest, chun
 use Rattle.text_bytes.proofs.Laws.{emits-parts, emits_then, rest_more, rest-done}
 use Rattle.lab_say.proofs.node_line.put_kept.Goals as goal
 
-pub returns-then-from-eq16 : goal.returns-then-from-eq16
+pub returns-then-from-eq16-clause-value : goal.returns-then-from-eq16-clause-value
 unfolding kept_text
-returns-then-from-eq16 c = let i = c.saturating_sub-from.result in
-    rw (← c.saturating_sub-from.ensures, chunks-none c.args.kept i (omega arith)) c.put_bytes.ensures
+returns-then-from-eq16-clause-value c = let i = c.saturating_sub-from.result in
+    rw (← c.saturating_sub-from.ensures, chunks-none c.args.kept i (omega arith)) c.put_bytes.ensures.value
 
 pub loop-n-preserved : goal.loop-n-preserved
-loop-n-preserved c = rest_more _ c.loop-n.invariant (search rules) (commas-more _ _ _ c.put_sign.ensures)
+loop-n-preserved c = (c.put_sign.ensures.same_reference ∙ c.loop-n.invariant.0, rest_more _ c.loop-n.invariant.1 (search rules) (commas-more _ _ _ c.put_sign.ensures.value))
 
-pub returns : goal.returns
+pub returns-clause-value : goal.returns-clause-value
 unfolding kept_text
-returns c = let i = c.saturating_sub-from.result in
-    let e = sym (commas-end _) ∙ rest-done c.loop-n.invariant (search rules) in
+returns-clause-value c = let i = c.saturating_sub-from.result in
+    let e = sym (commas-end _) ∙ rest-done c.loop-n.invariant.1 (search rules) in
     rw (← c.saturating_sub-from.ensures, chunks-some c.args.kept i (omega arith))
-    (emits-parts _ _ (emits_then c.put_number.ensures (ap commas (kept-rest c.args.kept (i + 1) (search rules))) e))
+    (emits-parts _ _ (emits_then c.put_number.ensures.value (ap commas (kept-rest c.args.kept (i + 1) (search rules))) e))

@@ -2,5 +2,5 @@ use mathlib.Core.Path.{sym}
 use Rattle.text_bytes.proofs.Laws.{emits-end}
 use Rattle.lab_say.proofs.say.put_in.Goals as goal
 
-pub returns-else-has : goal.returns-else-has
-returns-else-has c = rw (← c.has.ensures, c.if-has.false) (sym (emits-end _))
+pub returns-else-has-clause-value : goal.returns-else-has-clause-value
+returns-else-has-clause-value c = rw (← c.has.ensures, c.if-has.false) (sym (emits-end _))

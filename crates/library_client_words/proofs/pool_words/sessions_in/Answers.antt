@@ -1,8 +1,13 @@
-use Rattle.std.proofs.Common.{rules}
-use Rattle.library_client_words.specs.PoolWords.{session_in}
-use Rattle.library_client_words.proofs.Mapped.{mapped}
+use Rattle.std.proofs.Common.{rules, refl}
+use Rattle.rules_pool.specs.Session.{free}
+use Rattle.library_client_words.proofs.Fills.{fills-start, fills-more, fills-done}
 use Rattle.library_client_words.proofs.pool_words.sessions_in.Goals as goal
 
+pub loop-i-init : goal.loop-i-init
+loop-i-init c = fills-start (search rules) refl
+
+pub loop-i-preserved : goal.loop-i-preserved
+loop-i-preserved c = fills-more 0 free c.loop-i.invariant (search rules) c.session_in.ensures
+
 pub returns : goal.returns
-returns c =
-    let all = c.map.ensures.items in mapped session_in c.args.ws _ 0 (search rules) all.long (λ k e h. let a = (all.at k 0 e h).2 in search rules)
+returns c = fills-done c.loop-i.invariant (search rules)
