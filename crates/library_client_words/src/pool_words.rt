@@ -57,7 +57,7 @@ fn session_in(w: u64) -> Session
 pub fn session_words(ss: [Session; 16]) -> [u64; 16]
     ensures { result ≡ map session_word ss }
 {
-    // Here and in sessions_in the place and no `map`: with it a client took nearly twice the time to pack, and half more to read.
+    // Here and in sessions_in the place and no `map`: with it here a client takes 1.6 times as long to pack, with it there a quarter more time to read.
     let mut ws = [0; 16];
     for i in 0..16 {
         ws[i] = session_word(ss[i]);
