@@ -28,8 +28,8 @@ fn groups(map: &[u8], m: u64, k: u64) -> u64
 {
     let from = (512 * m + 128 * k) as usize;
     let within = from + 128 <= map.len();
-    // The highest digit first, the others moved up by one place at each turn. A node's event spends most of its time here: with `1u64 << i` put in where a pair is not zero it took 1.7 times
-    // as long, and with 2^i kept from turn to turn up to a third more.
+    // The highest digit first, the others moved up by one place at each turn. A node's event spends most of its time here: with `1u64 << i` put in where a pair is not zero it took up to
+    // 1.7 times as long, with 2^i kept from turn to turn up to 1.4 times.
     let mut got: u64 = 0;
     for i in (0..64).rev() {
         got = 2 * got + u64::from(pair(map, within, from + 2 * i) != 0);
