@@ -44,7 +44,7 @@ pub bits_whole : (t : ℕ → Bool) (i got : ℕ) → i ≡ 0 → got ≡ bits (
 bits_whole t i got h e = (rw h at e) ∙ bits-like (λ j. t (0 + j)) t 64 (λ k b. ap t (omega arith))
 
 -- no more than 63 digits, so that there is room for one more
-pub bits-room : (t : ℕ → Bool) (i got : ℕ) → 0 < i → got ≡ bits t (64 - i) → got < 2 ^ 63
-bits-room t i got h e =
+pub bits_room : (t : ℕ → Bool) (i got : ℕ) → 0 < i → got ≡ bits t (64 - i) → got < 2 ^ 63
+bits_room t i got h e =
     let p : 2 ^ (64 - i) ≤ 2 ^ 63 = pow-le-pow_right {n = 2} (omega arith) {i = 64 - i} {j = 63} (omega arith) in
     omega (arith, e, bits-lt t (64 - i))

@@ -22,6 +22,7 @@ fn pair(map: &[u8], within: bool, a: usize) -> u8
 }
 
 // Word k of member m's groups: 64 of them, two bytes of the row each. This alone reads the map.
+#[tactic(auto, unfolding(rules_base::specs::Summary::word), using(crate::proofs::Digits::bits_room, crate::proofs::Digits::bits_whole))]
 fn groups(map: &[u8], m: u64, k: u64) -> u64
     requires { (m < 16) × (k < 4) }
     ensures { result ≡ word map.now m 1 (64 * k) 64 }
