@@ -1,4 +1,4 @@
--- What std's fill leaves, in the words of the maps' definitions. Assumes nothing.
+-- What std's fill and copy_from_slice leave, in the words of the maps' definitions. Assumes nothing.
 use mathlib.Core.Path.{◌≡◌, sym, ◌∙◌}
 use mathlib.Core.List.{List, ◌++◌}
 use Prim.Native.Nat.{ℕ, ◌+◌, ◌-◌, ◌≤◌, ◌<◌, min}
@@ -10,7 +10,7 @@ use Rattle.std.proofs.lemmas.List.{get_or-take, get_or-drop}
 use Rattle.std.proofs.lemmas.Slice.{put_mid-paste}
 use Rattle.std.proofs.lemmas.List.Edits.{paste_all}
 use borrow.Rule.Slice.PartMut.{put_mid}
-use Rattle.rules_base.specs.Map.{replaced, zero_from, zeroed}
+use Rattle.rules_base.specs.Map.{replaced, zero_from, zeroed, copied}
 use Rattle.rules_base.proofs.Over.{over-in, over-past, in-low, get_d_over, length_over}
 
 pub filled : (xs : List ℕ) → replicate (length xs) 0 ≡ zeroed xs
@@ -20,6 +20,19 @@ filled xs =
     ext_get_or 0 (replicate (length xs) 0) (replaced 0 (length xs) z xs) (simp (length-replicate, length_over)) (λ k b.
     let l : k < length xs = rw length-replicate at b in
     get_or-replicate (length xs) k 0 0 l ∙ sym (over-in 0 (length xs) z xs k l (omega arith) l))
+
+pub overwritten : (xs ys : List ℕ) (n : ℕ) → n ≡ min (length xs) (length ys) → take n ys ++ drop n xs ≡ copied xs ys
+unfolding copied
+overwritten xs ys n e =
+    let f : ℕ → ℕ → ℕ = λ k x. get_or ys k 0 in
+    let t : length (take n ys) ≡ n = length-take n ys ∙ omega arith in
+    let long : length (take n ys ++ drop n xs) ≡ length xs = simp (length-append, length-drop, t) (omega arith) in
+    rw (← e) (ext_get_or 0 (take n ys ++ drop n xs) (replaced 0 n f xs) (long ∙ sym (length_over 0 n f xs)) (λ k b.
+    let l : k < length xs = rw long at b in
+    elim (dec_lt k n) [
+      | yes h ↦ get_or-append (take n ys) (drop n xs) 0 k (omega arith) ∙ (get_or-take n ys k 0 h ∙ sym (over-in 0 n f xs k l (omega arith) h))
+      | no g ↦ get_or-append_right (take n ys) (drop n xs) k 0 (omega arith) ∙ (get_or-drop n xs (k - length (take n ys)) 0 ∙ (let q : n + (k - length (take n ys)) ≡ k = omega arith in rw q (sym (over-past 0 n f xs k l (omega arith)))))
+    ]))
 
 -- zeroes put in the place of the bytes from a up to e, as far as the map goes
 pub blanked : (a e p q m : ℕ) (xs ys : List ℕ) → a ≤ e → p ≡ min a (length xs) → q ≡ min e (length xs) → m ≡ q - p → ys ≡ replicate m 0 → put_mid p (q - p) xs ys ≡ zero_from a e xs
